@@ -1,12 +1,11 @@
 -- Laws of bounds and ranges.
-use Rattle.std.proofs.Common.{◌≡◌, ℕ, true, false, List, [], ◌∷◌, ◌++◌, Option, Some, None, refl, ap, subst, ◌∙◌, Ordering, Less, Equal, Greater}
+use Rattle.std.proofs.Common.{◌≡◌, ℕ, true, false, List, Option, Some, None, refl, ap, subst, ◌∙◌, Ordering, Less, Equal, Greater}
 use Rattle.std.specs.Prelude.{not}
 use Rattle.std.specs.Ordering.{nat_cmp, is_lt, ordering_reverse}
 use Rattle.std.specs.Cmp.Lexicographic.{slice_cmp, nat_list_cmp_total}
 use Rattle.std.proofs.lemmas.Map.Lookups.{exact_bytes}
-use Rattle.store_model.specs.Range.{Interval, has_key, is_below, overlap, point}
-use Rattle.store_model.proofs.Order.{below_longer}
-use Rattle.store_model.proofs.Tests.{both_true, and_true, not_true, not_both, false_unless}
+use Rattle.store_model.specs.Range.{Interval, has_key, is_below, overlap}
+use Rattle.store_model.proofs.Bools.{both_true, and_true, not_true, not_both, false_unless}
 
 less : (o : Ordering) → is_lt o ≡ true → o ≡ Less
 less Less e = refl

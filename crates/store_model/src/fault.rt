@@ -44,7 +44,9 @@ pub enum Fault {
     VaultFault,
     /// The life has ended: an earlier call met a fault of the log disk, or a limit is reached. `at` is the LSN up to
     /// which the log was durable then.
-    Ended { at: Lsn },
+    Ended {
+        at: Lsn,
+    },
     /// Another unfinished transaction holds a conflicting lock: the least such transaction, and the first of its
     /// conflicting ranges.
     Conflict {
@@ -63,13 +65,21 @@ pub enum Fault {
     /// The session has no transaction.
     NotActive,
     /// An open gate stands before bytes that are no block of this store, or a record breaks its form.
-    LogBad { block: u64, byte: u64 },
+    LogBad {
+        block: u64,
+        byte: u64,
+    },
     /// A named object of the vault breaks its form, or lacks what is asked of it.
-    VaultBad { object: ObjectName, byte: u64 },
+    VaultBad {
+        object: ObjectName,
+        byte: u64,
+    },
     /// The log is empty.
     NotFormatted,
     /// The operator gives no value here.
-    OpRefused { at: Pos },
+    OpRefused {
+        at: Pos,
+    },
     /// The source failed in this call.
     SourceFault,
     /// The sink failed in this call.

@@ -1,8 +1,8 @@
 //! What a store answers.
 use crate::list::List;
+use crate::numbers::TxId;
 use crate::pair::Pair;
 use crate::range::KeyRange;
-use crate::numbers::TxId;
 use crate::value::Value;
 
 /// The reply to a request that was carried out.

@@ -3,7 +3,6 @@ use std::test::Fail;
 
 #[test]
 fn lengths_at_their_edges(rt: HostRuntime) -> Result<(), Fail> {
-    let bytes = vec![in rt.alloc(); b'a'; 257]?;
     // Length, then whether a key, a value, an operator's argument and a bound may have it.
     let cases = [
         (0, false, true, true, true),
@@ -15,10 +14,15 @@ fn lengths_at_their_edges(rt: HostRuntime) -> Result<(), Fail> {
         (257, false, false, false, false),
     ];
     for (length, key, value, argument, bound) in cases {
-        let text = &bytes.as_slice()[..length];
+        let bytes = vec![in rt.alloc(); b'a'; length]?;
+        let text = bytes.as_slice();
         assert_eq!(rt; Key::new(text).is_some(), key, "key of {length}");
         assert_eq!(rt; Value::new(text).is_some(), value, "value of {length}");
-        assert_eq!(rt; OpValue::new(text).is_some(), argument, "argument of {length}");
+        assert_eq!(rt;
+            OpValue::new(text).is_some(),
+            argument,
+            "argument of {length}"
+        );
         assert_eq!(rt; Bound::at(text).is_some(), bound, "bound of {length}");
     }
     Ok(())
