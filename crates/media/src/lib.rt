@@ -1,0 +1,27 @@
+//! The outside: what a store reads from, writes to and keeps its bytes on.
+//!
+//! A [`Source`] gives bytes and a [`Sink`] takes them. A [`Disk`] keeps the log, a [`PageDevice`] the pages, and a
+//! [`Vault`] the backups and the archive. Each contract speaks of two things.
+//!
+//! - *What the object tells of its content.* Objects in memory tell it; files and streams tell nothing. A clause on
+//!   content holds where the object tells. Of the disk this includes what a crash may leave, at each moment of a call.
+//! - *Its count of faults*, which never falls. A call answers [`Failed`] only where the count of its own object rose in
+//!   that call, or stands at its end, 2^64 - 1. Code that is generic over a device can't raise the count, so it can't
+//!   answer a fault that the device didn't give.
+//!
+//! A [`Fuse`] round a device makes its calls fail from a chosen one on.
+#![tactic(auto)]
+
+mod devices;
+mod disk;
+mod fault;
+mod pages;
+mod stream;
+mod vault;
+
+pub use devices::Devices;
+pub use disk::Disk;
+pub use fault::Failed;
+pub use pages::{PageBytes, PageDevice};
+pub use stream::{Sink, Source, write_all};
+pub use vault::Vault;
