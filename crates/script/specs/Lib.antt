@@ -1,0 +1,4 @@
+pub mod Line
+pub mod Name
+pub mod Token
+pub mod Word
