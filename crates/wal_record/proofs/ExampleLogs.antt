@@ -93,3 +93,7 @@ adopt_two = kinds.Adopt (record { parent = 1; parent_prev = 7; fosterer = 4; fos
 
 abbrev pub adopt_three : Record
 adopt_three = kinds.Adopt (record { parent = 1; parent_prev = 7; fosterer = 2; fosterer_prev = 6; child = 3; key = 99 ∷ [] })
+
+-- the leaf with a, b and c split at its split point
+abbrev pub split_page_at_c : Record
+split_page_at_c = kinds.Split (record { page = 1; page_prev = 4; child = 2; child_state = leaf (99 ∷ []) None (row (99 ∷ []) ∷ []) })

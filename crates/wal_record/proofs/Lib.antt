@@ -4,3 +4,6 @@ pub mod ExampleLogs
 pub mod LogExamples
 pub mod SoundExamples
 pub mod UnsoundExamples
+pub mod LegalExamples
+pub mod IllegalExamples
+pub mod LeftExamples

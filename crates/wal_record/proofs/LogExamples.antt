@@ -1,11 +1,15 @@
 -- Worked examples of chains, open writes and contents.
-use Rattle.std.proofs.Common.{◌≡◌, [], ◌∷◌, Some, refl, ◌∙◌}
+use Rattle.std.proofs.Common.{◌≡◌, ℕ, [], ◌∷◌, ◌++◌, Some, refl, ◌∙◌}
 use Rattle.std.specs.FinMap.{get, get-insert, empty, insert}
 use Rattle.std.specs.Cmp.Lexicographic.{nat_list_cmp_total}
 use Rattle.store_model.specs.Along.{along}
 use Rattle.wal_record.specs.Chains.{head, pages, last, greatest}
 use Rattle.wal_record.specs.OpenWrites.{open_writes, open_list, losers, pending}
 use Rattle.wal_record.specs.Contents.{current, committed}
+use Rattle.wal_record.specs.Upkeep.{written, page_backup, last_backup, lost_pages, unrestored, standing_runs, last_run}
+use Rattle.wal_record.specs.Checkpoints.{checkpoint_of}
+use Rattle.wal_record.specs.declared.record.Record.{Record}
+use Rattle.wal_record.specs.declared.record.Record.TheVariants as kinds
 use Rattle.wal_record.proofs.ExampleLogs.{apple, x, y, one, two, apple_log, loser_log, put_x_again}
 
 -- after the commit the current and the committed contents are apple = 1
@@ -67,3 +71,59 @@ last_of_two = refl
 one_page : pages loser_log ≡ 1
 unfolding pages along
 one_page = refl
+
+-- ---- checkpoints and runs
+
+-- after the stop a checkpoint lists two commits, page 1 with its head 5, and the loser
+loser_checkpoint :
+    checkpoint_of loser_log
+    ≡ record {
+      next_tx = 4;
+      commits = 2;
+      limit = 16384;
+      pages = record { head = 5; written = 0; backup = 0; backup_lsn = 0 } ∷ [];
+      transactions = record { tx = 2; last = 4; undo_next = 4; writes = record { lsn = 4; key = x } ∷ [] } ∷ [];
+      lost = 0;
+      unrestored = [];
+      runs = [];
+      next_backup = 1;
+      next_run = 1;
+    }
+unfolding checkpoint_of greatest pages head written page_backup last open_writes open_list lost_pages unrestored standing_runs last_backup last_run along
+loser_checkpoint = refl
+
+-- the image with LSN 2 was written; after a loss it counts no more, and segment 0 waits for its restore
+abbrev image_written : Record
+image_written = kinds.Written (record { page = 1; lsn = 2 })
+
+abbrev data_lost : Record
+data_lost = kinds.Lost (record { pages = 1 })
+
+written_at_two : written (loser_log ++ image_written ∷ []) 1 ≡ 2
+unfolding written along
+written_at_two = refl
+
+none_written : written (loser_log ++ image_written ∷ data_lost ∷ []) 1 ≡ 0
+unfolding written along
+none_written = refl
+
+waits : unrestored (loser_log ++ data_lost ∷ []) ≡ 0 ∷ []
+unfolding unrestored along
+waits = refl
+
+waits_no_more : unrestored (loser_log ++ data_lost ∷ kinds.Restored (record { segment = 0 }) ∷ []) ≡ []
+unfolding unrestored along
+waits_no_more = refl
+
+-- seventeen pages fill two segments
+two_segments : unrestored (kinds.Lost (record { pages = 17 }) ∷ []) ≡ 0 ∷ 1 ∷ []
+unfolding unrestored along
+two_segments = refl
+
+-- runs 1 and 2 are merged to run 4; run 3 stands behind it
+abbrev run : ℕ → ℕ → ℕ → Record
+run number first last = kinds.RunDone (record { run = number; first = first; last = last })
+
+merged : standing_runs (run 1 1 4 ∷ run 2 5 6 ∷ run 3 7 9 ∷ run 4 1 6 ∷ []) ≡ record { run = 4; first = 1; last = 6 } ∷ record { run = 3; first = 7; last = 9 } ∷ []
+unfolding standing_runs along
+merged = refl

@@ -18,7 +18,7 @@ at_one r log n h p e = subst (λ (k : ℕ). IsApplicable r k (image log k)) (sym
 pub at_two : (r : Record) (log : List Record) (m n : ℕ) → IsApplicable r m (image log m) → IsApplicable r n (image log n) → (p : ℕ) → (eqb p m || eqb p n) ≡ true → IsApplicable r p (image log p)
 at_two r log m n h h' p e = elim (or_cases _ _ e) [ inl f ↦ at_one r log m h p f | inr f ↦ at_one r log n h' p f ]
 
-format_lawful : IsLawful [] format
+pub format_lawful : IsLawful [] format
 unfolding image along applied CanApply pages pending greatest open_writes
 format_lawful = record {
   first = refl;
@@ -32,7 +32,7 @@ format_lawful = record {
   room = record { most = omega arith; next = λ e. absurd (omega arith) };
 }
 
-put_lawful : IsLawful (format ∷ []) put_apple
+pub put_lawful : IsLawful (format ∷ []) put_apple
 unfolding image along applied CanApply head last current pages pending greatest open_writes
 put_lawful = record {
   first = refl;
@@ -46,7 +46,7 @@ put_lawful = record {
   room = record { most = omega arith; next = λ e. absurd (omega arith) };
 }
 
-commit_lawful : IsLawful (format ∷ put_apple ∷ []) commit_apple
+pub commit_lawful : IsLawful (format ∷ put_apple ∷ []) commit_apple
 unfolding image along applied CanApply head last current pages pending greatest open_writes
 commit_lawful = record {
   first = refl;
