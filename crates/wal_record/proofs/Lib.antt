@@ -1,1 +1,9 @@
 pub mod BytesExamples
+pub mod StateExamples
+pub mod ExampleLogs
+pub mod LogExamples
+pub mod SoundExamples
+pub mod UnsoundExamples
+pub mod LegalExamples
+pub mod IllegalExamples
+pub mod LeftExamples
