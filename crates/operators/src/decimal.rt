@@ -1,7 +1,7 @@
 //! Numbers as the decimal text that operators read and write.
 ghost use Rattle.std.specs.Prelude.{◌≡◌};
 ghost use Rattle.std.specs.Fmt.{decimal};
-ghost use Rattle.store_model.specs.Contents.{number_of};
+ghost use Rattle.store_model.specs.Operator.{number_of};
 
 use itoa::Buffer;
 use std::str;

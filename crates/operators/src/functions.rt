@@ -1,7 +1,8 @@
 //! What the three operators do.
 ghost use Rattle.std.specs.Prelude.{◌≡◌, unwrap_or};
 ghost use Rattle.std.specs.Fmt.{decimal};
-ghost use Rattle.store_model.specs.Contents.{meaning, number_of};
+ghost use Rattle.store_model.specs.Operator.{number_of};
+ghost use Rattle.operators.specs.Means.{made_by};
 
 use crate::decimal::{number_in, written};
 use arrayvec::ArrayVec;
@@ -9,8 +10,9 @@ use store_model::{OpValue, Value};
 
 /// The sum of two decimals, an absent value counting as 0. None where either isn't a decimal
 /// without leading zeros, or where the sum isn't below 2^64.
+#[tactic(auto, unfolding(crate::specs::Means::made_by))]
 pub fn add(old: &Option<Value>, argument: &OpValue) -> Option<OpValue>
-    ensures { result ≡ meaning 1 old.now argument.now }
+    ensures { result ≡ made_by 1 old.now argument.now }
 {
     let left = number_or_zero(old)?;
     let right = number_in(argument.as_bytes())?;
@@ -19,8 +21,9 @@ pub fn add(old: &Option<Value>, argument: &OpValue) -> Option<OpValue>
 
 /// The greater of two decimals, an absent value counting as 0. None where either isn't a decimal
 /// without leading zeros.
+#[tactic(auto, unfolding(crate::specs::Means::made_by))]
 pub fn max(old: &Option<Value>, argument: &OpValue) -> Option<OpValue>
-    ensures { result ≡ meaning 2 old.now argument.now }
+    ensures { result ≡ made_by 2 old.now argument.now }
 {
     let left = number_or_zero(old)?;
     let right = number_in(argument.as_bytes())?;
@@ -28,8 +31,9 @@ pub fn max(old: &Option<Value>, argument: &OpValue) -> Option<OpValue>
 }
 
 /// The old value with the argument behind it. None where that is longer than 64 bytes.
+#[tactic(auto, unfolding(crate::specs::Means::made_by))]
 pub fn join(old: &Option<Value>, argument: &OpValue) -> Option<OpValue>
-    ensures { result ≡ meaning 3 old.now argument.now }
+    ensures { result ≡ made_by 3 old.now argument.now }
 {
     let mut text = ArrayVec::<u8, 64>::new();
     if let Some(value) = old {

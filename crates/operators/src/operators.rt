@@ -1,7 +1,7 @@
 //! The table of operators.
 ghost use Rattle.std.specs.Prelude.{◌≡◌};
 ghost use Rattle.std.specs.Option.{option_copied};
-ghost use Rattle.store_model.specs.Contents.{meaning};
+ghost use Rattle.store_model.specs.Operator.{meaning};
 ghost use Rattle.operators.specs.Means.{AnswersMeaning};
 
 use store_model::{OpValue, Value};
@@ -39,6 +39,7 @@ impl Operators {
 
     /// The value that the operator of this number gives, or None where it gives none. No operator
     /// but 1, 2 and 3 gives any.
+    #[tactic(auto, unfolding(crate::specs::Means::made_by))]
     pub fn apply(&self, id: u8, old: Option<&Value>, argument: &OpValue) -> Option<OpValue>
         ensures { result ≡ meaning id (option_copied old.entry) argument.now }
     {

@@ -1,7 +1,6 @@
 -- 0 is a number.
-use Rattle.std.proofs.Common.{◌≡◌, refl, sym, ap, unwrap_or, ◌∙◌, lit<}
+use Rattle.std.proofs.Common.{refl, sym, lit<}
 use Rattle.std.specs.Fmt.{decimal}
-use Rattle.store_model.specs.Contents.{number_of}
 use Rattle.operators.proofs.Numbers.{number_of-decimal}
 use Rattle.operators.proofs.functions.number_or_zero.Goals as goal
 
