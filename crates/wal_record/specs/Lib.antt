@@ -1,0 +1,4 @@
+pub mod State
+pub mod Rules
+pub mod Spelling
+pub mod Reading
