@@ -1,0 +1,17 @@
+//! Devices in memory, which tell what they hold.
+//!
+//! Each keeps the contract of its trait, with the clauses on content and on crashes as theorems, and takes a list of
+//! the numbers of the calls that are to fail, counted from 1. A call that runs out of memory fails too. Where memory
+//! is ample, a device with an empty list never fails.
+#![tactic(auto)]
+
+mod copy;
+mod disk;
+mod faults;
+mod piece;
+mod sink;
+mod source;
+
+pub use disk::MemDisk;
+pub use sink::MemSink;
+pub use source::MemSource;
