@@ -4,9 +4,9 @@ ghost use Rattle.std.specs.Fmt.{decimal};
 ghost use Rattle.store_model.specs.Operator.{number_of};
 ghost use Rattle.operators.specs.Means.{made_by};
 
-use crate::decimal::{number_in, written};
+use crate::decimal::written;
 use arrayvec::ArrayVec;
-use store_model::{OpValue, Value};
+use store_model::{OpValue, Value, number_in};
 
 /// The sum of two decimals, an absent value counting as 0. None where either isn't a decimal
 /// without leading zeros, or where the sum isn't below 2^64.
