@@ -1,6 +1,6 @@
 ghost use Rattle.std.specs.Prelude.{◌≡◌, []};
 
-use crate::leader::Front;
+use crate::front::Front;
 use crate::pass::Pass;
 use crate::steps::{Counting, Halve, Place};
 use crate::view::View;

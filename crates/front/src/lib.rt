@@ -28,13 +28,13 @@
 #![tactic(auto)]
 
 mod count;
-mod leader;
+mod front;
 mod pass;
 mod steps;
 mod view;
 
 pub use count::{Board, Count, CountName};
-pub use leader::{Added, Front};
+pub use front::{Added, Front};
 pub use pass::Pass;
 pub use steps::Counting;
 pub use view::View;

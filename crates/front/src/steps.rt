@@ -1,6 +1,6 @@
 //! The rule of the count's table, and what each kind of step tells.
 
-use crate::leader::Added;
+use crate::front::Added;
 use crate::view::View;
 use atomic_table::{Join, Play, Seat, Split, TableRule};
 use std::marker::PhantomData;

@@ -3,6 +3,7 @@ ghost use Rattle.std.specs.Prelude.{◌≡◌, ◌+◌, ◌^◌, ◌<◌, [], �
 use super::*;
 use std::alloc::{AllocError, Global};
 use std::marker::Brand;
+use std::mem::size_of;
 use std::sync::{Mutex, Wait};
 use std::test::*;
 use std::thread;
@@ -14,6 +15,12 @@ const ROUNDS: u64 = 500;
 fn a_new_count(rt: HostRuntime) -> Result<(), Fail> {
     assert!(rt; Count::<u8>::new(rt.alloc()).is_ok());
     Ok(())
+}
+
+#[test]
+fn tokens_take_no_bytes(rt: HostRuntime) {
+    assert_eq!(rt; size_of::<Front<u8, Brand>>(), 0);
+    assert_eq!(rt; size_of::<Pass<u8, Brand>>(), 0);
 }
 
 fn add<N: CountName, A: Added<u8>>(board: &Board<u8, N>, front: &mut Front<u8, N>, entry: u8)

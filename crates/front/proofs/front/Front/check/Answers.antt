@@ -1,7 +1,7 @@
 use Rattle.std.proofs.Common.{sym, ap, ◌∙◌, arith}
 use Rattle.front.specs.Counting.{informed}
 use Rattle.front.proofs.Keeping.{joins, checks_at}
-use Rattle.front.proofs.leader.Front.check.Goals as goal
+use Rattle.front.proofs.front.Front.check.Goals as goal
 
 pub join_seat-requires : goal.join_seat-requires
 join_seat-requires g c =

@@ -1,6 +1,6 @@
 use Rattle.std.proofs.Common.{sym, ◌∙◌, arith}
 use Rattle.front.proofs.Keeping.{splits}
-use Rattle.front.proofs.leader.Front.meet.Goals as goal
+use Rattle.front.proofs.front.Front.meet.Goals as goal
 
 pub split_seat-requires : goal.split_seat-requires
 split_seat-requires g c =

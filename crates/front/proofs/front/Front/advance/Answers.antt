@@ -1,6 +1,6 @@
 use Rattle.std.proofs.Common.{sym, ◌∙◌, arith}
 use Rattle.front.proofs.Keeping.{advances_at}
-use Rattle.front.proofs.leader.Front.advance.Goals as goal
+use Rattle.front.proofs.front.Front.advance.Goals as goal
 
 pub fetch_add-requires : goal.fetch_add-requires
 fetch_add-requires g c =
