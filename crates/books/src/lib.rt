@@ -43,8 +43,6 @@ pub use entry::BookEntry;
 pub use right::Right;
 pub use rights::{MaintRight, PageRight, SessionRight};
 pub use shelf::{BookNames, BookTables, Books, MaintBook, NewBook, PageBook, SessionBook, Shelf};
-pub use steps::Booking;
-pub use view::View;
 
 #[cfg(test)]
 mod tests;

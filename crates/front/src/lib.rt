@@ -36,8 +36,6 @@ mod view;
 pub use count::{Board, Count, CountName};
 pub use front::{Added, Front};
 pub use pass::Pass;
-pub use steps::Counting;
-pub use view::View;
 
 #[cfg(test)]
 mod tests;
