@@ -1,0 +1,12 @@
+pub mod Steps
+pub mod Central
+pub mod Locked
+pub mod Runs
+pub mod Told
+pub mod Serial
+pub mod LeftLaws
+pub mod EnteringLaws
+pub mod Pending
+pub mod LoserLocks
+pub mod Phases
+pub mod AllSteps

@@ -1,0 +1,75 @@
+//! Laws of logs and of histories.
+//!
+//! The crate runs nothing. Each function is empty, and its contract is a law about the definitions of
+//! wal_record; the statements stand in `specs/`. They hold of every log whose records are lawful one by
+//! one, and of every legal history, with all kinds of records and entries in them.
+#![tactic(auto)]
+
+ghost use Rattle.std.specs.Prelude.{List};
+ghost use Rattle.wal_record.specs.declared.entry.Entry.{Entry};
+ghost use Rattle.wal_record.specs.declared.record.Record.{Record};
+ghost use Rattle.wal_record.specs.declared.record.Undo.{Undo};
+ghost use Rattle.wal_record.specs.Left.{Life};
+ghost use Rattle.log_laws.specs.Central.{CentralLaw};
+ghost use Rattle.log_laws.specs.Left.{LeftLaw, LivesLaw};
+ghost use Rattle.log_laws.specs.Locks.{EnteringLaw, LoserLocksLaw};
+ghost use Rattle.log_laws.specs.Phases.{LiveLaw, StepsLaw};
+ghost use Rattle.log_laws.specs.Room.{PendingLaw, UndoRoomLaw};
+ghost use Rattle.log_laws.specs.Serial.{SerialLaw};
+
+/// The central law: the current contents at a key that no transaction has an open write of are the
+/// committed ones; else they are what its writer's open writes make of these.
+pub fn central_law()
+    ensures { (log : List Record) → CentralLaw log }
+{}
+
+/// The serial law: the committed transactions of a legal history, run one after the other from the
+/// committed contents of the opening log, have the replies that were said, and end in the committed
+/// contents of the whole log.
+pub fn serial_law()
+    ensures { (opening : List Record) (history : List Entry) → SerialLaw opening history }
+{}
+
+/// What a stop leaves of a legal history's log has the first of its committed transactions, every
+/// acknowledged one among them, and no other effect.
+pub fn left_law()
+    ensures { (opening : List Record) (history : List Entry) (own : List Record) → LeftLaw opening history own }
+{}
+
+/// Over any number of lives, each of which opens what the stop before it left, the committed
+/// transactions that the stops left, run one after the other, make the committed contents of the last
+/// log.
+pub fn lives_law()
+    ensures { (opening : List Record) (lives : List Life) → LivesLaw opening lives }
+{}
+
+/// A key that a transaction has locked for writing has no open write of another one, and a last open
+/// write can be taken back.
+pub fn entering_law()
+    ensures { (opening : List Record) (history : List Entry) → EnteringLaw opening history }
+{}
+
+/// The locks on the keys of two losers' open writes don't conflict.
+pub fn loser_locks_law()
+    ensures { (log : List Record) → LoserLocksLaw log }
+{}
+
+/// A record changes the number of pending writes as it changes the open writes of its transaction.
+pub fn pending_law()
+    ensures { (log : List Record) (r : Record) → PendingLaw log r }
+{}
+
+/// An undo lowers the number of pending writes by one.
+pub fn undo_room_law()
+    ensures { (log : List Record) (u : Undo) → UndoRoomLaw log u }
+{}
+
+/// A transaction is live exactly where it was begun and has neither a commit nor an end.
+pub fn live_law()
+    ensures { (opening : List Record) (history : List Entry) → LiveLaw opening history }
+{}
+
+/// A committed transaction has no step after its commit.
+pub fn steps_law()
+    ensures { (opening : List Record) (history : List Entry) → StepsLaw opening history }
+{}
