@@ -1,9 +1,10 @@
--- A committed_transactions transaction has no step after its commit.
+-- A committed transaction has no step after its commit.
 use Rattle.std.proofs.Common.{◌≡◌, ℕ, Bool, true, false, cond, eqb, List, [], ◌∷◌, ◌++◌, refl, sym, ap, subst, ◌∙◌, arith, inl, inr}
 use Rattle.std.specs.Prelude.{◌<◌}
 use Rattle.std.proofs.Math.Nat.{le-max_left, le-max_right}
 use Rattle.std.proofs.lemmas.Bool.{eqb-true}
 use Rattle.std.proofs.lemmas.List.{append-nil}
+use Rattle.store_model.proofs.Bools.{not_both}
 use Rattle.wal_record.specs.declared.record.Record.{Record}
 use Rattle.wal_record.specs.declared.record.Record.TheVariants as kinds
 use Rattle.wal_record.specs.declared.entry.Entry.{Entry}
@@ -17,7 +18,7 @@ use Rattle.wal_record.specs.Steps.{Step, Asked, Back, step_of, steps, Finished, 
 use Rattle.wal_record.specs.Legal.{untold, MayUndo, IsAllowed, IsLegal}
 use Rattle.log_laws.specs.Phases.{EachHas, StepsLaw}
 use Rattle.log_laws.proofs.Steps.{by_pushes}
-use Rattle.log_laws.proofs.Central.{not_both, eqb_self}
+use Rattle.log_laws.proofs.Central.{eqb_self}
 use Rattle.log_laws.proofs.Serial.{At, steps_push, phase_push, transactions_push, legal_front, no_loser, owner_new, said_live, after_legal}
 
 abbrev is_past : Phase → Bool

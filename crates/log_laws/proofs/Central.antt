@@ -15,6 +15,7 @@ use Rattle.std.proofs.lemmas.List.Folds.{list_any-append}
 use Rattle.std.proofs.lemmas.Map.Lookups.{exact_bytes}
 use Rattle.store_model.specs.Contents.{Contents, set_to}
 use Rattle.store_model.specs.Operator.{meaning}
+use Rattle.store_model.proofs.Bools.{or_left, or_right, not_both, false_unless}
 use Rattle.wal_record.specs.declared.record.Undo.{Undo}
 use Rattle.wal_record.specs.declared.record.Commit.{Commit}
 use Rattle.wal_record.specs.declared.record.Record.{Record}
@@ -112,14 +113,6 @@ pub olds_front : (val : List ℕ → Option (List ℕ)) (ws : List Record) (w : 
 olds_front val [] w h = (tt, h.0, h.1)
 olds_front val (x ∷ ws) w h = let g = olds_front (λ k. value_after k (val k) x) ws w h.2 in ((h.0, h.1, g.0), g.1, g.2)
 
-pub or_left : (a b : Bool) → a ≡ true → (a || b) ≡ true
-or_left true b e = refl
-or_left false b e = absurd cc
-
-pub or_right : (a b : Bool) → b ≡ true → (a || b) ≡ true
-or_right true b e = refl
-or_right false b e = e
-
 pub olds_moved : (val val' : List ℕ → Option (List ℕ)) (ws : List Record) → ((k : List ℕ) → list_any (writes k) ws ≡ true → val k ≡ val' k) → Olds val ws → Olds val' ws
 olds_moved val val' [] h g = tt
 olds_moved val val' (x ∷ ws) h g = (
@@ -153,14 +146,6 @@ pub record Kept (m : Contents) (o : ℕ → List Record) (off : Contents) : Type
   pub apart : (key : List ℕ) (t u : ℕ) → opens_in o key t ≡ true → opens_in o key u ≡ true → t ≡ u
   pub value : (key : List ℕ) (t : ℕ) → Alone o key t → get m key ≡ fold (value_after key) (get off key) (o t)
   pub olds : (t : ℕ) → Olds (get off) (o t)
-
-pub not_both : (b : Bool) → b ≡ true → b ≡ false → ⊥
-not_both true p q = cc
-not_both false p q = cc
-
-pub false_unless : (b : Bool) → (b ≡ true → ⊥) → b ≡ false
-false_unless true h = absurd (h refl)
-false_unless false h = refl
 
 pub eqb_self : (n : ℕ) → eqb n n ≡ true
 eqb_self n = grind (arith, nat_tests)

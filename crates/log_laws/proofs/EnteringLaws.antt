@@ -7,6 +7,7 @@ use Rattle.std.specs.FinMap.{get}
 use Rattle.std.proofs.lemmas.List.Sums.{fold-append}
 use Rattle.std.proofs.lemmas.List.Folds.{list_any-append, list_all-append}
 use Rattle.store_model.specs.Operator.{meaning}
+use Rattle.store_model.proofs.Bools.{both_true, and_true, or_left, or_right, not_both, false_unless}
 use Rattle.wal_record.specs.declared.record.Record.{Record}
 use Rattle.wal_record.specs.declared.record.Record.TheVariants as kinds
 use Rattle.wal_record.specs.declared.entry.Entry.{Entry}
@@ -16,10 +17,10 @@ use Rattle.wal_record.specs.OpenWrites.{open_step, open_writes, without_last, ke
 use Rattle.wal_record.specs.Sound.{IsLawful, AreLawful}
 use Rattle.wal_record.specs.History.{log_of}
 use Rattle.wal_record.specs.Locks.{covers_key, locks}
-use Rattle.log_laws.specs.Locks.{EnteringLaw}
+use Rattle.log_laws.specs.Locks.{EnteringLaw, LocksLaw}
 use Rattle.log_laws.proofs.Steps.{by_pushes, open_push, sound_front}
-use Rattle.log_laws.proofs.Central.{value_after, Olds, olds_front, own_key, alone_of, false_unless, not_both, kept_log, or_left, or_right}
-use Rattle.log_laws.proofs.Locked.{both_true, and_true, write_covers}
+use Rattle.log_laws.proofs.Central.{value_after, Olds, olds_front, own_key, alone_of, kept_log}
+use Rattle.log_laws.proofs.Locked.{write_covers}
 use Rattle.log_laws.proofs.Serial.{after_legal, sound_after}
 
 -- ---- what a last open write left
@@ -93,4 +94,10 @@ entering opening h = record {
       false_unless (list_any (writes key) (open_writes (opening ++ log_of h) other)) (λ g. not_both (list_any (covers_key key) (locks opening h tx)) (write_covers (locks opening h tx) key locked) (told.apart other tx key n (told.holds other key g)));
   last_value = λ sound legal. last_value (opening ++ log_of h) (sound_after opening sound h legal);
   can_undo = λ sound legal. can_undo (opening ++ log_of h) (sound_after opening sound h legal);
+}
+
+pub locking : (opening : List Record) (h : List Entry) → LocksLaw opening h
+locking opening h = record {
+  free = λ sound legal. (after_legal opening sound h legal).0.free;
+  holds = λ sound legal. (after_legal opening sound h legal).0.holds;
 }

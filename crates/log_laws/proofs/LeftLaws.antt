@@ -1,4 +1,4 @@
--- A stop leaves the first of the committed_transactions transactions.
+-- A stop leaves the first of the committed transactions.
 use Rattle.std.proofs.Common.{◌≡◌, ℕ, Bool, true, false, cond, eqb, List, [], ◌∷◌, ◌++◌, refl, sym, ap, subst, ◌∙◌, arith, append_assoc}
 use Rattle.std.specs.Prelude.{suc, ◌+◌, ◌<◌, ◌||◌, length, take}
 use Rattle.std.specs.List.{list_any}
@@ -11,7 +11,7 @@ use Rattle.wal_record.specs.declared.record.Record.{Record}
 use Rattle.wal_record.specs.declared.record.Record.TheVariants as kinds
 use Rattle.wal_record.specs.declared.entry.Entry.{Entry}
 use Rattle.wal_record.specs.declared.entry.Entry.TheVariants.{Rec, Acked, Began}
-use Rattle.store_model.specs.Along.{along, AllFrom, AllAlong}
+use Rattle.store_model.specs.Along.{along}
 use Rattle.wal_record.specs.Contents.{committed}
 use Rattle.wal_record.specs.Chains.{greatest, tx_or_none, link_of}
 use Rattle.wal_record.specs.Sound.{AreLawful}
@@ -22,7 +22,7 @@ use Rattle.wal_record.specs.Legal.{IsAllowed, IsLegal}
 use Rattle.wal_record.specs.Checkpoints.{commits}
 use Rattle.wal_record.specs.Left.{is_commit_of, acknowledges, IsLeft, Life, AreLives, last_log, kept_of}
 use Rattle.log_laws.specs.Left.{LeftLaw, LivesLaw}
-use Rattle.log_laws.proofs.Steps.{by_pushes, greatest_push}
+use Rattle.log_laws.proofs.Steps.{AllAlong_less, by_pushes, greatest_push}
 use Rattle.log_laws.proofs.Central.{either}
 use Rattle.log_laws.proofs.Serial.{log_of_push, phase_push, transactions_push, legal_front, max_less, less_differ, after_legal}
 
@@ -36,14 +36,6 @@ module _ {A : Type 0} where
   abbrev rest_of : List A → List A
   rest_of [] = []
   rest_of (x ∷ xs) = xs
-
-  AllFrom_less : (P : List A → A → Type 0) (before xs ys : List A) → AllFrom P before (xs ++ ys) → AllFrom P before xs
-  AllFrom_less P before [] ys h = tt
-  AllFrom_less P before (x ∷ xs) ys h = (h.0, AllFrom_less P (before ++ x ∷ []) xs ys h.1)
-
-  AllAlong_less : (P : List A → A → Type 0) (xs ys : List A) → AllAlong P (xs ++ ys) → AllAlong P xs
-  unfolding AllAlong
-  AllAlong_less P xs ys h = AllFrom_less P [] xs ys h
 
 -- where the entries are cut after some of their records
 record Cut (h : List Entry) (own : List Record) : Type 0 where

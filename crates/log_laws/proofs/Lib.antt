@@ -3,10 +3,11 @@ pub mod Central
 pub mod Locked
 pub mod Runs
 pub mod Told
+pub mod LoserLocks
 pub mod Serial
 pub mod LeftLaws
 pub mod EnteringLaws
 pub mod Pending
-pub mod LoserLocks
 pub mod Phases
 pub mod AllSteps
+pub mod Beginnings

@@ -9,54 +9,24 @@ use Rattle.std.proofs.lemmas.Cmp.{tied_itself}
 use Rattle.std.specs.Cmp.{nat_cmp_is}
 use Rattle.store_model.proofs.Order.{below_longer}
 use Rattle.store_model.specs.Range.{Interval, has_key, is_below, point, overlap}
+use Rattle.log_laws.specs.Locks.{meets}
+use Rattle.store_model.proofs.Bools.{both_true, and_true, not_true, not_from, or_left, or_right, not_both, false_unless}
+use Rattle.store_model.proofs.Ranges.{not_beneath, overlap_at}
 use Rattle.wal_record.specs.declared.record.Record.{Record}
 use Rattle.wal_record.specs.OpenWrites.{writes, key_of}
 use Rattle.wal_record.specs.Locks.{Held, conflict, covers, covers_key, covers_write, is_exclusive, point_lock, loser_locks}
-use Rattle.log_laws.proofs.Central.{not_both, neither, false_unless, equal_key, own_key, value_after, Olds}
-
-pub both_true : (a b : Bool) → (a && b) ≡ true → (a ≡ true) × (b ≡ true)
-both_true true b e = (refl, e)
-both_true false b e = absurd cc
-
-pub and_true : (a b : Bool) → a ≡ true → b ≡ true → (a && b) ≡ true
-and_true true b p q = q
-and_true false b p q = absurd cc
-
-not_true : (b : Bool) → not b ≡ true → b ≡ false
-not_true true e = absurd cc
-not_true false e = refl
-
-pub or_left : (a b : Bool) → a ≡ true → (a || b) ≡ true
-or_left true b e = refl
-or_left false b e = absurd cc
-
-pub or_right : (a b : Bool) → b ≡ true → (a || b) ≡ true
-or_right true b e = refl
-or_right false b e = e
+use Rattle.log_laws.proofs.Central.{neither, equal_key, own_key, value_after, Olds}
 
 less : (o : Ordering) → is_lt o ≡ true → o ≡ Less
 less Less e = refl
 less Equal e = absurd cc
 less Greater e = absurd cc
 
--- a bound that a key is not below, and one that it is below
-pub between : (low high : Option (List ℕ)) (key : List ℕ) → is_below (Some key) low ≡ false → is_below (Some key) high ≡ true → is_below low high ≡ true
-between None high key p q = absurd cc
-between (Some a) None key p q = refl
-between (Some a) (Some b) key p q = by (slice_cmp nat_cmp key a) refl
-  where
-    by : (o : Ordering) → slice_cmp nat_cmp key a ≡ o → is_lt (slice_cmp nat_cmp a b) ≡ true
-    by Less e = absurd (not_both (is_lt (slice_cmp nat_cmp key a)) (ap is_lt e) p)
-    by Equal e = subst (λ (k : List ℕ). is_lt (slice_cmp nat_cmp k b) ≡ true) (exact_bytes key a e) q
-    by Greater e = ap is_lt (nat_list_cmp_total.trans a key b (nat_list_cmp_total.antisymm a key ∙ ap ordering_reverse e) (less (slice_cmp nat_cmp key b) q))
-
-pub meet : (a b : Interval) (key : List ℕ) → has_key a key ≡ true → has_key b key ≡ true → overlap a b ≡ true
-meet a b key p q =
-    let pa = both_true (not (is_below (Some key) a.low)) (is_below (Some key) a.high) p in
-    let pb = both_true (not (is_below (Some key) b.low)) (is_below (Some key) b.high) q in
-    and_true (is_below a.low b.high) (is_below b.low a.high)
-    (between a.low b.high key (not_true (is_below (Some key) a.low) pa.0) pb.1)
-    (between b.low a.high key (not_true (is_below (Some key) b.low) pb.0) pa.1)
+below_trans : (a b c : Option (List ℕ)) → is_below a b ≡ true → is_below b c ≡ true → is_below a c ≡ true
+below_trans None b c p q = absurd cc
+below_trans (Some a) None c p q = absurd cc
+below_trans (Some a) (Some b) None p q = refl
+below_trans (Some a) (Some b) (Some c) p q = ap is_lt (nat_list_cmp_total.trans a b c (less _ p) (less _ q))
 
 -- a lock that conflicts with none of these, and covers a write, shares its key with none
 pub writer_apart : (l : Held) (ls : List Held) (key : List ℕ) → list_any (conflict l) ls ≡ false → covers_write key l ≡ true → list_any (covers_key key) ls ≡ false
@@ -64,7 +34,7 @@ writer_apart l [] key p q = refl
 writer_apart l (k ∷ ls) key p q =
     let n = neither (conflict l k) (list_any (conflict l) ls) p in
     let w = both_true (has_key l.range key) (is_exclusive l.mode) q in
-    let here : covers_key key k ≡ false = false_unless (covers_key key k) (λ g. not_both (conflict l k) (and_true (overlap l.range k.range) (is_exclusive l.mode || is_exclusive k.mode) (meet l.range k.range key w.0 g) (or_left (is_exclusive l.mode) (is_exclusive k.mode) w.1)) n.0) in
+    let here : covers_key key k ≡ false = false_unless (covers_key key k) (λ g. not_both (conflict l k) (and_true (overlap l.range k.range) (is_exclusive l.mode || is_exclusive k.mode) (overlap_at l.range k.range key w.0 g) (or_left (is_exclusive l.mode) (is_exclusive k.mode) w.1)) n.0) in
     ap (λ (b : Bool). b || list_any (covers_key key) ls) here ∙ writer_apart l ls key n.1 q
 
 pub reader_apart : (l : Held) (ls : List Held) (key : List ℕ) → list_any (conflict l) ls ≡ false → covers_key key l ≡ true → list_any (covers_write key) ls ≡ false
@@ -73,7 +43,7 @@ reader_apart l (k ∷ ls) key p q =
     let n = neither (conflict l k) (list_any (conflict l) ls) p in
     let here : covers_write key k ≡ false = false_unless (covers_write key k) (λ g.
     let w = both_true (has_key k.range key) (is_exclusive k.mode) g in
-    not_both (conflict l k) (and_true (overlap l.range k.range) (is_exclusive l.mode || is_exclusive k.mode) (meet l.range k.range key q w.0) (or_right (is_exclusive l.mode) (is_exclusive k.mode) w.1)) n.0) in
+    not_both (conflict l k) (and_true (overlap l.range k.range) (is_exclusive l.mode || is_exclusive k.mode) (overlap_at l.range k.range key q w.0) (or_right (is_exclusive l.mode) (is_exclusive k.mode) w.1)) n.0) in
     ap (λ (b : Bool). b || list_any (covers_write key) ls) here ∙ reader_apart l ls key n.1 q
 
 covers_more : (l : Held) (key : List ℕ) (more wide : Bool) (b : Bool) → covers_write key l ≡ b → (more ≡ true → wide ≡ true) → (b || more) ≡ true → (covers_key key l || wide) ≡ true
@@ -88,12 +58,6 @@ write_covers (l ∷ ls) key p = covers_more l key (list_any (covers_write key) l
 point_above : (key : List ℕ) → is_below (Some key) (Some (key ++ 0 ∷ [])) ≡ true
 point_above key = below_longer key 0
 
-below_trans : (a b c : Option (List ℕ)) → is_below a b ≡ true → is_below b c ≡ true → is_below a c ≡ true
-below_trans None b c p q = absurd cc
-below_trans (Some a) None c p q = absurd cc
-below_trans (Some a) (Some b) None p q = refl
-below_trans (Some a) (Some b) (Some c) p q = ap is_lt (nat_list_cmp_total.trans a b c (less _ p) (less _ q))
-
 -- a key below a bound is below one that isn't below that bound
 above : (k : List ℕ) (high top : Option (List ℕ)) → is_below (Some k) high ≡ true → is_below top high ≡ false → is_below (Some k) top ≡ true
 above k high None p q = refl
@@ -103,14 +67,6 @@ above k high (Some t) p q = by (slice_cmp nat_cmp k t) refl
     by Less e = ap is_lt e
     by Equal e = absurd (not_both (is_below (Some t) high) (subst (λ (x : List ℕ). is_below (Some x) high ≡ true) (exact_bytes k t e) p) q)
     by Greater e = absurd (not_both (is_below (Some t) high) (below_trans (Some t) (Some k) high (ap is_lt (nat_list_cmp_total.antisymm t k ∙ ap ordering_reverse e)) p) q)
-
--- a key that isn't below a bound isn't below one that that isn't below
-not_beneath : (k : List ℕ) (low least : Option (List ℕ)) → is_below (Some k) low ≡ false → is_below low least ≡ false → is_below (Some k) least ≡ false
-not_beneath k low least p q = false_unless (is_below (Some k) least) (λ g. not_both (is_below low least) (between low least k p g) q)
-
-not_from : (b : Bool) → b ≡ false → not b ≡ true
-not_from true e = absurd cc
-not_from false e = refl
 
 -- a lock that covers a range covers its keys
 inside : (r : Interval) (l : Held) (key : List ℕ) → covers r l ≡ true → has_key r key ≡ true → covers_key key l ≡ true
@@ -200,3 +156,51 @@ loser_fewer p true (w ∷ ws) vs h = by (loser_fewer p true ws vs) (p (point_loc
     by : (list_any p (map point_lock ws) ≡ true → list_any p (map point_lock (ws ++ vs)) ≡ true) → (b : Bool) → (b || list_any p (map point_lock ws)) ≡ true → (b || list_any p (map point_lock (ws ++ vs))) ≡ true
     by more true h = refl
     by more false h = more h
+
+-- ---- lists of locks that don't conflict
+
+and_swaps : (a b : Bool) → (a && b) ≡ (b && a)
+and_swaps true true = refl
+and_swaps true false = refl
+and_swaps false true = refl
+and_swaps false false = refl
+
+or_swaps : (a b : Bool) → (a || b) ≡ (b || a)
+or_swaps true true = refl
+or_swaps true false = refl
+or_swaps false true = refl
+or_swaps false false = refl
+
+conflict_swaps : (k l : Held) → conflict k l ≡ conflict l k
+conflict_swaps k l =
+    ap (λ (b : Bool). b && (is_exclusive k.mode || is_exclusive l.mode)) (and_swaps (is_below k.range.low l.range.high) (is_below l.range.low k.range.high))
+    ∙ ap (λ (b : Bool). overlap l.range k.range && b) (or_swaps (is_exclusive k.mode) (is_exclusive l.mode))
+
+neither_or : (a b : Bool) → a ≡ false → b ≡ false → (a || b) ≡ false
+neither_or true b p q = absurd cc
+neither_or false b p q = q
+
+-- one lock more on the right, which conflicts with none on the left
+pub meets_more : (ls ks : List Held) (l : Held) → list_any (conflict l) ls ≡ false → meets ls ks ≡ false → meets ls (l ∷ ks) ≡ false
+meets_more [] ks l p q = refl
+meets_more (k ∷ ls) ks l p q =
+    let a = neither (conflict l k) (list_any (conflict l) ls) p in
+    let b = neither (list_any (conflict k) ks) (meets ls ks) q in
+    neither_or (conflict k l || list_any (conflict k) ks) (meets ls (l ∷ ks)) (neither_or (conflict k l) (list_any (conflict k) ks) (conflict_swaps k l ∙ a.0) b.0) (meets_more ls ks l a.1 b.1)
+
+any_more : (p q : Held → Bool) → ((l : Held) → p l ≡ true → q l ≡ true) → (ls : List Held) → list_any p ls ≡ true → list_any q ls ≡ true
+any_more p q h [] g = absurd cc
+any_more p q h (l ∷ ls) g = by (any_more p q h ls) (p l) refl g
+  where
+    by : (list_any p ls ≡ true → list_any q ls ≡ true) → (b : Bool) → p l ≡ b → (b || list_any p ls) ≡ true → (q l || list_any q ls) ≡ true
+    by more true e g = or_left (q l) (list_any q ls) (h l e)
+    by more false e g = or_right (q l) (list_any q ls) (more g)
+
+-- the left list has whatever lock the right one has
+abbrev pub IsWithin : List Held → List Held → Type 0
+IsWithin less ls = (p : Held → Bool) → list_any p less ≡ true → list_any p ls ≡ true
+
+pub meets_less : (ls ks less few : List Held) → IsWithin less ls → IsWithin few ks → meets ls ks ≡ false → meets less few ≡ false
+meets_less ls ks less few f g apart = false_unless (meets less few) (λ h.
+    not_both (meets ls ks)
+    (any_more (λ (l : Held). list_any (conflict l) few) (λ (l : Held). list_any (conflict l) ks) (λ l e. g (conflict l) e) ls (f (λ (l : Held). list_any (conflict l) few) h)) apart)

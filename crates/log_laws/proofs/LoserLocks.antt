@@ -1,5 +1,5 @@
 -- The locks of losers.
-use Rattle.std.proofs.Common.{◌≡◌, ℕ, Bool, true, false, List, [], ◌∷◌, ◌++◌, Option, Some, refl, sym, ap, ◌∙◌, Ordering, Less, Equal, Greater}
+use Rattle.std.proofs.Common.{◌≡◌, ◌≢◌, ℕ, Bool, true, false, List, [], ◌∷◌, ◌++◌, Option, Some, refl, sym, ap, ◌∙◌, Ordering, Less, Equal, Greater}
 use Rattle.std.specs.Prelude.{map, ◌||◌}
 use Rattle.std.specs.List.{list_any}
 use Rattle.std.specs.FinMap.{get}
@@ -7,13 +7,15 @@ use Rattle.std.specs.Ordering.{nat_cmp, is_lt, ordering_reverse}
 use Rattle.std.specs.Cmp.Lexicographic.{slice_cmp, nat_list_cmp_total}
 use Rattle.std.proofs.lemmas.Map.Lookups.{exact_bytes}
 use Rattle.store_model.specs.Range.{point, is_below, overlap}
+use Rattle.store_model.proofs.Bools.{both_true, or_left, or_right, false_unless}
 use Rattle.wal_record.specs.declared.record.Record.{Record}
-use Rattle.wal_record.specs.OpenWrites.{open_writes, writes, key_of}
+use Rattle.wal_record.specs.OpenWrites.{is_loser, open_writes, writes, key_of}
 use Rattle.wal_record.specs.Contents.{committed}
-use Rattle.wal_record.specs.Locks.{conflict, point_lock}
+use Rattle.wal_record.specs.Locks.{loser_locks, conflict, point_lock}
+use Rattle.wal_record.specs.Sound.{AreLawful}
 use Rattle.log_laws.specs.Locks.{meets, LoserLocksLaw}
-use Rattle.log_laws.proofs.Central.{Olds, value_after, own_key, or_left, or_right, false_unless, kept_log}
-use Rattle.log_laws.proofs.Locked.{both_true, nothing_between}
+use Rattle.log_laws.proofs.Central.{Olds, value_after, own_key, kept_log}
+use Rattle.log_laws.proofs.Locked.{meets_less, IsWithin, nothing_between}
 
 -- points that overlap are the same
 same_point : (k q : List ℕ) → overlap (point k) (point q) ≡ true → k ≡ q
@@ -46,10 +48,20 @@ met (w ∷ ws) vs val val' g g' h = by (met ws vs (λ k. value_after k (val k) w
     by more true c h = (key_of w, or_left (writes (key_of w) w) _ (g.0 (key_of w) ∙ own_key (key_of w) (key_of w) refl), met_one (key_of w) vs val' g' w refl c)
     by more false c h = let m = more h in (m.0, or_right (writes m.0 w) _ m.1, m.2)
 
+-- writes of a key by one transaction alone have locks that don't conflict with another's
+pub losers_apart : (log : List Record) → AreLawful log → (t u : ℕ) → t ≢ u → meets (map point_lock (open_writes log t)) (map point_lock (open_writes log u)) ≡ false
+losers_apart log sound t u n =
+    let kept = kept_log log sound in
+    false_unless (meets (map point_lock (open_writes log t)) (map point_lock (open_writes log u))) (λ h.
+    let m = met (open_writes log t) (open_writes log u) (get (committed log)) (get (committed log)) (kept.olds t) (kept.olds u) h in
+    n (kept.apart m.0 t u m.1 m.2))
+
+all_or_none : (b : Bool) (ws : List Record) → IsWithin (loser_locks b ws) (map point_lock ws)
+all_or_none true ws p h = h
+all_or_none false ws p h = absurd cc
+
+pub losers_free : (log : List Record) → AreLawful log → (t u : ℕ) → t ≢ u → meets (loser_locks (is_loser log t) (open_writes log t)) (loser_locks (is_loser log u) (open_writes log u)) ≡ false
+losers_free log sound t u n = meets_less _ _ _ _ (all_or_none (is_loser log t) (open_writes log t)) (all_or_none (is_loser log u) (open_writes log u)) (losers_apart log sound t u n)
+
 pub loser_locks_apart : (log : List Record) → LoserLocksLaw log
-loser_locks_apart log = record {
-  apart = λ sound t u n. let kept = kept_log log sound in
-      false_unless (meets (map point_lock (open_writes log t)) (map point_lock (open_writes log u))) (λ h.
-      let m = met (open_writes log t) (open_writes log u) (get (committed log)) (get (committed log)) (kept.olds t) (kept.olds u) h in
-      n (kept.apart m.0 t u m.1 m.2));
-}
+loser_locks_apart log = record { apart = losers_apart log }

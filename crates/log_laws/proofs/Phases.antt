@@ -5,6 +5,7 @@ use Rattle.std.specs.List.{list_any}
 use Rattle.std.proofs.Math.Nat.{le-max_left, le-max_right}
 use Rattle.std.proofs.lemmas.Bool.{eqb-true}
 use Rattle.std.proofs.lemmas.List.Folds.{list_any-append}
+use Rattle.store_model.proofs.Bools.{or_right, not_both}
 use Rattle.wal_record.specs.declared.record.Record.{Record}
 use Rattle.wal_record.specs.declared.record.Record.TheVariants as kinds
 use Rattle.wal_record.specs.declared.entry.Entry.{Entry}
@@ -16,7 +17,6 @@ use Rattle.wal_record.specs.History.{log_of, Phase, Idle, Live, Committed, Ackno
 use Rattle.wal_record.specs.Legal.{IsAllowed, IsLegal}
 use Rattle.log_laws.specs.Phases.{begins, LiveLaw}
 use Rattle.log_laws.proofs.Steps.{by_pushes}
-use Rattle.log_laws.proofs.Central.{not_both, or_right}
 use Rattle.log_laws.proofs.Serial.{log_of_push, phase_push, legal_front, after_legal}
 
 -- begun, and over

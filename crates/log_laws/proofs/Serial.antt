@@ -1,4 +1,4 @@
--- The committed_transactions transactions, one after the other, have the replies that were said.
+-- The committed transactions, one after the other, have the replies that were said.
 use Rattle.std.proofs.Common.{◌≡◌, ◌≢◌, ℕ, Bool, true, false, cond, eqb, List, [], ◌∷◌, ◌++◌, Option, Some, None, refl, sym, ap, subst, ◌∙◌, arith, append_assoc, inl, inr}
 use Rattle.std.specs.Prelude.{◌&&◌, max, fold, ◌<◌, ◌||◌}
 use Rattle.std.specs.List.{list_any}
@@ -13,6 +13,7 @@ use Rattle.store_model.specs.Contents.{Contents}
 use Rattle.store_model.specs.declared.request.Request.{Request}
 use Rattle.store_model.specs.declared.request.Request.TheVariants as requests
 use Rattle.store_model.specs.declared.reply.Reply.{Reply}
+use Rattle.store_model.proofs.Bools.{both_true, or_right, not_both, false_unless}
 use Rattle.wal_record.specs.declared.record.Record.{Record}
 use Rattle.wal_record.specs.declared.record.Record.TheVariants as kinds
 use Rattle.wal_record.specs.declared.record.Undo.{Undo}
@@ -31,8 +32,9 @@ use Rattle.wal_record.specs.Serial.{Runs, Serial}
 use Rattle.wal_record.specs.Legal.{untold_step, untold, ReplyRule, MayUndo, RecordRule, IsAllowed, IsLegal}
 use Rattle.log_laws.specs.Serial.{SerialLaw}
 use Rattle.log_laws.proofs.Steps.{along_push, AllAlong_front, by_pushes, current_push, open_push, committed_push, greatest_push, sound_back}
-use Rattle.log_laws.proofs.Central.{only, opens_in, with_item, with_front, Kept_undo, not_both, false_unless, or_right, front_left, emptied, taken_key, taken_old, opened_still, kept_log}
-use Rattle.log_laws.proofs.Locked.{both_true, write_covers, covered, in_point, loser_holds, loser_opens, loser_fewer}
+use Rattle.log_laws.proofs.Central.{only, opens_in, with_item, with_front, Kept_undo, front_left, emptied, taken_key, taken_old, opened_still, kept_log}
+use Rattle.log_laws.proofs.Locked.{write_covers, covered, in_point, loser_holds, loser_opens, loser_fewer}
+use Rattle.log_laws.proofs.LoserLocks.{losers_free}
 use Rattle.log_laws.proofs.Runs.{stack, told_step, told_is, write_answer, apply_answer, get_answer, scan_answer, del_answer, Serial_then, serial_is}
 use Rattle.log_laws.proofs.Told.{Told, live_not_idle, Told_began, Told_lock, Told_item, Told_undo, Told_commit, Told_end, Told_acked, Told_write_said, Told_read_said}
 
@@ -438,6 +440,7 @@ at_start opening sound =
       apart = λ t u key n h. false_unless _ (λ g. n (kept.apart key t u
           (loser_opens (is_loser opening t) (open_writes opening t) key (get (committed opening)) (kept.olds t) (write_covers (loser_locks (is_loser opening t) (open_writes opening t)) key h))
           (loser_opens (is_loser opening u) (open_writes opening u) key (get (committed opening)) (kept.olds u) g)));
+      free = losers_free opening sound;
       runs = λ t p n h. absurd (live_not_idle Idle p refl);
       new = λ t p. absurd (live_not_idle Idle p refl);
       fresh = λ t a b. (refl, none_open opening t a, refl);

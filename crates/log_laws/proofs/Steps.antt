@@ -1,12 +1,12 @@
 -- One item more at the end.
-use Rattle.std.proofs.Common.{◌≡◌, ℕ, List, [], ◌∷◌, ◌++◌, sym, ap, subst, ◌∙◌, append_assoc}
-use Rattle.std.specs.Prelude.{max}
+use Rattle.std.proofs.Common.{◌≡◌, ℕ, cond, List, [], ◌∷◌, ◌++◌, sym, ap, subst, ◌∙◌, append_assoc}
+use Rattle.std.specs.Prelude.{max, length, ◌+◌}
 use Rattle.std.proofs.lemmas.List.{append-nil}
 use Rattle.wal_record.specs.declared.record.Record.{Record}
 use Rattle.store_model.specs.Along.{along_from, along, AllFrom, AllAlong}
 use Rattle.wal_record.specs.Contents.{after, current, committed_step, committed}
 use Rattle.wal_record.specs.OpenWrites.{open_step, open_writes}
-use Rattle.wal_record.specs.Chains.{tx_or_none, link_of, greatest}
+use Rattle.wal_record.specs.Chains.{names, head, tx_or_none, link_of, greatest}
 use Rattle.wal_record.specs.Sound.{IsLawful, AreLawful}
 
 module _ {A S : Type 0} where
@@ -38,6 +38,14 @@ module _ {A : Type 0} where
   pub AllAlong_back : (P : List A → A → Type 0) (xs : List A) (x : A) → AllAlong P xs → P xs x → AllAlong P (xs ++ x ∷ [])
   unfolding AllAlong
   AllAlong_back P xs x h g = AllFrom_back P [] xs x h g
+
+  AllFrom_less : (P : List A → A → Type 0) (before xs ys : List A) → AllFrom P before (xs ++ ys) → AllFrom P before xs
+  AllFrom_less P before [] ys h = tt
+  AllFrom_less P before (x ∷ xs) ys h = (h.0, AllFrom_less P (before ++ x ∷ []) xs ys h.1)
+
+  pub AllAlong_less : (P : List A → A → Type 0) (xs ys : List A) → AllAlong P (xs ++ ys) → AllAlong P xs
+  unfolding AllAlong
+  AllAlong_less P xs ys h = AllFrom_less P [] xs ys h
 
   AllFrom_more : (P Q : List A → A → Type 0) → ((xs : List A) (x : A) → P xs x → Q xs x) → (before xs : List A) → AllFrom P before xs → AllFrom Q before xs
   AllFrom_more P Q h before [] a = tt
@@ -76,3 +84,7 @@ greatest_push log r = along_push _ _ log r
 
 pub sound_back : (log : List Record) (r : Record) → AreLawful log → IsLawful log r → AreLawful (log ++ r ∷ [])
 sound_back log r h g = AllAlong_back IsLawful log r h g
+
+pub head_push : (log : List Record) (r : Record) (p : ℕ) → head (log ++ r ∷ []) p ≡ cond (names p r) (length log + 1) (head log p)
+unfolding head
+head_push log r p = along_push _ _ log r

@@ -11,6 +11,7 @@ use Rattle.std.proofs.lemmas.List.Folds.{list_any-append}
 use Rattle.store_model.specs.Contents.{Contents}
 use Rattle.store_model.specs.declared.request.Request.{Request}
 use Rattle.store_model.specs.declared.reply.Reply.{Reply}
+use Rattle.store_model.proofs.Bools.{or_left, or_right, not_both, false_unless}
 use Rattle.wal_record.specs.declared.record.Record.{Record}
 use Rattle.wal_record.specs.declared.record.Record.TheVariants as kinds
 use Rattle.wal_record.specs.declared.record.Undo.{Undo}
@@ -22,8 +23,9 @@ use Rattle.wal_record.specs.Locks.{Held, conflict, covers_key, covers_write}
 use Rattle.wal_record.specs.Steps.{Step, Asked, Back}
 use Rattle.wal_record.specs.Serial.{Change, Runs}
 use Rattle.wal_record.specs.Chains.{tx_of}
-use Rattle.log_laws.proofs.Central.{value_after, opens_in, Alone, IsChange, with_item, with_front, with_commit, Kept, parts, get-fold, untouched, not_both, false_unless, differ, open_before, Kept_item, Kept_undo, Kept_commit, or_left, or_right, own_key}
-use Rattle.log_laws.proofs.Locked.{writer_apart, reader_apart, write_covers}
+use Rattle.log_laws.specs.Locks.{meets}
+use Rattle.log_laws.proofs.Central.{value_after, opens_in, Alone, IsChange, with_item, with_front, with_commit, Kept, parts, get-fold, untouched, differ, open_before, Kept_item, Kept_undo, Kept_commit, own_key}
+use Rattle.log_laws.proofs.Locked.{meets_more, meets_less, IsWithin, writer_apart, reader_apart, write_covers}
 use Rattle.log_laws.proofs.Runs.{change_of, stack, stack_push, Runs_then, told_step, back_answer}
 
 abbrev pub untold_steps : Option Record → ℕ → List Step
@@ -43,7 +45,9 @@ pub record Told (first last : ℕ) (m : Contents) (o : ℕ → List Record) (off
   pub kept : Kept m o off
   pub holds : (t : ℕ) (key : List ℕ) → opens_in o key t ≡ true → list_any (covers_write key) (ls t) ≡ true
   pub apart : (t u : ℕ) (key : List ℕ) → t ≢ u → list_any (covers_write key) (ls t) ≡ true → list_any (covers_key key) (ls u) ≡ false
-  -- a live transaction's steps run on all contents that agree with the committed_transactions ones at its locked keys
+  -- no lock of one conflicts with one of another
+  pub free : (t u : ℕ) → t ≢ u → meets (ls t) (ls u) ≡ false
+  -- a live transaction's steps run on all contents that agree with the committed ones at its locked keys
   pub runs : (t : ℕ) → ph t ≡ Live → (n : Contents) → ((key : List ℕ) → Reads ls t key → get n key ≡ get off key) → Runs n [] (st t ++ untold_steps d t) (fold after n (o t)) (stack (o t))
   pub new : (t : ℕ) → ph t ≡ Live → first < t
   pub fresh : (t : ℕ) → first < t → last < t → (ph t ≡ Idle) × (o t ≡ []) × (st t ≡ [])
@@ -69,6 +73,10 @@ max_below a b t h = let l = le-max_left a b in let r = le-max_right a b in (omeg
 last_any : (ws : List Record) (w : Record) (p : Record → Bool) → p w ≡ true → list_any p (ws ++ w ∷ []) ≡ true
 last_any ws w p h = list_any-append p ws (w ∷ []) ∙ or_right (list_any p ws) (p w || false) (or_left (p w) false h)
 
+none_or_all : (b : Bool) (ls : List Held) → IsWithin (cond b [] ls) ls
+none_or_all true ls p h = absurd cc
+none_or_all false ls p h = h
+
 module _ (first last : ℕ) (m : Contents) (o : ℕ → List Record) (off : Contents) (ph : ℕ → Phase) (ls : ℕ → List Held) (st : ℕ → List Step) where
   -- the contents at a key that a transaction has locked
   locked_value : (d : Option Record) → Told first last m o off ph ls st d → (t : ℕ) (key : List ℕ) → Reads ls t key → get m key ≡ fold (value_after key) (get off key) (o t)
@@ -84,6 +92,7 @@ module _ (first last : ℕ) (m : Contents) (o : ℕ → List Record) (off : Cont
     kept = told.kept;
     holds = told.holds;
     apart = told.apart;
+    free = told.free;
     runs = λ t. by t (eqb tx t) refl;
     new = λ t. new t (eqb tx t) refl;
     fresh = λ t a b. fresh t a b (eqb tx t) refl;
@@ -115,6 +124,7 @@ module _ (first last : ℕ) (m : Contents) (o : ℕ → List Record) (off : Cont
     kept = told.kept;
     holds = λ t key h. wider (covers_write key) t (eqb tx t) (told.holds t key h);
     apart = λ t u key n h. far t u key n (eqb tx t) (eqb tx u) refl refl h;
+    free = λ t u n. clear t u n (eqb tx t) (eqb tx u) refl refl;
     runs = λ t p n h. told.runs t p n (λ key g. h key (wider (covers_key key) t (eqb tx t) g));
     new = told.new;
     fresh = told.fresh;
@@ -125,6 +135,12 @@ module _ (first last : ℕ) (m : Contents) (o : ℕ → List Record) (off : Cont
       held : (p : Held → Bool) (t : ℕ) → first < t → (b : Bool) → eqb tx t ≡ b → list_any p (cond b (l ∷ ls t) (ls t)) ≡ true → ph t ≡ Live
       held p t a true e h = subst (λ (u : ℕ). ph u ≡ Live) (eqb-true tx t e) live
       held p t a false e h = told.held p t a h
+
+      clear : (t u : ℕ) → t ≢ u → (b c : Bool) → eqb tx t ≡ b → eqb tx u ≡ c → meets (cond b (l ∷ ls t) (ls t)) (cond c (l ∷ ls u) (ls u)) ≡ false
+      clear t u n true true e g = absurd (n (sym (eqb-true tx t e) ∙ eqb-true tx u g))
+      clear t u n true false e g = ap (λ (b : Bool). b || meets (ls t) (ls u)) (free u (λ s. differ tx u g (sym s))) ∙ told.free t u n
+      clear t u n false true e g = meets_more (ls t) (ls u) l (free t (λ s. differ tx t e (sym s))) (told.free t u n)
+      clear t u n false false e g = told.free t u n
 
       wider : (p : Held → Bool) (t : ℕ) (b : Bool) → list_any p (ls t) ≡ true → list_any p (cond b (l ∷ ls t) (ls t)) ≡ true
       wider p t true h = elim (p l) as (λ c. (c || list_any p (ls t)) ≡ true) [ true ↦ refl | false ↦ h ]
@@ -162,6 +178,7 @@ module _ (first last : ℕ) (m : Contents) (o : ℕ → List Record) (off : Cont
       | inr g ↦ subst (λ (k : List ℕ). list_any (covers_write k) (ls t) ≡ true) (sym g.1) (subst (λ (u : ℕ). list_any (covers_write (key_of r)) (ls u) ≡ true) g.0 locked)
     ];
     apart = told.apart;
+    free = told.free;
     runs = λ t p n h. by t p n h (eqb (tx_of r) t) refl;
     new = told.new;
     fresh = λ t a b. still t a b (eqb (tx_of r) t) refl;
@@ -206,6 +223,7 @@ module _ (first last : ℕ) (m : Contents) (o : ℕ → List Record) (off : Cont
     kept = Kept_undo m o off told.kept u front w split at back;
     holds = holds;
     apart = λ t v key n h. false_unless (list_any (covers_key key) (less v)) (λ g. not_both (list_any (covers_key key) (ls v)) (fewer (covers_key key) v g) (told.apart t v key n (fewer (covers_write key) t h)));
+    free = λ t v n. meets_less (ls t) (ls v) (less t) (less v) (λ p. fewer p t) (λ p. fewer p v) (told.free t v n);
     runs = λ t p n h. subst (λ (ss : List Step). Runs n [] ss (fold after n (with_front o u.tx front t)) (stack (with_front o u.tx front t))) (sym (append-nil (with_step u.tx Back t)))
         (by t p n (λ key g. h key (subst (λ (x : List Held). list_any (covers_key key) x ≡ true) (sym (same t p)) g)) (eqb u.tx t) refl);
     new = told.new;
@@ -238,6 +256,7 @@ module _ (first last : ℕ) (m : Contents) (o : ℕ → List Record) (off : Cont
     kept = Kept_commit m o off told.kept c;
     holds = λ t key. held t key (eqb c.tx t);
     apart = λ t u key n. far t u key n (eqb c.tx t) (eqb c.tx u);
+    free = λ t u n. meets_less (ls t) (ls u) _ _ (none_or_all (eqb c.tx t) (ls t)) (none_or_all (eqb c.tx u) (ls u)) (told.free t u n);
     runs = λ t. by t (eqb c.tx t) refl;
     new = λ t. new t (eqb c.tx t);
     fresh = λ t a b. still t a b (eqb c.tx t) refl;
@@ -280,6 +299,7 @@ module _ (first last : ℕ) (m : Contents) (o : ℕ → List Record) (off : Cont
     kept = told.kept;
     holds = λ t key. held t key (eqb tx t) refl;
     apart = λ t u key n. far t u key n (eqb tx t) (eqb tx u);
+    free = λ t u n. meets_less (ls t) (ls u) _ _ (none_or_all (eqb tx t) (ls t)) (none_or_all (eqb tx u) (ls u)) (told.free t u n);
     runs = λ t. by t (eqb tx t);
     new = λ t. new t (eqb tx t);
     fresh = λ t a b. still t a b (eqb tx t) refl;
@@ -318,6 +338,7 @@ module _ (first last : ℕ) (m : Contents) (o : ℕ → List Record) (off : Cont
     kept = told.kept;
     holds = told.holds;
     apart = told.apart;
+    free = told.free;
     runs = λ t. by t (eqb tx t);
     new = λ t. new t (eqb tx t);
     fresh = λ t a b. still t a b (eqb tx t) refl;
@@ -348,6 +369,7 @@ module _ (first last : ℕ) (m : Contents) (o : ℕ → List Record) (off : Cont
     kept = told.kept;
     holds = told.holds;
     apart = told.apart;
+    free = told.free;
     runs = λ t p n h. subst (λ (ss : List Step). Runs n [] ss (fold after n (o t)) (stack (o t))) (sym (append-nil (with_step (tx_of r) (told_step r) t))) (told.runs t p n h);
     new = told.new;
     fresh = λ t a b. ((told.fresh t a b).0, (told.fresh t a b).1, step_fresh (Some r) told (tx_of r) (told_step r) (λ _ i. live_not_idle (ph (tx_of r)) live i) t a b);
@@ -363,6 +385,7 @@ module _ (first last : ℕ) (m : Contents) (o : ℕ → List Record) (off : Cont
     kept = told.kept;
     holds = told.holds;
     apart = told.apart;
+    free = told.free;
     runs = λ t p n h. subst (λ (ss : List Step). Runs n [] ss (fold after n (o t)) (stack (o t))) (sym (append-nil (with_step tx (Asked request reply) t))) (by t p n h (eqb tx t) refl);
     new = told.new;
     fresh = λ t a b. ((told.fresh t a b).0, (told.fresh t a b).1, step_fresh None told tx (Asked request reply) (λ _ i. live_not_idle (ph tx) live i) t a b);

@@ -1,5 +1,5 @@
 -- The central law: how the current and the committed contents of a log agree.
-use Rattle.std.specs.Prelude.{◌≡◌, ℕ, List, [], ◌∷◌, fold, filter, true, false}
+use Rattle.std.specs.Prelude.{◌≡◌, ℕ, List, ◌∷◌, fold, filter, true, false}
 use Rattle.std.specs.FinMap as finite
 use Rattle.wal_record.specs.OpenWrites.{open_writes, opens, writes, old_of}
 use Rattle.wal_record.specs.Contents.{current, committed, given}

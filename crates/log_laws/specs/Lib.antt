@@ -4,3 +4,4 @@ pub mod Serial
 pub mod Left
 pub mod Locks
 pub mod Phases
+pub mod Beginnings

@@ -2,7 +2,7 @@
 use Rattle.std.specs.Prelude.{◌≡◌, ◌≢◌, ℕ, map, List, [], ◌∷◌, ◌++◌, is_some, ◌||◌, Bool, true, false, IsTrue}
 use Rattle.std.specs.List.{list_any}
 use Rattle.std.specs.FinMap as finite
-use Rattle.wal_record.specs.OpenWrites.{open_writes, key_of, old_of, IsAlone}
+use Rattle.wal_record.specs.OpenWrites.{open_writes, key_of, old_of, opens, IsAlone}
 use Rattle.wal_record.specs.Contents.{current, given}
 use Rattle.wal_record.specs.Sound.{AreLawful}
 use Rattle.wal_record.specs.History.{life_log}
@@ -25,6 +25,12 @@ pub record EnteringLaw (opening : List Record) (h : List Entry) : Type 0 where
 -- a lock of one list conflicts with one of the other
 abbrev pub meets : List Held → List Held → Bool
 meets ls ks = list_any (λ (l : Held). list_any (conflict l) ks) ls
+
+pub record LocksLaw (opening : List Record) (h : List Entry) : Type 0 where
+  -- no lock that one transaction holds conflicts with one of another: nothing is held twice in conflict
+  pub free : AreLawful opening → IsLegal opening h → (t u : ℕ) → t ≢ u → meets (locks opening h t) (locks opening h u) ≡ false
+  -- who has an open write of a key has locked it for writing, losers among them
+  pub holds : AreLawful opening → IsLegal opening h → (t : ℕ) (key : List ℕ) → opens (life_log opening h) key t ≡ true → list_any (covers_write key) (locks opening h t) ≡ true
 
 -- the locks that the losers of a log come back with don't conflict
 pub record LoserLocksLaw (log : List Record) : Type 0 where

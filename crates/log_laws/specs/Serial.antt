@@ -1,5 +1,5 @@
 -- The serial law: a legal history is one of a one-thread ordered map.
-use Rattle.std.specs.Prelude.{◌≡◌, List, ◌++◌, Some}
+use Rattle.std.specs.Prelude.{◌≡◌, List, Some}
 use Rattle.wal_record.specs.Contents.{committed}
 use Rattle.wal_record.specs.Sound.{AreLawful}
 use Rattle.wal_record.specs.History.{life_log}

@@ -5,14 +5,15 @@
 //! one, and of every legal history, with all kinds of records and entries in them.
 #![tactic(auto)]
 
-ghost use Rattle.std.specs.Prelude.{List};
+ghost use Rattle.std.specs.Prelude.{List, ℕ};
 ghost use Rattle.wal_record.specs.declared.entry.Entry.{Entry};
 ghost use Rattle.wal_record.specs.declared.record.Record.{Record};
 ghost use Rattle.wal_record.specs.declared.record.Undo.{Undo};
 ghost use Rattle.wal_record.specs.Left.{Life};
+ghost use Rattle.log_laws.specs.Beginnings.{BeginningLaw, BeginningOfHistoryLaw, CommitsLaw, OwnWritesLaw};
 ghost use Rattle.log_laws.specs.Central.{CentralLaw};
 ghost use Rattle.log_laws.specs.Left.{LeftLaw, LivesLaw};
-ghost use Rattle.log_laws.specs.Locks.{EnteringLaw, LoserLocksLaw};
+ghost use Rattle.log_laws.specs.Locks.{EnteringLaw, LocksLaw, LoserLocksLaw};
 ghost use Rattle.log_laws.specs.Phases.{LiveLaw, StepsLaw};
 ghost use Rattle.log_laws.specs.Room.{PendingLaw, UndoRoomLaw};
 ghost use Rattle.log_laws.specs.Serial.{SerialLaw};
@@ -72,4 +73,30 @@ pub fn live_law()
 /// A committed transaction has no step after its commit.
 pub fn steps_law()
     ensures { (opening : List Record) (history : List Entry) → StepsLaw opening history }
+{}
+
+/// No two transactions of a legal history hold conflicting locks, losers among them, and who has an
+/// open write of a key has locked it.
+pub fn locks_law()
+    ensures { (opening : List Record) (history : List Entry) → LocksLaw opening history }
+{}
+
+/// A beginning of a sound log that has kept its room is sound, and page heads never fall.
+pub fn beginning_law()
+    ensures { (log rest : List Record) → BeginningLaw log rest }
+{}
+
+/// A beginning of a legal history is legal.
+pub fn beginning_of_history_law()
+    ensures { (opening : List Record) (history rest : List Entry) → BeginningOfHistoryLaw opening history rest }
+{}
+
+/// The open writes of a transaction are among its records.
+pub fn own_writes_law()
+    ensures { (log : List Record) (tx : ℕ) → OwnWritesLaw log tx }
+{}
+
+/// Only a commit changes the committed contents.
+pub fn commits_law()
+    ensures { (log : List Record) (r : Record) → CommitsLaw log r }
 {}
