@@ -1,0 +1,15 @@
+pub mod Keys
+pub mod Counts
+pub mod Change
+pub mod RowLaws
+pub mod LeafKinds
+pub mod Start
+pub mod GrowKind
+pub mod BranchLaws
+pub mod SplitKind
+pub mod AdoptRows
+pub mod AdoptKind
+pub mod Meanings
+pub mod Whole
+pub mod DescentLaws
+pub mod ScanLaws
