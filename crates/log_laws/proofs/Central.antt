@@ -25,7 +25,7 @@ use Rattle.wal_record.specs.Contents.{after, current, committed_step, committed,
 use Rattle.wal_record.specs.OpenWrites.{open_step, open_writes, writes, opens, key_of, old_of, without_last}
 use Rattle.wal_record.specs.State.{same_key}
 use Rattle.wal_record.specs.Sound.{TakesBack, IsLawful, AreLawful}
-use Rattle.log_laws.specs.Central.{IsOpenBy, CentralLaw}
+use Rattle.log_laws.specs.Central.{IsOpenBy, Agree, CentralLaw}
 use Rattle.log_laws.proofs.Steps.{by_pushes, current_push, open_push, committed_push, sound_front}
 
 -- ---- one record at one key
@@ -134,7 +134,7 @@ first_old val key (x ∷ ws) g h = by (first_old (λ k. value_after k (val k) x)
     by more true e h = (x, filter (writes key) ws, refl, g.1 ∙ ap val (sym (equal_key key (key_of x) (sym (g.0 key) ∙ e))))
     by more false e h = let f = more h in (f.0, f.1, f.2, f.3 ∙ ap (λ (b : Bool). cond b (given (val key) x) (val key)) e)
 
--- ---- what each record keeps, over contents, open writes and committed_transactions contents
+-- ---- what each record keeps, over contents, open writes and committed contents
 
 abbrev pub opens_in : (ℕ → List Record) → List ℕ → ℕ → Bool
 opens_in o key t = list_any (writes key) (o t)
@@ -451,9 +451,12 @@ open_by log k key t h =
           ∙ ap (fold given (old_of f.0)) f.2;
     }
 
-pub central : (log : List Record) → CentralLaw log
-central log = record {
-  closed = λ sound key none. (kept_log log sound).value key 0 (λ other _. none other) ∙ untouched key (open_writes log 0) (get (committed log) key) (none 0);
-  open_by = λ sound. open_by log (kept_log log sound);
-  alone = λ sound. (kept_log log sound).apart;
+pub agree : (log : List Record) → KeptLog log → Agree log
+agree log kept = record {
+  closed = λ key none. kept.value key 0 (λ other _. none other) ∙ untouched key (open_writes log 0) (get (committed log) key) (none 0);
+  open_by = open_by log kept;
+  alone = kept.apart;
 }
+
+pub central : (log : List Record) → CentralLaw log
+central log sound = agree log (kept_log log sound)

@@ -2,6 +2,7 @@
 use Rattle.std.proofs.Common.{◌≡◌, ℕ, Bool, true, false, cond, eqb, List, [], ◌∷◌, ◌++◌, refl, sym, ap, subst, ◌∙◌, arith, append_assoc}
 use Rattle.std.specs.Prelude.{suc, ◌+◌, ◌<◌, ◌||◌, length, take}
 use Rattle.std.specs.List.{list_any}
+use Rattle.std.specs.Option.{option_map}
 use Rattle.std.proofs.Math.Seq.{take-append_seam}
 use Rattle.std.proofs.lemmas.Bool.{eqb-true}
 use Rattle.std.proofs.lemmas.List.{append-nil, length-append}
@@ -17,13 +18,14 @@ use Rattle.wal_record.specs.Chains.{greatest, tx_or_none, link_of}
 use Rattle.wal_record.specs.Sound.{AreLawful}
 use Rattle.wal_record.specs.History.{log_of, Phase, Idle, Live, Committed, Acknowledged, Ended, phase_step, phase}
 use Rattle.wal_record.specs.Steps.{Finished, finished_step, committed_transactions, steps}
-use Rattle.wal_record.specs.Serial.{Serial}
+use Rattle.wal_record.specs.Serial.{Serial, Result}
 use Rattle.wal_record.specs.Legal.{IsAllowed, IsLegal}
 use Rattle.wal_record.specs.Checkpoints.{commits}
 use Rattle.wal_record.specs.Left.{is_commit_of, acknowledges, IsLeft, Life, AreLives, last_log, kept_of}
 use Rattle.log_laws.specs.Left.{LeftLaw, LivesLaw}
 use Rattle.log_laws.proofs.Steps.{AllAlong_less, by_pushes, greatest_push}
 use Rattle.log_laws.proofs.Central.{either}
+use Rattle.log_laws.proofs.Runs.{serial_is}
 use Rattle.log_laws.proofs.Serial.{log_of_push, phase_push, transactions_push, legal_front, max_less, less_differ, after_legal}
 
 -- ---- prefixes
@@ -58,7 +60,7 @@ cut (Rec lsn s ∷ es) (r ∷ own) lost e =
     cut_with (Rec lsn s) es own (r ∷ own) (cut es own lost (ap rest_of e)) (ap (λ (x : Record). x ∷ own) (ap (first_or s) e))
 cut (x ∷ es) (r ∷ own) lost e = cut_with x es (r ∷ own) (r ∷ own) (cut es (r ∷ own) lost e) refl
 
--- ---- the committed_transactions of a prefix
+-- ---- the committed transactions of a beginning
 
 record Longer (ts us : List Finished) : Type 0 where
   more : List Finished
@@ -117,7 +119,7 @@ named t = by_pushes (λ (h : List Entry). list_any (λ (f : Finished). eqb f.tx 
     ap (list_any (λ (f : Finished). eqb f.tx t)) (transactions_push h e) ∙ named_step t h e (committed_transactions h) ∙ ap (λ (b : Bool). b || list_any (is_commit_of t) (log_of (e ∷ []))) before
     ∙ sym (ap (list_any (is_commit_of t)) (log_of_push h e) ∙ list_any-append (is_commit_of t) (log_of h) (log_of (e ∷ []))))
 
--- a committed_transactions transaction is new in this life
+-- a committed transaction is new in this life
 unless : (b : Bool) (q p : Phase) → (q ≡ Committed → ⊥) → cond b q p ≡ Committed → p ≡ Committed
 unless true q p differs h = absurd (differs h)
 unless false q p differs h = h
@@ -196,7 +198,8 @@ module _ (opening : List Record) (h : List Entry) (own : List Record) (sound : A
 
 pub left_law : (opening : List Record) (h : List Entry) (own : List Record) → LeftLaw opening h own
 left_law opening h own = record {
-  serial = λ sound legal left. left_serial opening h own sound legal left;
+  relation = λ sound legal left. left_serial opening h own sound legal left;
+  result = λ sound legal left. ap (option_map (λ (r : Result). r.contents)) (serial_is (committed opening) (take (commits own) (committed_transactions h)) (committed (opening ++ own)) (left_serial opening h own sound legal left));
   acknowledged = λ sound legal left. left_acknowledged opening h own sound legal left;
 }
 

@@ -59,7 +59,7 @@ point_above : (key : List ℕ) → is_below (Some key) (Some (key ++ 0 ∷ [])) 
 point_above key = below_longer key 0
 
 -- a key below a bound is below one that isn't below that bound
-above : (k : List ℕ) (high top : Option (List ℕ)) → is_below (Some k) high ≡ true → is_below top high ≡ false → is_below (Some k) top ≡ true
+pub above : (k : List ℕ) (high top : Option (List ℕ)) → is_below (Some k) high ≡ true → is_below top high ≡ false → is_below (Some k) top ≡ true
 above k high None p q = refl
 above k high (Some t) p q = by (slice_cmp nat_cmp k t) refl
   where

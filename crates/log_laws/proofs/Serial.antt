@@ -30,9 +30,10 @@ use Rattle.wal_record.specs.History.{log_of, Beginning, beginnings, is_owner, Ph
 use Rattle.wal_record.specs.Steps.{Step, Asked, step_of, steps, Finished, finished_step, committed_transactions}
 use Rattle.wal_record.specs.Serial.{Runs, Serial}
 use Rattle.wal_record.specs.Legal.{untold_step, untold, ReplyRule, MayUndo, RecordRule, IsAllowed, IsLegal}
+use Rattle.log_laws.specs.Central.{CentralLawOfLives}
 use Rattle.log_laws.specs.Serial.{SerialLaw}
 use Rattle.log_laws.proofs.Steps.{along_push, AllAlong_front, by_pushes, current_push, open_push, committed_push, greatest_push, sound_back}
-use Rattle.log_laws.proofs.Central.{only, opens_in, with_item, with_front, Kept_undo, front_left, emptied, taken_key, taken_old, opened_still, kept_log}
+use Rattle.log_laws.proofs.Central.{agree, only, opens_in, with_item, with_front, Kept_undo, front_left, emptied, taken_key, taken_old, opened_still, kept_log}
 use Rattle.log_laws.proofs.Locked.{write_covers, covered, in_point, loser_holds, loser_opens, loser_fewer}
 use Rattle.log_laws.proofs.LoserLocks.{losers_free}
 use Rattle.log_laws.proofs.Runs.{stack, told_step, told_is, write_answer, apply_answer, get_answer, scan_answer, del_answer, Serial_then, serial_is}
@@ -391,7 +392,7 @@ module _ (opening : List Record) (h : List Entry) (told : At opening h) where
       (Told_acked _ _ _ _ _ _ _ _ (undue opening h None ok.rule.told told) tx ok.rule.committed)
   at_more legal (Repaired page) ok = still (Repaired page) ok.rule.told refl (λ t. refl) (λ t. refl) (λ t. refl) refl refl
 
--- ---- the chain of the committed_transactions
+-- ---- the chain of the committed transactions
 
 abbrev Chain : List Record → List Entry → Type 0
 Chain opening h = Serial (committed opening) (committed_transactions h) (committed (opening ++ log_of h))
@@ -479,3 +480,6 @@ serial_all opening h = record {
   relation = λ sound legal. (after_legal opening sound h legal).1;
   result = λ sound legal. serial_is (committed opening) (committed_transactions h) (committed (opening ++ log_of h)) (after_legal opening sound h legal).1;
 }
+
+pub central_of_lives : (opening : List Record) (h : List Entry) → CentralLawOfLives opening h
+central_of_lives opening h sound legal = agree (opening ++ log_of h) (after_legal opening sound h legal).0.kept

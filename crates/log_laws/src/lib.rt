@@ -11,7 +11,7 @@ ghost use Rattle.wal_record.specs.declared.record.Record.{Record};
 ghost use Rattle.wal_record.specs.declared.record.Undo.{Undo};
 ghost use Rattle.wal_record.specs.Left.{Life};
 ghost use Rattle.log_laws.specs.Beginnings.{BeginningLaw, BeginningOfHistoryLaw, CommitsLaw, OwnWritesLaw};
-ghost use Rattle.log_laws.specs.Central.{CentralLaw};
+ghost use Rattle.log_laws.specs.Central.{CentralLaw, CentralLawOfLives};
 ghost use Rattle.log_laws.specs.Left.{LeftLaw, LivesLaw};
 ghost use Rattle.log_laws.specs.Locks.{EnteringLaw, LocksLaw, LoserLocksLaw};
 ghost use Rattle.log_laws.specs.Phases.{LiveLaw, StepsLaw};
@@ -22,6 +22,11 @@ ghost use Rattle.log_laws.specs.Serial.{SerialLaw};
 /// committed ones; else they are what its writer's open writes make of these.
 pub fn central_law()
     ensures { (log : List Record) → CentralLaw log }
+{}
+
+/// The same at every moment of a legal life.
+pub fn central_law_of_lives()
+    ensures { (opening : List Record) (history : List Entry) → CentralLawOfLives opening history }
 {}
 
 /// The serial law: the committed transactions of a legal history, run one after the other from the

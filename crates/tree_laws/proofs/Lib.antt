@@ -13,3 +13,5 @@ pub mod Meanings
 pub mod Whole
 pub mod DescentLaws
 pub mod ScanLaws
+pub mod NeighbourRanges
+pub mod Leaves

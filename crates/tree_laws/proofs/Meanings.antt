@@ -1,5 +1,5 @@
 -- What an operator makes is a value.
-use Rattle.std.proofs.Common.{◌≡◌, ◌<◌, ◌≤◌, ◌+◌, ◌^◌, ℕ, zero, suc, Bool, true, false, cond, List, [], ◌++◌, length, Option, Some, None, refl, nat_eq, nat_lt, nat_le, ltb-true, arith}
+use Rattle.std.proofs.Common.{◌≡◌, ◌<◌, ◌+◌, ◌^◌, ℕ, zero, suc, Bool, true, false, cond, List, [], ◌++◌, length, Option, Some, None, refl, nat_eq, nat_lt, nat_le, ltb-true, arith}
 use Rattle.std.specs.Prelude.{max, option_and_then, unwrap_or}
 use Rattle.std.specs.Option.{option_map}
 use Rattle.std.specs.Cmp.Lexicographic.{pointwise}
@@ -7,7 +7,7 @@ use Rattle.std.specs.Fmt.{decimal}
 use Rattle.std.specs.Str.Parse.{digits_value}
 use Rattle.std.proofs.lemmas.Bool.Decides.{nat_tests}
 use Rattle.std.proofs.lemmas.Fmt.{length-decimal-le}
-use Rattle.store_model.specs.Operator.{number_of, sum_of, short, meaning}
+use Rattle.store_model.specs.Operator.{number_of, sum_of, meaning}
 use Rattle.wal_record.specs.State.{is_value}
 use Rattle.wal_record.specs.Rules.{is_maybe_value}
 

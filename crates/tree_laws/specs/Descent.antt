@@ -1,6 +1,6 @@
 -- The descent law: in the tree of a sound log a descent begins at page 1, and each of its steps leads to
 -- a page between whose fence keys the key lies, until the leaf that has the key.
-use Rattle.std.specs.Prelude.{◌≡◌, ◌≢◌, ℕ, ◌+◌, ◌-◌, List, [], Option, Some, Bool, false, IsTrue, slice_get}
+use Rattle.std.specs.Prelude.{◌≡◌, ◌≢◌, ℕ, ◌+◌, ◌-◌, List, [], Option, Some, false, IsTrue, slice_get}
 use Rattle.std.specs.FinMap as finite
 use Rattle.wal_record.specs.State.{has_own, has_within, own_end, live, leaf_rows, branch_rows, child_at}
 use Rattle.wal_record.specs.Contents.{current}

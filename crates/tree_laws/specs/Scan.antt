@@ -1,6 +1,6 @@
 -- The scan law: a range inside a leaf's own part has exactly the pairs of the leaf's live rows.
-use Rattle.std.specs.Prelude.{◌≡◌, ◌≢◌, ℕ, List, [], ◌∷◌, map, Option, Some, Bool, true, ◌&&◌, not, if◌then◌else◌}
-use Rattle.store_model.specs.Range.{Interval, has_key}
+use Rattle.std.specs.Prelude.{◌≡◌, ◌≢◌, ℕ, List, [], ◌∷◌, ◌++◌, map, Option, Some, Bool, true, false, ◌&&◌, not, if◌then◌else◌}
+use Rattle.store_model.specs.Range.{Interval, has_key, is_below}
 use Rattle.store_model.specs.Contents.{Contents, pair_of, pairs_in}
 use Rattle.wal_record.specs.State.{has_own, leaf_rows}
 use Rattle.wal_record.specs.Contents.{current}
@@ -22,3 +22,8 @@ pub record LeafScan (img : ℕ → Option PageState) (m : Contents) : Type 0 whe
 
 abbrev pub ScanLaw : List Record → Type 0
 ScanLaw log = AreLawful log → log ≢ [] → LeafScan (image log) (current log)
+
+-- the pairs of two neighbouring ranges, one after the other, are those of both together
+pub record NeighboursLaw (low mid high : Option (List ℕ)) (m : Contents) : Type 0 where
+  pub joined : is_below mid low ≡ false → is_below high mid ≡ false
+      → pairs_in (record { low = low; high = mid }) m ++ pairs_in (record { low = mid; high = high }) m ≡ pairs_in (record { low = low; high = high }) m

@@ -4,10 +4,12 @@
 //! wal_record; the statements stand in `specs/`.
 #![tactic(auto)]
 
-ghost use Rattle.std.specs.Prelude.{List};
+ghost use Rattle.std.specs.Prelude.{List, Option, ℕ};
+ghost use Rattle.store_model.specs.Contents.{Contents};
 ghost use Rattle.wal_record.specs.declared.record.Record.{Record};
 ghost use Rattle.tree_laws.specs.Descent.{DescentLaw};
-ghost use Rattle.tree_laws.specs.Scan.{ScanLaw};
+ghost use Rattle.tree_laws.specs.Entering.{LeafLaw};
+ghost use Rattle.tree_laws.specs.Scan.{NeighboursLaw, ScanLaw};
 ghost use Rattle.tree_laws.specs.Tree.{TreeLaw};
 
 /// The tree law: each page of a sound log but the first has one incoming pointer, which agrees with it,
@@ -26,4 +28,15 @@ pub fn descent_law()
 /// live rows.
 pub fn scan_law()
     ensures { (log : List Record) → ScanLaw log }
+{}
+
+/// The pairs of two neighbouring ranges, one after the other, are those of both together.
+pub fn neighbours_law()
+    ensures { (low mid high : Option (List ℕ)) (contents : Contents) → NeighboursLaw low mid high contents }
+{}
+
+/// On the leaf whose own part has the key, the next write of the key finds the value that it has to
+/// name, and the undo of a last open write can be applied where it fits.
+pub fn leaf_law()
+    ensures { (log : List Record) → LeafLaw log }
 {}
