@@ -11,3 +11,4 @@ pub mod Pending
 pub mod Phases
 pub mod AllSteps
 pub mod Beginnings
+pub mod Examples

@@ -15,3 +15,4 @@ pub mod DescentLaws
 pub mod ScanLaws
 pub mod NeighbourRanges
 pub mod Leaves
+pub mod Examples
