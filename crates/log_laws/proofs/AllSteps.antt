@@ -16,10 +16,11 @@ use Rattle.wal_record.specs.Sound.{AreLawful}
 use Rattle.wal_record.specs.History.{Phase, Idle, Live, Committed, Acknowledged, Ended, phase_step, phase, greatest_begun}
 use Rattle.wal_record.specs.Steps.{Step, Asked, Back, step_of, steps, Finished, finished_step, committed_transactions}
 use Rattle.wal_record.specs.Legal.{untold, MayUndo, IsAllowed, IsLegal}
+use Rattle.wal_record.proofs.Along.{by_pushes}
+use Rattle.wal_record.proofs.Pushes.{phase_push, steps_push, transactions_push, legal_front}
 use Rattle.log_laws.specs.Phases.{EachHas, StepsLaw}
-use Rattle.log_laws.proofs.Steps.{by_pushes}
 use Rattle.log_laws.proofs.Central.{eqb_self}
-use Rattle.log_laws.proofs.Serial.{At, steps_push, phase_push, transactions_push, legal_front, no_loser, owner_new, said_live, after_legal}
+use Rattle.log_laws.proofs.Serial.{At, no_loser, owner_new, said_live, after_legal}
 
 abbrev is_past : Phase → Bool
 is_past Idle = false

@@ -12,8 +12,9 @@ use Rattle.wal_record.specs.Legal.{IsAllowed}
 use Rattle.wal_record.specs.declared.record.Record.{Record}
 use Rattle.wal_record.specs.declared.record.Record.TheVariants as kinds
 use Rattle.wal_record.specs.declared.entry.Entry.{Entry}
+use Rattle.wal_record.proofs.Along.{AllAlong_less, by_pushes}
+use Rattle.wal_record.proofs.Pushes.{head_push, open_push, committed_push}
 use Rattle.log_laws.specs.Beginnings.{records_of, is_commit, BeginningLaw, BeginningOfHistoryLaw, OwnWritesLaw, CommitsLaw}
-use Rattle.log_laws.proofs.Steps.{AllAlong_less, by_pushes, head_push, open_push, committed_push}
 
 -- ---- page heads
 

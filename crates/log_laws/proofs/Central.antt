@@ -25,8 +25,9 @@ use Rattle.wal_record.specs.Contents.{after, current, committed_step, committed,
 use Rattle.wal_record.specs.OpenWrites.{open_step, open_writes, writes, opens, key_of, old_of, without_last}
 use Rattle.wal_record.specs.State.{same_key}
 use Rattle.wal_record.specs.Sound.{TakesBack, IsLawful, AreLawful}
+use Rattle.wal_record.proofs.Along.{by_pushes}
+use Rattle.wal_record.proofs.Pushes.{open_push, current_push, committed_push, lawful_front}
 use Rattle.log_laws.specs.Central.{IsOpenBy, Agree, CentralLaw}
-use Rattle.log_laws.proofs.Steps.{by_pushes, current_push, open_push, committed_push, sound_front}
 
 -- ---- one record at one key
 
@@ -436,7 +437,7 @@ kept_more log (kinds.Lost f) h k = arrive log (kinds.Lost f) _ _ (λ t. refl) re
 kept_more log (kinds.Restored f) h k = arrive log (kinds.Restored f) _ _ (λ t. refl) refl k
 
 pub kept_log : (log : List Record) → AreLawful log → KeptLog log
-kept_log = by_pushes (λ log. AreLawful log → KeptLog log) (λ _. kept_none) (λ log r before sound. let parts = sound_front log r sound in kept_more log r parts.1 (before parts.0))
+kept_log = by_pushes (λ log. AreLawful log → KeptLog log) (λ _. kept_none) (λ log r before sound. let parts = lawful_front log r sound in kept_more log r parts.1 (before parts.0))
 
 open_by : (log : List Record) → KeptLog log → (key : List ℕ) (t : ℕ) → opens log key t ≡ true → IsOpenBy log key t
 open_by log k key t h =

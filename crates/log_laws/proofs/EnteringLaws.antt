@@ -17,8 +17,9 @@ use Rattle.wal_record.specs.OpenWrites.{open_step, open_writes, without_last, ke
 use Rattle.wal_record.specs.Sound.{IsLawful, AreLawful}
 use Rattle.wal_record.specs.History.{log_of}
 use Rattle.wal_record.specs.Locks.{covers_key, locks}
+use Rattle.wal_record.proofs.Along.{by_pushes}
+use Rattle.wal_record.proofs.Pushes.{open_push, lawful_front}
 use Rattle.log_laws.specs.Locks.{EnteringLaw, LocksLaw}
-use Rattle.log_laws.proofs.Steps.{by_pushes, open_push, sound_front}
 use Rattle.log_laws.proofs.Central.{value_after, Olds, olds_front, own_key, alone_of, kept_log}
 use Rattle.log_laws.proofs.Locked.{write_covers}
 use Rattle.log_laws.proofs.Serial.{after_legal, sound_after}
@@ -79,7 +80,7 @@ nothing_open t = refl
 
 all_undoable : (log : List Record) → AreLawful log → (t : ℕ) → list_all undoable (open_writes log t) ≡ true
 all_undoable = by_pushes (λ (log : List Record). AreLawful log → (t : ℕ) → list_all undoable (open_writes log t) ≡ true) (λ _ t. nothing_open t)
-    (λ log r before sound t. let parts = sound_front log r sound in
+    (λ log r before sound t. let parts = lawful_front log r sound in
     subst (λ (ws : List Record). list_all undoable ws ≡ true) (sym (open_push log r t)) (undoable_step log r t parts.1 (before parts.0 t)))
 
 pub can_undo : (log : List Record) → AreLawful log → (t : ℕ) (front : List Record) (w : Record) → open_writes log t ≡ front ++ w ∷ [] → (is_some (old_of w) || is_some (get (current log) (key_of w))) ≡ true

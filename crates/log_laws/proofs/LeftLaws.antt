@@ -22,11 +22,12 @@ use Rattle.wal_record.specs.Serial.{Serial, Result}
 use Rattle.wal_record.specs.Legal.{IsAllowed, IsLegal}
 use Rattle.wal_record.specs.Checkpoints.{commits}
 use Rattle.wal_record.specs.Left.{is_commit_of, acknowledges, IsLeft, Life, AreLives, last_log, kept_of}
+use Rattle.wal_record.proofs.Along.{AllAlong_less, by_pushes}
+use Rattle.wal_record.proofs.Pushes.{greatest_push, phase_push, transactions_push, legal_front, log_of_push}
 use Rattle.log_laws.specs.Left.{LeftLaw, LivesLaw}
-use Rattle.log_laws.proofs.Steps.{AllAlong_less, by_pushes, greatest_push}
 use Rattle.log_laws.proofs.Central.{either}
 use Rattle.log_laws.proofs.Runs.{serial_is}
-use Rattle.log_laws.proofs.Serial.{log_of_push, phase_push, transactions_push, legal_front, max_less, less_differ, after_legal}
+use Rattle.log_laws.proofs.Serial.{max_less, less_differ, after_legal}
 
 -- ---- prefixes
 

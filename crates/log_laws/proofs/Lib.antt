@@ -1,4 +1,3 @@
-pub mod Steps
 pub mod Central
 pub mod Locked
 pub mod Runs

@@ -10,8 +10,8 @@ use Rattle.wal_record.specs.declared.record.Record.TheVariants as kinds
 use Rattle.wal_record.specs.OpenWrites.{open_step, open_writes, without_last, sum_to, pending}
 use Rattle.wal_record.specs.Chains.{greatest, tx_or_none, link_of}
 use Rattle.wal_record.specs.Sound.{IsLawful}
+use Rattle.wal_record.proofs.Pushes.{greatest_push, open_push}
 use Rattle.log_laws.specs.Room.{PendingLaw, UndoRoomLaw}
-use Rattle.log_laws.proofs.Steps.{open_push, greatest_push}
 use Rattle.log_laws.proofs.Central.{eqb_differ, eqb_self, differ, front_left}
 use Rattle.log_laws.proofs.Serial.{none_open}
 

@@ -15,9 +15,10 @@ use Rattle.wal_record.specs.Chains.{greatest, finishes}
 use Rattle.wal_record.specs.Sound.{AreLawful}
 use Rattle.wal_record.specs.History.{log_of, Phase, Idle, Live, Committed, Acknowledged, Ended, phase_step, phase, greatest_begun}
 use Rattle.wal_record.specs.Legal.{IsAllowed, IsLegal}
+use Rattle.wal_record.proofs.Along.{by_pushes}
+use Rattle.wal_record.proofs.Pushes.{phase_push, legal_front, log_of_push}
 use Rattle.log_laws.specs.Phases.{begins, LiveLaw}
-use Rattle.log_laws.proofs.Steps.{by_pushes}
-use Rattle.log_laws.proofs.Serial.{log_of_push, phase_push, legal_front, after_legal}
+use Rattle.log_laws.proofs.Serial.{after_legal}
 
 -- begun, and over
 abbrev Means : Phase → Bool → Bool → Type 0

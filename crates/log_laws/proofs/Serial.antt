@@ -30,9 +30,10 @@ use Rattle.wal_record.specs.History.{log_of, Beginning, beginnings, is_owner, Ph
 use Rattle.wal_record.specs.Steps.{Step, Asked, step_of, steps, Finished, finished_step, committed_transactions}
 use Rattle.wal_record.specs.Serial.{Runs, Serial}
 use Rattle.wal_record.specs.Legal.{untold_step, untold, ReplyRule, MayUndo, RecordRule, IsAllowed, IsLegal}
+use Rattle.wal_record.proofs.Along.{by_pushes}
+use Rattle.wal_record.proofs.Pushes.{greatest_push, open_push, current_push, committed_push, phase_push, begun_push, taken_push, untold_push, steps_push, transactions_push, lawful_back, legal_front, log_same, log_more, beginnings_push}
 use Rattle.log_laws.specs.Central.{CentralLawOfLives}
 use Rattle.log_laws.specs.Serial.{SerialLaw}
-use Rattle.log_laws.proofs.Steps.{along_push, AllAlong_front, by_pushes, current_push, open_push, committed_push, greatest_push, sound_back}
 use Rattle.log_laws.proofs.Central.{agree, only, opens_in, with_item, with_front, Kept_undo, front_left, emptied, taken_key, taken_old, opened_still, kept_log}
 use Rattle.log_laws.proofs.Locked.{write_covers, covered, in_point, loser_holds, loser_opens, loser_fewer}
 use Rattle.log_laws.proofs.LoserLocks.{losers_free}
@@ -41,44 +42,9 @@ use Rattle.log_laws.proofs.Told.{Told, live_not_idle, Told_began, Told_lock, Tol
 
 -- ---- one entry more
 
-pub log_of_push : (h : List Entry) (e : Entry) → log_of (h ++ e ∷ []) ≡ log_of h ++ log_of (e ∷ [])
-log_of_push [] e = refl
-log_of_push (Rec lsn r ∷ es) e = ap (λ (rs : List Record). r ∷ rs) (log_of_push es e)
-log_of_push (_ ∷ es) e = log_of_push es e
-
-pub steps_push : (h : List Entry) (e : Entry) (t : ℕ) → steps (h ++ e ∷ []) t ≡ steps h t ++ step_of t e
-unfolding steps
-steps_push h e t = along_push _ _ h e
-
-pub phase_push : (h : List Entry) (e : Entry) (t : ℕ) → phase (h ++ e ∷ []) t ≡ phase_step t (phase h t) e
-unfolding phase
-phase_push h e t = along_push _ _ h e
-
-begun_push : (h : List Entry) (e : Entry) → greatest_begun (h ++ e ∷ []) ≡ begun_step (greatest_begun h) e
-unfolding greatest_begun
-begun_push h e = along_push _ _ h e
-
-taken_push : (h : List Entry) (e : Entry) (t : ℕ) → taken_locks (h ++ e ∷ []) t ≡ locks_step t (taken_locks h t) e
-unfolding taken_locks
-taken_push h e t = along_push _ _ h e
-
-due_push : (h : List Entry) (e : Entry) → untold (h ++ e ∷ []) ≡ untold_step e
-unfolding untold
-due_push h e = along_push _ _ h e
-
-pub transactions_push : (h : List Entry) (e : Entry) → committed_transactions (h ++ e ∷ []) ≡ finished_step h (committed_transactions h) e
-unfolding committed_transactions
-transactions_push h e = along_push _ _ h e
-
 locks_are : (opening : List Record) (h : List Entry) (t : ℕ) → locks opening h t ≡ taken_locks h t ++ loser_locks (is_loser opening t) (open_writes (opening ++ log_of h) t)
 unfolding locks
 locks_are opening h t = refl
-
-pub log_same : (opening : List Record) (h : List Entry) (e : Entry) → log_of (e ∷ []) ≡ [] → opening ++ log_of (h ++ e ∷ []) ≡ opening ++ log_of h
-log_same opening h e none = ap (λ (rs : List Record). opening ++ rs) (log_of_push h e ∙ ap (λ (rs : List Record). log_of h ++ rs) none ∙ append-nil (log_of h))
-
-pub log_more : (opening : List Record) (h : List Entry) (lsn : ℕ) (r : Record) → opening ++ log_of (h ++ Rec lsn r ∷ []) ≡ (opening ++ log_of h) ++ r ∷ []
-log_more opening h lsn r = ap (λ (rs : List Record). opening ++ rs) (log_of_push h (Rec lsn r)) ∙ sym (append_assoc opening (log_of h) (r ∷ []))
 
 -- ---- who is a loser
 
@@ -142,7 +108,7 @@ quiet opening h e ph ls st none p l s told =
     (λ t. phase_push h e t ∙ p t)
     (λ t. locks_are opening (h ++ e ∷ []) t ∙ ap (λ (log : List Record). taken_locks (h ++ e ∷ []) t ++ loser_locks (is_loser opening t) (open_writes log t)) same
     ∙ ap (λ (xs : List Held). xs ++ loser_locks (is_loser opening t) (open_writes (opening ++ log_of h) t)) (taken_push h e t) ∙ l t)
-    (λ t. steps_push h e t ∙ s t) (due_push h e) told
+    (λ t. steps_push h e t ∙ s t) (untold_push h e) told
 
 -- a record
 recorded : (opening : List Record) (h : List Entry) (lsn : ℕ) (r : Record) (o : ℕ → List Record) (off : Contents) (ph : ℕ → Phase) (ls : ℕ → List Held) (st : ℕ → List Step)
@@ -157,21 +123,12 @@ recorded opening h lsn r o off ph ls st eo eoff p l s told =
     (λ t. phase_push h (Rec lsn r) t ∙ p t)
     (λ t. locks_are opening (h ++ Rec lsn r ∷ []) t ∙ ap (λ (ws : List Record). taken_locks (h ++ Rec lsn r ∷ []) t ++ loser_locks (is_loser opening t) ws) (opens t)
     ∙ ap (λ (xs : List Held). xs ++ loser_locks (is_loser opening t) (o t)) (taken_push h (Rec lsn r) t) ∙ l t)
-    (λ t. steps_push h (Rec lsn r) t ∙ s t) (due_push h (Rec lsn r)) told
+    (λ t. steps_push h (Rec lsn r) t ∙ s t) (untold_push h (Rec lsn r)) told
 
 undue : (opening : List Record) (h : List Entry) (d : Option Record) → untold h ≡ d → At opening h → Told (greatest opening) (greatest_begun h) (current (opening ++ log_of h)) (open_writes (opening ++ log_of h)) (committed (opening ++ log_of h)) (phase h) (locks opening h) (steps h) d
 undue opening h d e told = subst (λ (x : Option Record). Told (greatest opening) (greatest_begun h) (current (opening ++ log_of h)) (open_writes (opening ++ log_of h)) (committed (opening ++ log_of h)) (phase h) (locks opening h) (steps h) x) e told
 
 -- ---- entries that are no records
-
-pub legal_front : (opening : List Record) (h : List Entry) (e : Entry) → IsLegal opening (h ++ e ∷ []) → IsLegal opening h × IsAllowed opening h e
-legal_front opening h e legal = AllAlong_front (IsAllowed opening) h e legal
-
--- who was begun in this life is none of the opening log's
-beginnings_push : (h : List Entry) (e : Entry) → beginnings (h ++ e ∷ []) ≡ beginnings h ++ beginnings (e ∷ [])
-beginnings_push [] e = refl
-beginnings_push (Began session tx ∷ es) e = ap (λ (bs : List Beginning). record { session = session; tx = tx } ∷ bs) (beginnings_push es e)
-beginnings_push (_ ∷ es) e = beginnings_push es e
 
 abbrev IsOf : ℕ → ℕ → Beginning → Bool
 IsOf session tx b = eqb b.session session && eqb b.tx tx
@@ -466,7 +423,7 @@ after_legal opening sound = by_pushes (λ (h : List Entry). IsLegal opening h �
     (at_more opening h at.0 parts.0 e parts.1, chain_more opening h e parts.1 at.0 at.1))
 
 sound_more : (opening : List Record) (h : List Entry) (e : Entry) → IsAllowed opening h e → AreLawful (opening ++ log_of h) → AreLawful (opening ++ log_of (h ++ e ∷ []))
-sound_more opening h (Rec lsn r) ok sound = subst AreLawful (sym (log_more opening h lsn r)) (sound_back (opening ++ log_of h) r sound ok.rule.lawful)
+sound_more opening h (Rec lsn r) ok sound = subst AreLawful (sym (log_more opening h lsn r)) (lawful_back (opening ++ log_of h) r sound ok.rule.lawful)
 sound_more opening h e ok sound = subst AreLawful (sym (log_same opening h e refl)) sound
 
 pub sound_after : (opening : List Record) → AreLawful opening → (h : List Entry) → IsLegal opening h → AreLawful (opening ++ log_of h)

@@ -15,7 +15,8 @@ use Rattle.wal_record.specs.declared.record.Record.TheVariants as kinds
 use Rattle.store_model.specs.Along.{along}
 use Rattle.wal_record.specs.Contents.{current}
 use Rattle.wal_record.specs.State.{page_room, same_key, KeepsState, state_size, branch_rows, child_at, is_child}
-use Rattle.log_laws.proofs.Steps.{along_push, AllAlong_front, by_pushes, current_push}
+use Rattle.wal_record.proofs.Along.{AllAlong_front, by_pushes}
+use Rattle.wal_record.proofs.Pushes.{pages_push, current_push, image_push}
 use Rattle.log_laws.proofs.Central.{value_after, get-after, equal_key}
 use Rattle.std.specs.Option.{option_or}
 use Rattle.wal_record.specs.Images.{applied, CanApply, IsApplicable, OnPage, with_value, purged, first_page, grown, lower_half, with_child, without_foster, image}
@@ -35,14 +36,6 @@ use Rattle.tree_laws.proofs.AdoptKind.{other, Tree_adopt}
 use Rattle.wal_record.specs.declared.record.Grow.{Grow}
 use Rattle.wal_record.specs.declared.record.Split.{Split}
 use Rattle.wal_record.specs.declared.record.Adopt.{Adopt}
-
-pub image_push : (log : List Record) (r : Record) (p : ℕ) → image (log ++ r ∷ []) p ≡ cond (names p r) (applied r p (image log p)) (image log p)
-unfolding image
-image_push log r p = along_push _ _ log r
-
-pub pages_push : (log : List Record) (r : Record) → pages (log ++ r ∷ []) ≡ pages_step (pages log) r
-unfolding pages
-pages_push log r = along_push _ _ log r
 
 -- ---- one record, over images, the number of pages and values
 

@@ -1,3 +1,5 @@
+pub mod Along
+pub mod Pushes
 pub mod BytesExamples
 pub mod StateExamples
 pub mod ExampleLogs

@@ -1,13 +1,7 @@
--- One item more at the end.
-use Rattle.std.proofs.Common.{◌≡◌, ℕ, cond, List, [], ◌∷◌, ◌++◌, sym, ap, subst, ◌∙◌, append_assoc}
-use Rattle.std.specs.Prelude.{max, length, ◌+◌}
+-- Laws of what is said of a list with the items before each one in sight.
+use Rattle.std.proofs.Common.{◌≡◌, List, [], ◌∷◌, ◌++◌, sym, ap, subst, ◌∙◌, append_assoc}
 use Rattle.std.proofs.lemmas.List.{append-nil}
-use Rattle.wal_record.specs.declared.record.Record.{Record}
 use Rattle.store_model.specs.Along.{along_from, along, AllFrom, AllAlong}
-use Rattle.wal_record.specs.Contents.{after, current, committed_step, committed}
-use Rattle.wal_record.specs.OpenWrites.{open_step, open_writes}
-use Rattle.wal_record.specs.Chains.{names, head, tx_or_none, link_of, greatest}
-use Rattle.wal_record.specs.Sound.{IsLawful, AreLawful}
 
 module _ {A S : Type 0} where
   along_from_push : (step : List A → S → A → S) (before : List A) (s : S) (xs : List A) (x : A) → along_from step before s (xs ++ x ∷ []) ≡ step (before ++ xs) (along_from step before s xs) x
@@ -62,29 +56,3 @@ module _ {A : Type 0} where
   -- an induction that adds items at the end
   pub by_pushes : (P : List A → Type 0) → P [] → ((xs : List A) (x : A) → P xs → P (xs ++ x ∷ [])) → (xs : List A) → P xs
   by_pushes P none more xs = from_end P more [] xs none
-
-pub current_push : (log : List Record) (r : Record) → current (log ++ r ∷ []) ≡ after (current log) r
-unfolding current
-current_push log r = along_push _ _ log r
-
-pub open_push : (log : List Record) (r : Record) (t : ℕ) → open_writes (log ++ r ∷ []) t ≡ open_step t r (open_writes log t) r
-unfolding open_writes
-open_push log r t = along_push _ _ log r
-
-pub committed_push : (log : List Record) (r : Record) → committed (log ++ r ∷ []) ≡ committed_step log (committed log) r
-unfolding committed
-committed_push log r = along_push _ _ log r
-
-pub sound_front : (log : List Record) (r : Record) → AreLawful (log ++ r ∷ []) → AreLawful log × IsLawful log r
-sound_front log r h = AllAlong_front IsLawful log r h
-
-pub greatest_push : (log : List Record) (r : Record) → greatest (log ++ r ∷ []) ≡ max (greatest log) (tx_or_none (link_of r))
-unfolding greatest
-greatest_push log r = along_push _ _ log r
-
-pub sound_back : (log : List Record) (r : Record) → AreLawful log → IsLawful log r → AreLawful (log ++ r ∷ [])
-sound_back log r h g = AllAlong_back IsLawful log r h g
-
-pub head_push : (log : List Record) (r : Record) (p : ℕ) → head (log ++ r ∷ []) p ≡ cond (names p r) (length log + 1) (head log p)
-unfolding head
-head_push log r p = along_push _ _ log r
