@@ -1,20 +1,20 @@
 -- Beginnings of logs and histories.
-use Rattle.std.proofs.Common.{◌≡◌, ℕ, Bool, true, false, cond, eqb, List, [], ◌∷◌, ◌++◌, refl, sym, ap, subst, ◌∙◌, arith, append_assoc, inl, inr}
+use Rattle.std.proofs.Common.{◌≡◌, ℕ, Bool, true, false, cond, eqb, List, [], ◌∷◌, ◌++◌, None, Some, refl, sym, ap, subst, ◌∙◌, arith, append_assoc, inl, inr}
 use Rattle.std.specs.Prelude.{◌≤◌, ◌+◌, length, Contains}
 use Rattle.std.proofs.lemmas.List.{append-nil, length-append}
 use Rattle.std.proofs.lemmas.List.Elements.{filter-append, Contains-append_left, Contains-append_right, Contains-append_cases}
 use Rattle.store_model.specs.Along.{along}
-use Rattle.wal_record.specs.Chains.{names, head, is_link_of, link_of}
+use Rattle.wal_record.specs.Chains.{names, head, Link, is_link_of, link_of}
 use Rattle.wal_record.specs.OpenWrites.{open_writes, open_step, without_last}
-use Rattle.wal_record.specs.Contents.{committed, committed_step}
+use Rattle.wal_record.specs.Contents.{after, current, committed, committed_step}
 use Rattle.wal_record.specs.Sound.{IsLawful}
 use Rattle.wal_record.specs.Legal.{IsAllowed}
 use Rattle.wal_record.specs.declared.record.Record.{Record}
 use Rattle.wal_record.specs.declared.record.Record.TheVariants as kinds
 use Rattle.wal_record.specs.declared.entry.Entry.{Entry}
 use Rattle.wal_record.proofs.Along.{AllAlong_less, by_pushes}
-use Rattle.wal_record.proofs.Pushes.{head_push, open_push, committed_push}
-use Rattle.log_laws.specs.Beginnings.{records_of, is_commit, BeginningLaw, BeginningOfHistoryLaw, OwnWritesLaw, CommitsLaw}
+use Rattle.wal_record.proofs.Pushes.{current_push, head_push, open_push, committed_push}
+use Rattle.log_laws.specs.Beginnings.{records_of, is_commit, BeginningLaw, BeginningOfHistoryLaw, OwnWritesLaw, CommitsLaw, StructureLaw}
 
 -- ---- page heads
 
@@ -108,3 +108,29 @@ among_records t = by_pushes (λ (log : List Record). AreAmong (open_writes log t
 
 pub own_writes : (log : List Record) (t : ℕ) → OwnWritesLaw log t
 own_writes log t = record { among = among_records t log }
+
+-- ---- records of no transaction
+
+pub structure : (log : List Record) (r : Record) → StructureLaw log r
+structure log r = record { current = λ e. current_push log r ∙ same r e; committed = λ e. committed_push log r ∙ kept r e; open_writes = λ e t. open_push log r t ∙ still r e t }
+  where
+    is_none : (l : Link) → Some l ≡ None → ⊥
+    is_none l e = cc
+
+    same : (r : Record) → link_of r ≡ None → after (current log) r ≡ current log
+    same (kinds.Write w) e = absurd (is_none _ e)
+    same (kinds.Apply a) e = absurd (is_none _ e)
+    same (kinds.Undo u) e = absurd (is_none _ e)
+    same r e = refl
+
+    kept : (r : Record) → link_of r ≡ None → committed_step log (committed log) r ≡ committed log
+    kept (kinds.Commit c) e = absurd (is_none _ e)
+    kept r e = refl
+
+    still : (r : Record) → link_of r ≡ None → (t : ℕ) → open_step t r (open_writes log t) r ≡ open_writes log t
+    still (kinds.Write w) e t = absurd (is_none _ e)
+    still (kinds.Apply a) e t = absurd (is_none _ e)
+    still (kinds.Undo u) e t = absurd (is_none _ e)
+    still (kinds.Commit c) e t = absurd (is_none _ e)
+    still (kinds.End x) e t = absurd (is_none _ e)
+    still r e t = refl

@@ -1,8 +1,8 @@
 -- What holds of the beginnings of logs and histories, and what a record leaves.
-use Rattle.std.specs.Prelude.{◌≡◌, ◌≤◌, ℕ, List, [], ◌∷◌, ◌++◌, filter, Contains, Bool, true, false}
+use Rattle.std.specs.Prelude.{◌≡◌, ◌≤◌, ℕ, List, [], ◌∷◌, ◌++◌, filter, Contains, None, Bool, true, false}
 use Rattle.wal_record.specs.Chains.{head, is_link_of, link_of}
 use Rattle.wal_record.specs.OpenWrites.{open_writes}
-use Rattle.wal_record.specs.Contents.{committed}
+use Rattle.wal_record.specs.Contents.{current, committed}
 use Rattle.wal_record.specs.Sound.{HasRoom, IsSound}
 use Rattle.wal_record.specs.Legal.{IsLegal}
 use Rattle.wal_record.specs.declared.record.Record.{Record}
@@ -34,3 +34,10 @@ pub record OwnWritesLaw (log : List Record) (t : ℕ) : Type 0 where
 -- only a commit changes the committed contents
 pub record CommitsLaw (log : List Record) (r : Record) : Type 0 where
   pub same : is_commit r ≡ false → committed (log ++ r ∷ []) ≡ committed log
+
+-- a record that names no transaction, as one of the tree or of upkeep, changes neither the contents nor
+-- the open writes
+pub record StructureLaw (log : List Record) (r : Record) : Type 0 where
+  pub current : link_of r ≡ None → current (log ++ r ∷ []) ≡ current log
+  pub committed : link_of r ≡ None → committed (log ++ r ∷ []) ≡ committed log
+  pub open_writes : link_of r ≡ None → (t : ℕ) → open_writes (log ++ r ∷ []) t ≡ open_writes log t

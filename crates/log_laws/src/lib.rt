@@ -10,7 +10,7 @@ ghost use Rattle.wal_record.specs.declared.entry.Entry.{Entry};
 ghost use Rattle.wal_record.specs.declared.record.Record.{Record};
 ghost use Rattle.wal_record.specs.declared.record.Undo.{Undo};
 ghost use Rattle.wal_record.specs.Left.{Life};
-ghost use Rattle.log_laws.specs.Beginnings.{BeginningLaw, BeginningOfHistoryLaw, CommitsLaw, OwnWritesLaw};
+ghost use Rattle.log_laws.specs.Beginnings.{BeginningLaw, BeginningOfHistoryLaw, CommitsLaw, OwnWritesLaw, StructureLaw};
 ghost use Rattle.log_laws.specs.Central.{CentralLaw, CentralLawOfLives};
 ghost use Rattle.log_laws.specs.Left.{LeftLaw, LivesLaw};
 ghost use Rattle.log_laws.specs.Locks.{EnteringLaw, LocksLaw, LoserLocksLaw};
@@ -104,4 +104,10 @@ pub fn own_writes_law()
 /// Only a commit changes the committed contents.
 pub fn commits_law()
     ensures { (log : List Record) (r : Record) → CommitsLaw log r }
+{}
+
+/// A record that names no transaction, as one of the tree or of upkeep, changes neither the current nor
+/// the committed contents, nor any open write.
+pub fn structure_law()
+    ensures { (log : List Record) (r : Record) → StructureLaw log r }
 {}
