@@ -9,3 +9,5 @@ pub mod UnsoundExamples
 pub mod LegalExamples
 pub mod IllegalExamples
 pub mod LeftExamples
+pub mod TreeExamples
+pub mod SerialExamples
