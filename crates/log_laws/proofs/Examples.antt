@@ -174,7 +174,7 @@ l2 = record {
 
 alone_at_b : IsAlone (r1 ∷ r2 ∷ []) b 2
 unfolding open_writes along
-alone_at_b = other_than 2 (λ u. list_any (writes b) (open_writes (r1 ∷ r2 ∷ []) u) ≡ false) (λ h. refl) (λ h. absurd (h refl)) (λ h. refl) (λ u e f g. simp (e, f, g) refl)
+alone_at_b = other_than 2 (λ u. list_any (writes b) (open_writes (r1 ∷ r2 ∷ []) u) ≡ false) (λ h. refl) (λ h. absurd (h refl)) (λ h. refl) (λ u e f g. simp e refl)
 
 l3 : IsLawful (r1 ∷ r2 ∷ []) r3
 unfolding image along applied CanApply head last current pages pending greatest open_writes
@@ -206,7 +206,7 @@ l4 = record {
 
 alone_at_b_again : IsAlone (r1 ∷ r2 ∷ r3 ∷ r4 ∷ []) b 2
 unfolding open_writes along
-alone_at_b_again = other_than 2 (λ u. list_any (writes b) (open_writes (r1 ∷ r2 ∷ r3 ∷ r4 ∷ []) u) ≡ false) (λ h. refl) (λ h. absurd (h refl)) (λ h. refl) (λ u e f g. simp (e, f, g) refl)
+alone_at_b_again = other_than 2 (λ u. list_any (writes b) (open_writes (r1 ∷ r2 ∷ r3 ∷ r4 ∷ []) u) ≡ false) (λ h. refl) (λ h. absurd (h refl)) (λ h. refl) (λ u e f g. simp (e, f) refl)
 
 l5 : IsLawful (r1 ∷ r2 ∷ r3 ∷ r4 ∷ []) r5
 unfolding image along applied CanApply head last current pages pending greatest open_writes
@@ -266,7 +266,7 @@ l8 = record {
 
 alone_at_c : IsAlone (r1 ∷ r2 ∷ r3 ∷ r4 ∷ r5 ∷ r6 ∷ r7 ∷ r8 ∷ []) c 3
 unfolding open_writes along
-alone_at_c = other_than 3 (λ u. list_any (writes c) (open_writes (r1 ∷ r2 ∷ r3 ∷ r4 ∷ r5 ∷ r6 ∷ r7 ∷ r8 ∷ []) u) ≡ false) (λ h. refl) (λ h. refl) (λ h. absurd (h refl)) (λ u e f g. simp (e, f, g) refl)
+alone_at_c = other_than 3 (λ u. list_any (writes c) (open_writes (r1 ∷ r2 ∷ r3 ∷ r4 ∷ r5 ∷ r6 ∷ r7 ∷ r8 ∷ []) u) ≡ false) (λ h. refl) (λ h. refl) (λ h. absurd (h refl)) (λ u e f g. simp (e, f) refl)
 
 no_c : None ≡ get (current (r1 ∷ r2 ∷ r3 ∷ r4 ∷ r5 ∷ r6 ∷ r7 ∷ r8 ∷ [])) c
 unfolding current along
@@ -326,7 +326,7 @@ a1 = record { split = tt; rule = record { told = refl; number = refl; room = ome
 
 free_b : (other : ℕ) → other ≢ 2 → list_any (conflict (held (point b) Exclusive)) (locks opening (e1 ∷ []) other) ≡ false
 unfolding taken_locks locks open_writes along
-free_b = other_than 2 (λ u. list_any (conflict (held (point b) Exclusive)) (locks opening (e1 ∷ []) u) ≡ false) (λ h. refl) (λ h. absurd (h refl)) (λ h. refl) (λ u e f g. simp (e, f, g) refl)
+free_b = other_than 2 (λ u. list_any (conflict (held (point b) Exclusive)) (locks opening (e1 ∷ []) u) ≡ false) (λ h. refl) (λ h. absurd (h refl)) (λ h. refl) (λ u e f g. simp e refl)
 
 a2 : IsAllowed opening (e1 ∷ []) e2
 unfolding untold split_leaf phase taken_locks locks open_writes current greatest greatest_begun last_begun image applied along
@@ -362,7 +362,7 @@ a9 = record { split = tt; rule = record { told = refl; place = refl; lawful = l7
 
 free_a : (other : ℕ) → other ≢ 2 → list_any (conflict (held (point a) Shared)) (locks opening (e1 ∷ e2 ∷ e3 ∷ e4 ∷ e5 ∷ e6 ∷ e7 ∷ e8 ∷ e9 ∷ []) other) ≡ false
 unfolding taken_locks locks open_writes along
-free_a = other_than 2 (λ u. list_any (conflict (held (point a) Shared)) (locks opening (e1 ∷ e2 ∷ e3 ∷ e4 ∷ e5 ∷ e6 ∷ e7 ∷ e8 ∷ e9 ∷ []) u) ≡ false) (λ h. refl) (λ h. absurd (h refl)) (λ h. refl) (λ u e f g. simp (e, f, g) refl)
+free_a = other_than 2 (λ u. list_any (conflict (held (point a) Shared)) (locks opening (e1 ∷ e2 ∷ e3 ∷ e4 ∷ e5 ∷ e6 ∷ e7 ∷ e8 ∷ e9 ∷ []) u) ≡ false) (λ h. refl) (λ h. absurd (h refl)) (λ h. refl) (λ u e f g. simp (e, f) refl)
 
 a10 : IsAllowed opening (e1 ∷ e2 ∷ e3 ∷ e4 ∷ e5 ∷ e6 ∷ e7 ∷ e8 ∷ e9 ∷ []) e10
 unfolding untold split_leaf phase taken_locks locks open_writes current greatest greatest_begun last_begun image applied along
@@ -386,7 +386,7 @@ a14 = record { split = tt; rule = record { told = refl; number = refl; room = om
 
 free_c : (other : ℕ) → other ≢ 3 → list_any (conflict (held (point c) Exclusive)) (locks opening (e1 ∷ e2 ∷ e3 ∷ e4 ∷ e5 ∷ e6 ∷ e7 ∷ e8 ∷ e9 ∷ e10 ∷ e11 ∷ e12 ∷ e13 ∷ e14 ∷ []) other) ≡ false
 unfolding taken_locks locks open_writes along
-free_c = other_than 3 (λ u. list_any (conflict (held (point c) Exclusive)) (locks opening (e1 ∷ e2 ∷ e3 ∷ e4 ∷ e5 ∷ e6 ∷ e7 ∷ e8 ∷ e9 ∷ e10 ∷ e11 ∷ e12 ∷ e13 ∷ e14 ∷ []) u) ≡ false) (λ h. refl) (λ h. refl) (λ h. absurd (h refl)) (λ u e f g. simp (e, f, g) refl)
+free_c = other_than 3 (λ u. list_any (conflict (held (point c) Exclusive)) (locks opening (e1 ∷ e2 ∷ e3 ∷ e4 ∷ e5 ∷ e6 ∷ e7 ∷ e8 ∷ e9 ∷ e10 ∷ e11 ∷ e12 ∷ e13 ∷ e14 ∷ []) u) ≡ false) (λ h. refl) (λ h. refl) (λ h. absurd (h refl)) (λ u e f g. simp (e, f) refl)
 
 a15 : IsAllowed opening (e1 ∷ e2 ∷ e3 ∷ e4 ∷ e5 ∷ e6 ∷ e7 ∷ e8 ∷ e9 ∷ e10 ∷ e11 ∷ e12 ∷ e13 ∷ e14 ∷ []) e15
 unfolding untold split_leaf phase taken_locks locks open_writes current greatest greatest_begun last_begun image applied along

@@ -11,3 +11,5 @@ pub mod Phases
 pub mod AllSteps
 pub mod Beginnings
 pub mod Examples
+pub mod Places
+pub mod Holders

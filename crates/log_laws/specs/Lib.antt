@@ -5,3 +5,4 @@ pub mod Left
 pub mod Locks
 pub mod Phases
 pub mod Beginnings
+pub mod Places

@@ -1,11 +1,11 @@
 -- Laws of held locks, and what they promise of the next write and the next undo.
-use Rattle.std.specs.Prelude.{◌≡◌, ◌≢◌, ℕ, map, List, [], ◌∷◌, ◌++◌, is_some, ◌||◌, Bool, true, false, IsTrue}
+use Rattle.std.specs.Prelude.{◌≡◌, ◌≢◌, ◌⊎◌, ℕ, map, List, [], ◌∷◌, ◌++◌, is_some, ◌||◌, Bool, true, false, IsTrue}
 use Rattle.std.specs.List.{list_any}
 use Rattle.std.specs.FinMap as finite
-use Rattle.wal_record.specs.OpenWrites.{open_writes, key_of, old_of, opens, IsAlone}
+use Rattle.wal_record.specs.OpenWrites.{is_loser, open_writes, key_of, old_of, opens, IsAlone}
 use Rattle.wal_record.specs.Contents.{current, given}
 use Rattle.wal_record.specs.Sound.{AreLawful}
-use Rattle.wal_record.specs.History.{life_log}
+use Rattle.wal_record.specs.History.{life_log, Live, phase}
 use Rattle.wal_record.specs.Locks.{Held, conflict, point_lock, covers_write, locks}
 use Rattle.wal_record.specs.Legal.{IsLegal}
 use Rattle.wal_record.specs.declared.record.Record.{Record}
@@ -31,6 +31,10 @@ pub record LocksLaw (opening : List Record) (h : List Entry) : Type 0 where
   pub free : AreLawful opening → IsLegal opening h → (t u : ℕ) → t ≢ u → meets (locks opening h t) (locks opening h u) ≡ false
   -- who has an open write of a key has locked it for writing, losers among them
   pub holds : AreLawful opening → IsLegal opening h → (t : ℕ) (key : List ℕ) → opens (life_log opening h) key t ≡ true → list_any (covers_write key) (locks opening h t) ≡ true
+
+-- who holds a lock is live, or a loser of the opening log
+pub record HoldersLaw (opening : List Record) (h : List Entry) : Type 0 where
+  pub holder : IsLegal opening h → (t : ℕ) (p : Held → Bool) → list_any p (locks opening h t) ≡ true → (phase h t ≡ Live) ⊎ (is_loser opening t ≡ true)
 
 -- the locks that the losers of a log come back with don't conflict
 pub record LoserLocksLaw (log : List Record) : Type 0 where

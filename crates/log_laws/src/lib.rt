@@ -13,8 +13,9 @@ ghost use Rattle.wal_record.specs.Left.{Life};
 ghost use Rattle.log_laws.specs.Beginnings.{BeginningLaw, BeginningOfHistoryLaw, CommitsLaw, OwnWritesLaw, StructureLaw};
 ghost use Rattle.log_laws.specs.Central.{CentralLaw, CentralLawOfLives};
 ghost use Rattle.log_laws.specs.Left.{LeftLaw, LivesLaw};
-ghost use Rattle.log_laws.specs.Locks.{EnteringLaw, LocksLaw, LoserLocksLaw};
+ghost use Rattle.log_laws.specs.Locks.{EnteringLaw, HoldersLaw, LocksLaw, LoserLocksLaw};
 ghost use Rattle.log_laws.specs.Phases.{LiveLaw, StepsLaw};
+ghost use Rattle.log_laws.specs.Places.{PlacesLaw};
 ghost use Rattle.log_laws.specs.Room.{PendingLaw, UndoRoomLaw};
 ghost use Rattle.log_laws.specs.Serial.{SerialLaw};
 
@@ -110,4 +111,14 @@ pub fn commits_law()
 /// the committed contents, nor any open write.
 pub fn structure_law()
     ensures { (log : List Record) (r : Record) → StructureLaw log r }
+{}
+
+/// Who holds a lock is live, or a loser of the opening log.
+pub fn holders_law()
+    ensures { (opening : List Record) (history : List Entry) → HoldersLaw opening history }
+{}
+
+/// The open writes of a transaction in short tell the LSN and the key of each one.
+pub fn places_law()
+    ensures { (log : List Record) (tx : ℕ) → PlacesLaw log tx }
 {}
