@@ -22,7 +22,7 @@ less Less e = refl
 less Equal e = absurd cc
 less Greater e = absurd cc
 
-below_trans : (a b c : Option (List ℕ)) → is_below a b ≡ true → is_below b c ≡ true → is_below a c ≡ true
+pub below_trans : (a b c : Option (List ℕ)) → is_below a b ≡ true → is_below b c ≡ true → is_below a c ≡ true
 below_trans None b c p q = absurd cc
 below_trans (Some a) None c p q = absurd cc
 below_trans (Some a) (Some b) None p q = refl

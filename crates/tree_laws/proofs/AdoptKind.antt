@@ -12,7 +12,8 @@ use Rattle.wal_record.specs.declared.page.Rows.TheVariants.{Leaf, Branch}
 use Rattle.wal_record.specs.declared.record.Adopt.{Adopt}
 use Rattle.wal_record.specs.Tree.{Fence, fence_of, Pointer, pointers, row_pointers, foster_pointers, one_if, count_to, count_at, incoming, fence_at, AllAgree, LeafOf, Tree}
 use Rattle.wal_record.specs.Images.{with_child, without_foster, CanTakeChild, CanGiveChild}
-use Rattle.tree_laws.proofs.Keys.{not_both, below_itself, in_parts}
+use Rattle.store_model.proofs.Bools.{not_both}
+use Rattle.tree_laws.proofs.Keys.{below_itself, in_parts}
 use Rattle.tree_laws.proofs.Counts.{set_page, set_here, set_there, at_set, inside_some, incoming_set, count_within, count_two, count_append, agree_append, agree_parts, agree_moved}
 use Rattle.tree_laws.proofs.BranchLaws.{no_leaf}
 use Rattle.tree_laws.proofs.AdoptRows.{to_page, row_to, all_put_branch, rises_put_branch, is_first_put, Adopted, adopted}

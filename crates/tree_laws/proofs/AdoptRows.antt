@@ -7,7 +7,8 @@ use Rattle.store_model.specs.Range.{is_below}
 use Rattle.wal_record.specs.declared.page.BranchRow.{BranchRow}
 use Rattle.wal_record.specs.Tree.{Pointer, first_low, row_pointers}
 use Rattle.wal_record.specs.State.{IsFirst, rises, branch_below, put_branch_row, child_at, or_child, separates}
-use Rattle.tree_laws.proofs.Keys.{not_both, below_trans}
+use Rattle.store_model.proofs.Bools.{not_both}
+use Rattle.log_laws.proofs.Locked.{below_trans}
 use Rattle.tree_laws.proofs.Counts.{inside_some}
 use Rattle.tree_laws.proofs.RowLaws.{all_more}
 use Rattle.tree_laws.proofs.Start.{missing}

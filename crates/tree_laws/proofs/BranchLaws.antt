@@ -12,7 +12,9 @@ use Rattle.wal_record.specs.declared.page.Rows.TheVariants.{Leaf, Branch}
 use Rattle.wal_record.specs.State.{KeepsRows, IsFirst, rises, branch_below, branch_row_fits, leaf_row_fits, branch_rows, leaf_rows, end_by, foster_fits}
 use Rattle.wal_record.specs.Tree.{first_low, row_pointers}
 use Rattle.wal_record.specs.Images.{leaf_under, branch_under, lower_rows, upper_rows, has_rows}
-use Rattle.tree_laws.proofs.Keys.{not_both, below_trans, under, in_parts, in_from}
+use Rattle.store_model.proofs.Bools.{not_both}
+use Rattle.log_laws.proofs.Locked.{below_trans}
+use Rattle.tree_laws.proofs.Keys.{under, in_parts, in_from}
 use Rattle.tree_laws.proofs.RowLaws.{rises_kept}
 
 -- ---- pointers of rows one after the other

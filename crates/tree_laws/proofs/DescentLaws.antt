@@ -10,7 +10,8 @@ use Rattle.wal_record.specs.declared.page.Rows.TheVariants.{Branch}
 use Rattle.wal_record.specs.Tree.{Fence, Pointer, fence_of, row_pointers, foster_pointers, first_low, fence_at, AllAgree, Tree}
 use Rattle.wal_record.specs.State.{KeepsRows, IsFirst, has_own, own_part, own_end, end_by, branch_rows, child_at, or_child, has_within}
 use Rattle.tree_laws.specs.Descent.{ToChild, ToFoster, Descent}
-use Rattle.tree_laws.proofs.Keys.{not_both, in_parts, in_from}
+use Rattle.store_model.proofs.Bools.{not_both}
+use Rattle.tree_laws.proofs.Keys.{in_parts, in_from}
 use Rattle.tree_laws.proofs.Counts.{inside_some, agree_parts}
 use Rattle.tree_laws.proofs.Start.{missing}
 

@@ -11,7 +11,7 @@ use Rattle.wal_record.specs.declared.page.LeafRow.{LeafRow}
 use Rattle.wal_record.specs.declared.page.Rows.TheVariants.{Leaf}
 use Rattle.wal_record.specs.Images.{with_value, purged, is_live_row, IsLeafOf}
 use Rattle.wal_record.specs.Tree.{Tree}
-use Rattle.tree_laws.proofs.Keys.{not_both}
+use Rattle.store_model.proofs.Bools.{not_both}
 use Rattle.tree_laws.proofs.Counts.{set_page}
 use Rattle.tree_laws.proofs.Change.{Tree_leaf}
 use Rattle.tree_laws.proofs.RowLaws.{all_put, rises_put, live_put, all_kept, rises_kept, live_purged}

@@ -11,7 +11,9 @@ use Rattle.wal_record.specs.State.{same_key, live, live_value, put_row, rises, l
 use Rattle.log_laws.proofs.Central.{equal_key}
 use Rattle.wal_record.specs.declared.page.LeafRow.{LeafRow}
 use Rattle.wal_record.specs.Images.{is_live_row}
-use Rattle.tree_laws.proofs.Keys.{not_both, total, below_trans, below_itself}
+use Rattle.store_model.proofs.Bools.{not_both}
+use Rattle.log_laws.proofs.Locked.{below_trans}
+use Rattle.tree_laws.proofs.Keys.{total, below_itself}
 
 -- ---- lists
 

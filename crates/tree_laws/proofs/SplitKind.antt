@@ -11,7 +11,8 @@ use Rattle.wal_record.specs.declared.page.Rows.TheVariants.{Leaf, Branch}
 use Rattle.wal_record.specs.declared.record.Split.{Split}
 use Rattle.wal_record.specs.Tree.{fence_of, Pointer, pointers, row_pointers, foster_pointers, one_if, count_to, count_at, incoming, fence_at, AllAgree, LeafOf, Tree}
 use Rattle.wal_record.specs.Images.{lower_half, lower_rows, upper_rows, CanSplit}
-use Rattle.tree_laws.proofs.Keys.{below_trans, not_under, in_parts, in_from}
+use Rattle.log_laws.proofs.Locked.{below_trans}
+use Rattle.tree_laws.proofs.Keys.{not_under, in_parts, in_from}
 use Rattle.tree_laws.proofs.Counts.{set_page, set_here, set_there, at_set, inside_some, incoming_set, count_append, agree_append, agree_parts, agree_moved}
 use Rattle.tree_laws.proofs.RowLaws.{live_kept}
 use Rattle.tree_laws.proofs.BranchLaws.{rows_cut, low_under, lower_keeps, low_some, low_below_end, leaf_lower, leaf_upper, was_leaf_lower, was_leaf_upper}
