@@ -1,6 +1,6 @@
 -- Entries that aren't allowed, one or more for each rule of a legal history.
-use Rattle.std.proofs.Common.{◌≡◌, ℕ, false, Option, get_or, List, [], ◌∷◌, ◌++◌, Some, None, refl, sym, ap, ◌∙◌, arith}
-use Rattle.std.specs.Prelude.{option_and_then}
+use Rattle.std.proofs.Common.{◌≡◌, ℕ, false, Option, get_or, List, [], ◌∷◌, ◌++◌, Some, None, refl, sym, ap, ◌∙◌, arith, zero, suc, ◌<◌, subst, inl, inr}
+use Rattle.std.specs.Prelude.{option_and_then, unwrap_or}
 use Rattle.std.specs.List.{list_any}
 use Rattle.std.specs.Option.{option_map_or}
 use Rattle.std.specs.FinMap.{get-empty}
@@ -18,6 +18,7 @@ use Rattle.wal_record.specs.declared.page.Rows.TheVariants.{Leaf, Branch}
 use Rattle.wal_record.specs.declared.record.Split.{Split}
 use Rattle.wal_record.specs.declared.record.Record.{Record}
 use Rattle.wal_record.specs.declared.record.Record.TheVariants as kinds
+use Rattle.wal_record.specs.declared.entry.Entry.{Entry}
 use Rattle.wal_record.specs.declared.entry.Entry.TheVariants.{Rec, Lock, Refused, Said, Declined, Acked, Repaired, Began}
 use Rattle.wal_record.specs.Chains.{pages, greatest}
 use Rattle.wal_record.specs.OpenWrites.{open_writes, pending}
@@ -28,7 +29,7 @@ use Rattle.wal_record.specs.Upkeep.{written}
 use Rattle.wal_record.specs.History.{phase, greatest_begun, last_begun}
 use Rattle.wal_record.specs.Locks.{taken_locks, locks}
 use Rattle.wal_record.specs.Legal.{untold, split_leaf, split_key, IsCrowded, MaySplit, IsAllowed}
-use Rattle.wal_record.proofs.ExampleLogs.{apple, x, one, a, b, c, format, put_apple, split_at_b, split_page_at_c, put_key}
+use Rattle.wal_record.proofs.ExampleLogs.{grown_log, commit_apple, apple, x, one, a, b, c, format, put_apple, split_at_b, split_page_at_c, put_key}
 use Rattle.wal_record.proofs.LegalExamples.{opening, began, lock_apple, wrote, said_put, commit_entered}
 
 -- ---- beginning
@@ -191,3 +192,36 @@ began_after_split h = absurd h.split
 would_fit : IsAllowed three_rows (Rec 5 split_page_at_c ∷ []) (Rec 6 (put_key apple 4 5)) → ⊥
 unfolding split_leaf image applied along
 would_fit h = let e = h.split.full in absurd cc
+
+-- a branch with room for every row isn't split
+abbrev root : PageState
+root = record { level = 1; low = Some []; high = None; foster = None; rows = Branch (record { low = Some []; child = 4 } ∷ []) }
+
+root_is : image grown_log 1 ≡ Some root
+unfolding image applied along
+root_is = refl
+
+abbrev split_root : Record
+split_root = kinds.Split (record { page = 1; page_prev = 7; child = 5; child_state = root })
+
+crowded_root : (x : Split) → OnPage (MaySplit x) (Some root) → IsCrowded root.rows root
+crowded_root x h = let e : h.0 ≡ root = ap (λ (o : Option PageState). unwrap_or o root) (sym h.1) in subst (λ (s : PageState). IsCrowded s.rows s) e h.2.crowded
+
+not_crowded : IsAllowed grown_log [] (Rec 8 split_root) → ⊥
+not_crowded h = let e = crowded_root _ (subst (OnPage (MaySplit _)) root_is h.rule.rule) in absurd (omega (arith, e))
+
+-- ---- numbers of transactions
+
+-- a transaction that is neither live nor a loser undoes nothing
+stranger : IsAllowed (opening ++ put_apple ∷ commit_apple ∷ []) [] (Rec 4 (kinds.Undo (record { tx = 1; prev = 3; page = 1; page_prev = 2; key = apple; restores = None; undo_next = 0 }))) → ⊥
+unfolding phase open_writes along
+stranger h = elim h.rule.rule [ inl live ↦ absurd cc | inr loser ↦ absurd cc ]
+
+-- at most 64 transactions are live
+abbrev begun : ℕ → List Entry
+begun zero = []
+begun (suc n) = begun n ++ Began n (suc n) ∷ []
+
+one_too_many : IsAllowed opening (begun 64) (Began 64 65) → ⊥
+unfolding phase along
+one_too_many h = let e : 64 < 64 = h.rule.room in absurd (omega (arith, e))

@@ -1,3 +1,5 @@
+pub mod Along
+pub mod Pushes
 pub mod BytesExamples
 pub mod StateExamples
 pub mod ExampleLogs
@@ -7,3 +9,5 @@ pub mod UnsoundExamples
 pub mod LegalExamples
 pub mod IllegalExamples
 pub mod LeftExamples
+pub mod TreeExamples
+pub mod SerialExamples

@@ -51,6 +51,10 @@ conflict a b = overlap a.range b.range && (is_exclusive a.mode || is_exclusive b
 abbrev pub covers : Interval → Held → Bool
 covers r l = includes l.range r
 
+-- the key lies in the lock
+abbrev pub covers_key : List ℕ → Held → Bool
+covers_key key l = has_key l.range key
+
 -- the key may be written under the lock
 abbrev pub covers_write : List ℕ → Held → Bool
 covers_write key l = has_key l.range key && is_exclusive l.mode

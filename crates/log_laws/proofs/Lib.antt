@@ -1,0 +1,15 @@
+pub mod Central
+pub mod Locked
+pub mod Runs
+pub mod Told
+pub mod LoserLocks
+pub mod Serial
+pub mod LeftLaws
+pub mod EnteringLaws
+pub mod Pending
+pub mod Phases
+pub mod AllSteps
+pub mod Beginnings
+pub mod Examples
+pub mod Places
+pub mod Holders

@@ -1,0 +1,4 @@
+pub mod Tree
+pub mod Descent
+pub mod Scan
+pub mod Entering
