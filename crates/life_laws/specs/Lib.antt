@@ -1,0 +1,4 @@
+pub mod Calm
+pub mod Commands
+pub mod CalmLaw
+pub mod Stops

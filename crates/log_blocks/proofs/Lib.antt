@@ -1,0 +1,17 @@
+mod BlockLists
+mod Durable
+mod Excludes
+mod FirstGate
+mod Flushing
+mod Gates
+mod Lasts
+mod Laying
+mod Looking
+mod Moments
+mod Numbering
+mod Parsing
+mod Progressing
+mod Ready
+mod Unique
+mod Walking
+mod Whole

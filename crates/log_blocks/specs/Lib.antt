@@ -1,0 +1,4 @@
+pub mod Batch
+pub mod Log
+pub mod LogState
+pub mod Opening

@@ -1,0 +1,111 @@
+//! A block's header.
+ghost use Rattle.std.specs.Prelude.{◌≡◌, ◌+◌, ◌<◌, ◌≤◌, ◌^◌, min, length, take, drop, MatchResult, IfOk, ℕ, slice_index};
+ghost use Rattle.log_blocks.specs.Opening.{field_at, field4_at, field2_at, fault_at, header_in};
+
+#[derive(Clone, Copy)]
+pub struct Header {
+    pub first: u64,
+    pub checkpoint: u64,
+    pub count: u16,
+    pub length: u32,
+}
+
+/// Where a block stands, and its header.
+#[derive(Clone, Copy, Default)]
+pub struct Place {
+    pub at: u64,
+    pub first: u64,
+    pub checkpoint: u64,
+    pub count: u16,
+    pub length: u32,
+}
+
+#[tactic(auto, unfolding(crate::specs::Opening::field_at))]
+fn u64_at(head: &[u8], at: usize) -> u64
+    requires { at + 8 ≤ length head.now }
+    ensures { result ≡ field_at at head.now }
+{
+    let b = &head[at..at + 8];
+    u64::from_be_bytes([b[0], b[1], b[2], b[3], b[4], b[5], b[6], b[7]])
+}
+
+#[tactic(auto, unfolding(crate::specs::Opening::field4_at))]
+fn u32_at(head: &[u8], at: usize) -> u32
+    requires { at + 4 ≤ length head.now }
+    ensures { result ≡ field4_at at head.now }
+{
+    let b = &head[at..at + 4];
+    u32::from_be_bytes([b[0], b[1], b[2], b[3]])
+}
+
+#[tactic(auto, unfolding(crate::specs::Opening::field2_at))]
+fn u16_at(head: &[u8], at: usize) -> u16
+    requires { at + 2 ≤ length head.now }
+    ensures { result ≡ field2_at at head.now }
+{
+    let b = &head[at..at + 2];
+    u16::from_be_bytes([b[0], b[1]])
+}
+
+const HIGHEST: u64 = (1 << 63) - 1;
+
+#[tactic(auto, unfolding(crate::specs::Opening::fault_at, crate::specs::Opening::header_in))]
+pub fn judge(head: &[u8], total: u64, start: u64, next: u64) -> Result<Header, u64>
+    requires { length head.now ≡ min 23 total }
+    ensures in_range { IfOk result (λ h. (h.count < 2 ^ 16) × (h.first + h.count ≤ 2 ^ 63) × (h.length ≤ 4194304) × (24 + h.length ≤ total)) }
+    ensures bytes { (i : ℕ) → slice_index head.now i < 256 }
+    ensures exact { MatchResult result
+        (λ h. (fault_at start next total head.now ≡ 0) × (h ≡ header_in head.now))
+        (λ byte. (fault_at start next total head.now ≡ byte) × (0 < byte)) }
+{
+    if total < 9 {
+        return Err(1);
+    }
+    let first = u64_at(head, 1);
+    if first < 1 || first > HIGHEST {
+        return Err(1);
+    }
+    if next == 0 {
+        if start == 0 && first != 1 {
+            return Err(1);
+        }
+    } else if first != next {
+        return Err(1);
+    }
+    if total < 17 {
+        return Err(9);
+    }
+    let checkpoint = u64_at(head, 9);
+    if checkpoint > HIGHEST {
+        return Err(9);
+    }
+    if total < 19 {
+        return Err(17);
+    }
+    let count = u16_at(head, 17);
+    if checkpoint >= first + count as u64 {
+        return Err(9);
+    }
+    if count == 0 || first + count as u64 > HIGHEST + 1 {
+        return Err(17);
+    }
+    if total < 23 {
+        return Err(19);
+    }
+    let length = u32_at(head, 19);
+    if length == 0 || length > 4_194_304 {
+        return Err(19);
+    }
+    if total < 23 + length as u64 {
+        return Err(23);
+    }
+    if total < 24 + length as u64 {
+        return Err(23 + length as u64);
+    }
+    Ok(Header {
+        first,
+        checkpoint,
+        count,
+        length,
+    })
+}

@@ -1,0 +1,5 @@
+pub mod Lock
+pub mod Order
+pub mod Nearest
+pub mod Tables
+pub mod Held

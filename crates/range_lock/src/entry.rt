@@ -1,0 +1,17 @@
+//! The locks as the tables keep them.
+use store_model::{Key, KeyRange, Mode, TxId};
+
+/// A transaction's lock on a single key.
+#[derive(PartialEq, Eq, PartialOrd, Ord, Drop)]
+pub struct PointLock {
+    pub key: Key,
+    pub tx: TxId,
+    pub exclusive: bool,
+}
+
+/// A lock on a wider range.
+#[derive(Drop)]
+pub struct RangeLock {
+    pub range: KeyRange,
+    pub mode: Mode,
+}

@@ -1,0 +1,28 @@
+//! For each transaction, the keys of its point locks.
+ghost use Rattle.std.specs.Prelude.{◌≡◌, ◌≢◌, OnOk, OnErr, true};
+ghost use Rattle.range_lock.specs.Tables.{is_listed};
+ghost use Rattle.range_lock.specs.declared.entry.PointLock.{PointLock};
+
+use std::alloc::{AllocError, Global};
+use std::collections::BTreeMap;
+use store_model::{Key, List, TxId};
+
+/// Lists a key for a transaction. Where memory runs out, all that was listed still is.
+pub fn list_key(
+    alloc: Global,
+    keys: &mut BTreeMap<TxId, List<Key>>,
+    tx: TxId,
+    key: &Key,
+) -> Result<(), AllocError>
+    ensures stays { (p : PointLock) → is_listed keys.old p ≡ true → is_listed keys.new p ≡ true }
+    ensures added { OnOk result ((p : PointLock) → p.tx ≡ tx → p.key ≡ key.now → is_listed keys.new p ≡ true) }
+{
+    if let Some(listed) = keys.get_mut(&tx) {
+        listed.push(key.copied())?;
+        return Ok(());
+    }
+    let mut listed = List::new(alloc);
+    listed.push(key.copied())?;
+    keys.insert(tx, listed)?;
+    Ok(())
+}

@@ -1,0 +1,161 @@
+//! The lock table.
+ghost use Rattle.std.specs.Prelude.{◌≡◌, ◌≢◌, ◌↔◌, [], ◌++◌, ℕ, IfOk, IfErr, OnOk, OnErr, IsTrue, None, true, false};
+ghost use Rattle.store_model.specs.Range.{point};
+ghost use Rattle.range_lock.specs.Lock.{AreCompatible, Lock, conflict};
+ghost use Rattle.range_lock.specs.Nearest.{nearest};
+ghost use Rattle.range_lock.specs.Tables.{all_locks, AreListed, AreKeys, IsKey};
+
+use crate::entry::{PointLock, RangeLock};
+use crate::holders::{add_at_points, add_on_ranges, append};
+use crate::keys::list_key;
+use crate::point::{covers_at_point, point_of};
+use crate::refusal::LockRefused;
+use crate::release::remove_points;
+use crate::rival::Rival;
+use crate::search::{first_point, first_range, is_exclusive};
+use crate::wider::{copied, covers_on_range, holds_range, put_range};
+use std::alloc::{AllocError, Global};
+use std::collections::{BTreeMap, BTreeSet};
+use store_model::{Key, KeyRange, List, Memory, Mode, TxId};
+
+/// The locks that transactions hold.
+#[derive(Drop)]
+pub struct RangeLocks {
+    alloc: Global,
+    points: BTreeSet<PointLock>,
+    /// For each transaction, the keys of its point locks.
+    keys: BTreeMap<TxId, List<Key>>,
+    /// For each transaction, its locks on wider ranges.
+    ranges: BTreeMap<TxId, List<RangeLock>>,
+    ghost compatible: { AreCompatible (all_locks points ranges) },
+    ghost listed: { AreListed points keys },
+    ghost fit: { AreKeys points },
+}
+
+impl RangeLocks {
+    ghost use Rattle.range_lock.specs.Held.{held, Holds, HoldsTheSame, Gains, Releases, NamesTheFirst, IsCovered, AreHolders};
+
+    /// A table without locks.
+    pub fn new(alloc: Global) -> RangeLocks
+        ensures { held result ≡ [] }
+    {
+        RangeLocks {
+            alloc,
+            points: BTreeSet::new(alloc),
+            keys: BTreeMap::new(alloc),
+            ranges: BTreeMap::new(alloc),
+        }
+    }
+
+    /// The first lock in conflict with one.
+    fn first_conflict(
+        &self,
+        tx: TxId,
+        range: &KeyRange,
+        mode: Mode,
+    ) -> Result<Option<Rival>, AllocError>
+        ensures { IfOk result (λ r. r ≡ nearest (record { tx = tx; range = range.now; mode = mode }) (held self.now) None) }
+    {
+        let best = first_point(&self.points, tx, range, mode);
+        first_range(best, &self.ranges, tx, range, mode)
+    }
+
+    /// Takes a lock on a single key.
+    fn add_point(&mut self, tx: TxId, key: Key, mode: Mode) -> Result<(), AllocError>
+        requires is_key { IsKey key }
+        requires free { (l : Lock) → Holds self.old l → conflict (record { tx = tx; range = point key; mode = mode }) l ≡ false }
+        ensures ok { OnOk result (Gains self.old self.new (record { tx = tx; range = point key; mode = mode })) }
+        ensures err { OnErr result (HoldsTheSame self.old self.new) }
+    {
+        let lock = PointLock {
+            key: key.copied(),
+            tx,
+            exclusive: is_exclusive(mode),
+        };
+        if !self.points.contains(&lock) {
+            list_key(self.alloc, &mut self.keys, tx, &key)?;
+            self.points.insert(lock)?;
+        }
+        Ok(())
+    }
+
+    /// Takes a lock on a wider range.
+    fn add_range(&mut self, tx: TxId, range: &KeyRange, mode: Mode) -> Result<(), AllocError>
+        requires { (l : Lock) → Holds self.old l → conflict (record { tx = tx; range = range.now; mode = mode }) l ≡ false }
+        ensures ok { OnOk result (Gains self.old self.new (record { tx = tx; range = range.now; mode = mode })) }
+        ensures err { OnErr result (HoldsTheSame self.old self.new) }
+    {
+        if !holds_range(&self.ranges, tx, range, mode) {
+            let range = copied(range)?;
+            put_range(self.alloc, &mut self.ranges, tx, RangeLock { range, mode })?;
+        }
+        Ok(())
+    }
+
+    /// Takes a lock that conflicts with none.
+    fn add(&mut self, tx: TxId, range: &KeyRange, mode: Mode) -> Result<(), AllocError>
+        requires { (l : Lock) → Holds self.old l → conflict (record { tx = tx; range = range.now; mode = mode }) l ≡ false }
+        ensures ok { OnOk result (Gains self.old self.new (record { tx = tx; range = range.now; mode = mode })) }
+        ensures err { OnErr result (HoldsTheSame self.old self.new) }
+        ensures compatible { AreCompatible (held self.new) }
+    {
+        match point_of(range) {
+            Some(key) => self.add_point(tx, key, mode),
+            None => self.add_range(tx, range, mode),
+        }
+    }
+
+    /// Takes a lock. It is refused exactly where another transaction's lock conflicts; it names the least such
+    /// transaction, and of its conflicting ranges the one with the least low bound, then the least high bound. A lock
+    /// that is already held is taken at once.
+    pub fn acquire(&mut self, tx: TxId, range: &KeyRange, mode: Mode) -> Result<(), LockRefused>
+        ensures ok { OnOk result (Gains self.old self.new (record { tx = tx; range = range.now; mode = mode })) }
+        ensures free { OnOk result ((l : Lock) → Holds self.old l → conflict (record { tx = tx; range = range.now; mode = mode }) l ≡ false) }
+        ensures refused { IfErr result (NamesTheFirst self.old (record { tx = tx; range = range.now; mode = mode })) }
+        ensures err { OnErr result (HoldsTheSame self.old self.new) }
+
+        // No two held locks conflict, whatever the call answers.
+        ensures compatible { AreCompatible (held self.new) }
+    {
+        if let Some(rival) = self.first_conflict(tx, range, mode)? {
+            return Err(LockRefused::Overlap {
+                holder: rival.holder,
+                range: rival.range,
+            });
+        }
+        self.add(tx, range, mode)?;
+        Ok(())
+    }
+
+    /// Releases all locks of a transaction. It takes no memory.
+    pub fn release_all(&mut self, tx: TxId)
+        ensures released { Releases self.old self.new tx }
+        ensures compatible { AreCompatible (held self.new) }
+    {
+        self.ranges.remove(&tx);
+        if let Some(keys) = self.keys.remove(&tx) {
+            remove_points(&mut self.points, tx, keys.as_slice());
+        }
+    }
+
+    /// Whether one lock of the transaction includes the range in this mode. An exclusive lock covers shared use too.
+    pub fn covers(&self, tx: TxId, range: &KeyRange, mode: Mode) -> bool
+        ensures { IsTrue result ↔ IsCovered self.now tx range.now mode }
+    {
+        covers_at_point(&self.points, tx, range, mode)
+            || covers_on_range(&self.ranges, tx, range, mode)
+    }
+
+    /// Appends the transactions with a lock that conflicts with any other transaction's lock on this range in this mode,
+    /// by rising number. Where memory runs out, `out` is as before.
+    pub fn holders(&self, range: &KeyRange, mode: Mode, out: &mut Vec<TxId>) -> Result<(), Memory>
+        ensures ok { OnOk result ((txs : List ℕ) × AreHolders self.now range.now mode txs × (out.new.items ≡ out.old.items ++ txs)) }
+        ensures err { OnErr result (out.new.items ≡ out.old.items) }
+    {
+        let mut found = BTreeSet::new(self.alloc);
+        add_at_points(&mut found, &self.points, range, mode)?;
+        add_on_ranges(&mut found, &self.ranges, range, mode)?;
+        append(self.alloc, &found, out)?;
+        Ok(())
+    }
+}

@@ -1,0 +1,156 @@
+//! The search for locks in conflict.
+ghost use Rattle.std.specs.Prelude.{◌≡◌, ◌&&◌, ◌||◌, ◌==◌, not, ℕ, List, map, flat_map, IfOk, IfSome, true};
+ghost use Rattle.std.specs.declared.cmp.Ordering.TheVariants.{Less};
+ghost use Rattle.std.specs.Ordering.{nat_cmp};
+ghost use Rattle.std.specs.Cmp.Lexicographic.{slice_cmp};
+ghost use Rattle.store_model.specs.Range.{is_below, overlap};
+ghost use Rattle.range_lock.specs.Lock.{is_exclusive, conflict};
+ghost use Rattle.range_lock.specs.Nearest.{nearest, step};
+ghost use Rattle.range_lock.specs.Tables.{StartsBelow, mode_of, lock_at_point, lock_on_range, locks_on_ranges};
+
+use crate::entry::{PointLock, RangeLock};
+use crate::rival::{Rival, nearer};
+use std::alloc::AllocError;
+use std::collections::{BTreeMap, BTreeSet};
+use std::ops;
+use store_model::{Key, KeyRange, List, Mode, TxId};
+
+/// Whether the mode keeps others off.
+pub fn is_exclusive(mode: Mode) -> bool
+    ensures { result ≡ is_exclusive mode }
+{
+    match mode {
+        Mode::Shared => false,
+        Mode::Exclusive => true,
+    }
+}
+
+/// How a lock on a single key is held.
+pub fn mode_of(exclusive: bool) -> Mode
+    ensures { result ≡ mode_of exclusive }
+{
+    if exclusive {
+        Mode::Exclusive
+    } else {
+        Mode::Shared
+    }
+}
+
+/// Whether a holder's lock keeps a transaction from a range.
+fn conflicts(
+    tx: TxId,
+    range: &KeyRange,
+    mode: Mode,
+    holder: TxId,
+    at: &KeyRange,
+    held: Mode,
+) -> bool
+    ensures { result ≡ conflict (record { tx = tx; range = range.now; mode = mode }) (record { tx = holder; range = at.now; mode = held }) }
+{
+    holder != tx && range.overlaps(at) && (is_exclusive(mode) || is_exclusive(held))
+}
+
+/// A key with only keys below the range below it, if there are keys below the range.
+fn first_key(range: &KeyRange) -> Option<Key>
+    ensures { IfSome result (λ key. (q : List ℕ) → slice_cmp nat_cmp q key ≡ Less → is_below (Some q) range.now.low ≡ true) }
+{
+    let low = range.low().as_bytes()?;
+    Key::new(&low[..low.len().min(64)])
+}
+
+/// Where to begin the search among the point locks.
+pub fn start_of(range: &KeyRange) -> ops::Bound<PointLock>
+    ensures { StartsBelow result range.now.low }
+{
+    match first_key(range) {
+        Some(key) => ops::Bound::Included(PointLock {
+            key,
+            tx: 0,
+            exclusive: false,
+        }),
+        None => ops::Bound::Unbounded,
+    }
+}
+
+/// The first of the point locks in conflict with a lock.
+pub fn first_point(
+    points: &BTreeSet<PointLock>,
+    tx: TxId,
+    range: &KeyRange,
+    mode: Mode,
+) -> Option<Rival>
+    ensures { result ≡ nearest (record { tx = tx; range = range.now; mode = mode }) (map lock_at_point points.now.keys) None }
+{
+    let mut best = None;
+    for lock in points.range((start_of(range), ops::Bound::Unbounded)) {
+        if !range.high().is_above(&lock.key) {
+            break;
+        }
+        let place = KeyRange::point(&lock.key);
+        if conflicts(tx, range, mode, lock.tx, &place, mode_of(lock.exclusive)) {
+            best = nearer(
+                best,
+                Rival {
+                    holder: lock.tx,
+                    range: place,
+                },
+            );
+        }
+    }
+    best
+}
+
+/// The first of the best so far and of one range lock in conflict with a lock.
+fn first_of(
+    best: Option<Rival>,
+    holder: TxId,
+    held: &RangeLock,
+    tx: TxId,
+    range: &KeyRange,
+    mode: Mode,
+) -> Result<Option<Rival>, AllocError>
+    ensures { IfOk result (λ r. r ≡ step (record { tx = tx; range = range.now; mode = mode }) best (lock_on_range holder held.now)) }
+{
+    if conflicts(tx, range, mode, holder, &held.range, held.mode) {
+        let range = held.range.clone()?;
+        Ok(nearer(best, Rival { holder, range }))
+    } else {
+        Ok(best)
+    }
+}
+
+/// The first of the best so far and of a transaction's range locks in conflict with a lock.
+fn first_of_holder(
+    best: Option<Rival>,
+    holder: TxId,
+    held: &[RangeLock],
+    tx: TxId,
+    range: &KeyRange,
+    mode: Mode,
+) -> Result<Option<Rival>, AllocError>
+    ensures { IfOk result (λ r. r ≡ nearest (record { tx = tx; range = range.now; mode = mode }) (map (lock_on_range holder) held.now) best) }
+{
+    let mut best = best;
+    for lock in held {
+        best = first_of(best, holder, lock, tx, range, mode)?;
+    }
+    Ok(best)
+}
+
+/// The first of the best so far and of the range locks in conflict with a lock.
+#[tactic(auto, unfolding(crate::specs::Nearest::nearest), using(crate::proofs::Conflicts::nearest_appended))]
+pub fn first_range(
+    best: Option<Rival>,
+    ranges: &BTreeMap<TxId, List<RangeLock>>,
+    tx: TxId,
+    range: &KeyRange,
+    mode: Mode,
+) -> Result<Option<Rival>, AllocError>
+    ensures { IfOk result (λ r. r ≡ nearest (record { tx = tx; range = range.now; mode = mode }) (flat_map locks_on_ranges ranges.now.entries) best) }
+{
+    let mut best = best;
+    for (holder, held) in ranges {
+        best = first_of_holder(best, *holder, held.as_slice(), tx, range, mode)?;
+    }
+    Ok(best)
+}
