@@ -1,5 +1,5 @@
 //! Bounds of keys.
-ghost use Rattle.std.specs.Prelude.{◌≡◌, ◌≤◌, ◌↔◌, IsSome, IfSome, Some, None, length};
+ghost use Rattle.std.specs.Prelude.{◌≡◌, ◌≤◌, ◌↔◌, IsSome, IfSome, Some, None, [], length, unwrap_or};
 ghost use Rattle.std.specs.Option.{option_copied};
 ghost use Rattle.store_model.specs.Range.{is_below};
 
@@ -73,6 +73,17 @@ impl Bound {
         match &self.at {
             None => None,
             Some(at) => Some(at.as_slice()),
+        }
+    }
+
+    /// Its text; the top has none.
+    pub fn text(&self) -> &[u8]
+        ensures value { result.now ≡ unwrap_or self.now [] }
+        ensures short { length result.now ≤ 65 }
+    {
+        match &self.at {
+            None => &[],
+            Some(at) => at.as_slice(),
         }
     }
 
