@@ -37,7 +37,7 @@ length-part pending i =
     let e = ap (λ (l : List Block). length (blocks l)) (sym (take-append-drop i pending)) ∙ ap length (blocks-append (take i pending) (drop i pending)) in
     omega (arith, e, length-append (blocks (take i pending)) (blocks (drop i pending)))
 
-run_front : (n : ℕ) (xs ys : List Block) → IsRun n (xs ++ ys) → IsRun n xs
+pub run_front : (n : ℕ) (xs ys : List Block) → IsRun n (xs ++ ys) → IsRun n xs
 run_front n [] ys run = tt
 run_front n (x ∷ xs) ys run = (run.0, run.1, run_front (n + x.count) xs ys run.2)
 

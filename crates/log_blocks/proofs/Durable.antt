@@ -10,6 +10,7 @@ use Rattle.log_blocks.specs.Log.{Block, body, header, blocks, open_gate, IsSeque
 use Rattle.log_blocks.specs.LogState.{LogState, IsDurable, payload_at}
 use Rattle.log_blocks.specs.Opening.{Progress, IsChain, places}
 use Rattle.log_blocks.proofs.BlockLists.{blocks-append}
+use Rattle.log_blocks.proofs.Progressing.{length-places}
 use Rattle.log_blocks.proofs.Whole.{places-append, chain_append, chain_places}
 
 pub chain_progress : (at : ℕ) (found found2 : List Place) (pending pending2 : List Block) (gate gate2 : ℕ) → IsChain at found gate → Progress gate found pending gate2 found2 pending2 → IsChain at found2 gate2
@@ -60,10 +61,6 @@ payload_in (b ∷ bs) tail (suc n) lt =
     ∙ ap (λ (l : List ℕ). take (length (payload_at bs n)) (drop (length x + (length (blocks (take n bs)) + 23)) l)) (append_assoc x (blocks bs) tail)
     ∙ ap (λ (l : List ℕ). take (length (payload_at bs n)) l) (drop-append-add x (blocks bs ++ tail) (length (blocks (take n bs)) + 23))
     ∙ payload_in bs tail n (omega (arith, lt))
-
-pub length-places : (at : ℕ) (bs : List Block) → length (places at bs) ≡ length bs
-length-places at [] = refl
-length-places at (b ∷ bs) = let rest = length-places (at + length (open_gate ∷ body b)) bs in omega (arith, rest)
 
 -- a log with a block has more than one byte
 pub behind_some : (bs : List Block) (k : Kept) (n : ℕ) → StandsFor bs k → n < length bs → Behind k.start (blocks bs) k

@@ -9,6 +9,7 @@ use Rattle.log_blocks.specs.Log.{Block, IsLawful, IsRun, IsSequence, blocks, bod
 use Rattle.log_blocks.specs.Opening.{fault_at, header_in, may_begin, places, follows, IsBadAt, IsOpened, IsChain, lsn_after}
 use Rattle.log_blocks.proofs.BlockLists.{blocks-push}
 use Rattle.log_blocks.proofs.Parsing.{Parsed, announced, parsed}
+use Rattle.log_blocks.proofs.Progressing.{length-places, places-push}
 
 run_push : (n : ℕ) (bs : List Block) (b : Block) → IsRun n bs → b.first ≡ next_lsn n bs → IsLawful b → IsRun n (bs ++ b ∷ [])
 run_push n [] b run is lawful = (is, lawful, tt)
@@ -21,15 +22,6 @@ next_push n (x ∷ xs) b = next_push (n + x.count) xs b
 pub next_above : (n : ℕ) (bs : List Block) → n ≤ next_lsn n bs
 next_above n [] = omega arith
 next_above n (x ∷ xs) = let m = next_above (n + x.count) xs in omega (arith, m)
-
-pub places_push : (at : ℕ) (bs : List Block) (b : Block) → places at (bs ++ b ∷ [])
-    ≡ places at bs ++ (record { at = at + length (blocks bs); first = b.first; checkpoint = b.checkpoint; count = b.count; length = length b.payload }) ∷ []
-places_push at [] b = let same : at ≡ at + 0 = omega arith in ap (λ (n : ℕ). (record { at = n; first = b.first; checkpoint = b.checkpoint; count = b.count; length = length b.payload }) ∷ []) same
-places_push at (x ∷ xs) b =
-    let w = length (open_gate ∷ body x) in
-    let same : at + w + length (blocks xs) ≡ at + length (blocks (x ∷ xs)) = omega (arith, length-append (open_gate ∷ body x) (blocks xs)) in
-    ap (λ (l : List Place). (record { at = at; first = x.first; checkpoint = x.checkpoint; count = x.count; length = length x.payload }) ∷ l)
-    (places_push (at + w) xs b ∙ ap (λ (n : ℕ). places (at + w) xs ++ (record { at = n; first = b.first; checkpoint = b.checkpoint; count = b.count; length = length b.payload }) ∷ []) same)
 
 at_first : (start first : ℕ) → may_begin start 0 first ≡ true → start ≡ 0 → first ≡ 1
 at_first start first is zero_is = grind (arith, nat_tests)
@@ -91,7 +83,7 @@ one_more k at next found w r h is p =
       place = omega (arith, w.place, ap length (blocks-push w.bs b), length-append (blocks w.bs) (open_gate ∷ body b), p.wide);
       sequence = sequence_push k.start w.bs b w.sequence begins p.lawful;
       next_is = sym (follows_push k.start w.bs b w.sequence begins);
-      found_is = (λ i. w.found_is i ++ (record { at = w.place i; first = h.first; checkpoint = h.checkpoint; count = h.count; length = sym p.size i }) ∷ []) ∙ sym (places_push k.start w.bs b);
+      found_is = (λ i. w.found_is i ++ (record { at = w.place i; first = h.first; checkpoint = h.checkpoint; count = h.count; length = sym p.size i }) ∷ []) ∙ sym (places-push k.start w.bs b);
       more = p.more;
       long = w.long;
     }
@@ -114,10 +106,6 @@ nothing k short = record {
   gate_is = omega arith;
   next_is = refl;
 }
-
-length-places : (at : ℕ) (bs : List Block) → length (places at bs) ≡ length bs
-length-places at [] = refl
-length-places at (b ∷ bs) = let e = length-places (at + length (open_gate ∷ body b)) bs in omega (arith, e)
 
 first_of : (rest : List ℕ) → 1 ≤ length rest → rest ≡ get_or (take 23 rest) 0 0 ∷ drop 1 rest
 first_of [] more = absurd (omega arith)

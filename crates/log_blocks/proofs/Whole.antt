@@ -5,8 +5,8 @@ use Rattle.log_blocks.specs.declared.header.Place.{Place}
 use Rattle.log_blocks.specs.Log.{Block, body, header, blocks, open_gate, IsRun, IsSequence, next_lsn}
 use Rattle.log_blocks.specs.LogState.{IsWhole, lsn_behind}
 use Rattle.log_blocks.specs.Opening.{IsChain, Progress, places, place_of, lsn_after}
-use Rattle.log_blocks.proofs.BlockLists.{blocks-append}
-use Rattle.log_blocks.proofs.Walking.{lsn_after-push}
+use Rattle.log_blocks.proofs.BlockLists.{blocks-append, run_front}
+use Rattle.log_blocks.proofs.Walking.{lsn_after-push, next_above}
 
 -- how wide a block is with its gate
 pub length-block : (b : Block) → length (open_gate ∷ body b) ≡ 23 + length b.payload
@@ -54,10 +54,6 @@ pub run_append : (n : ℕ) (xs ys : List Block) → IsRun n xs → IsRun (next_l
 run_append n [] ys a b = b
 run_append n (x ∷ xs) ys a b = (a.0, a.1, run_append (n + x.count) xs ys a.2 b)
 
-pub run_front : (n : ℕ) (xs ys : List Block) → IsRun n (xs ++ ys) → IsRun n xs
-run_front n [] ys run = tt
-run_front n (x ∷ xs) ys run = (run.0, run.1, run_front (n + x.count) xs ys run.2)
-
 pub run_rest : (n : ℕ) (xs ys : List Block) → IsRun n (xs ++ ys) → IsRun (next_lsn n xs) ys
 run_rest n [] ys run = run
 run_rest n (x ∷ xs) ys run = run_rest (n + x.count) xs ys run.2
@@ -65,10 +61,6 @@ run_rest n (x ∷ xs) ys run = run_rest (n + x.count) xs ys run.2
 pub sized_run : (n : ℕ) (bs : List Block) → IsRun n bs → AreSized bs
 sized_run n [] run = tt
 sized_run n (b ∷ bs) run = (record { count = (run.1.count.0, omega (arith, run.1.count.1)); payload = run.1.payload }, sized_run (n + b.count) bs run.2)
-
-pub above : (n : ℕ) (bs : List Block) → n ≤ next_lsn n bs
-above n [] = omega arith
-above n (b ∷ bs) = let rest = above (n + b.count) bs in omega (arith, rest)
 
 -- the LSN behind a run of blocks that join those that are there
 pub behind-places : (found : List Place) (at : ℕ) (bs : List Block) → IsRun (lsn_behind found) bs → lsn_behind (found ++ places at bs) ≡ next_lsn (lsn_behind found) bs
@@ -149,7 +141,7 @@ pub whole_more : (found : List Place) (pending more : List Block) (gate next end
     → next + records_in more ≤ 4611686018427387904 → end + length (blocks more) < 4611686018427387904
     → IsWhole found (pending ++ numbered next more) gate (next + records_in more) (end + length (blocks more))
 whole_more found pending more gate next end w s c records bytes =
-    let some : 1 ≤ next = omega (arith, w.next_is, above (lsn_behind found) pending) in
+    let some : 1 ≤ next = omega (arith, w.next_is, next_above (lsn_behind found) pending) in
     let run = numbered_run next more s c some (omega (arith, records)) in
     record {
       from = w.from;

@@ -2,6 +2,7 @@
 ghost use Rattle.std.specs.Prelude.{◌≡◌, ◌+◌, ◌<◌, ◌≤◌, ◌^◌, min, length, take, drop, MatchResult, IfOk, ℕ, slice_index};
 ghost use Rattle.log_blocks.specs.Opening.{field_at, field4_at, field2_at, fault_at, header_in};
 
+/// What stands between a block's gate and its payload.
 #[derive(Clone, Copy)]
 pub struct Header {
     pub first: u64,
@@ -47,8 +48,11 @@ fn u16_at(head: &[u8], at: usize) -> u16
     u16::from_be_bytes([b[0], b[1]])
 }
 
+/// The highest LSN.
 const HIGHEST: u64 = (1 << 63) - 1;
 
+/// The header in these bytes, which begin with an open gate and of which the disk has this many in all, or the offset
+/// of the first field that is cut or breaks a rule. `next` is the LSN that the block has to begin with, 0 for any.
 #[tactic(auto, unfolding(crate::specs::Opening::fault_at, crate::specs::Opening::header_in))]
 pub fn judge(head: &[u8], total: u64, start: u64, next: u64) -> Result<Header, u64>
     requires { length head.now ≡ min 23 total }

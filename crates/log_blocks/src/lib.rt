@@ -1,7 +1,7 @@
 //! The log as blocks behind gates, on a disk that may crash at any moment.
 //!
 //! A block is a header and a payload behind a gate, a byte that is open (A5) or closed. The log is the open blocks up
-//! to the first closed gate (`specs/Blocks`): so a block joins the log in one write of one byte. A flush writes each
+//! to the first closed gate (`specs/Log`): so a block joins the log in one write of one byte. A flush writes each
 //! block behind the closed gate, with a closed gate behind it, syncs, opens the gate and syncs again.
 //!
 //! The model of a [`BlockLog`] is its device, the places of the durable blocks and the list of the pending ones. It

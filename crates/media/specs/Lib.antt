@@ -1,5 +1,6 @@
 pub mod Cause
 pub mod Crash
+pub mod Fused
 pub mod Kept
 pub mod Images
 pub mod Objects

@@ -9,12 +9,13 @@
 //!   that call, or stands at its end, 2^64 - 1. Code that is generic over a device can't raise the count, so it can't
 //!   answer a fault that the device didn't give.
 //!
-//! A [`Fuse`] round a device makes its calls fail from a chosen one on.
+//! A [`Fuse`] round a device passes its calls on until it blows.
 #![tactic(auto)]
 
 mod devices;
 mod disk;
 mod fault;
+mod fuse;
 mod pages;
 mod stream;
 mod vault;
@@ -22,6 +23,7 @@ mod vault;
 pub use devices::Devices;
 pub use disk::Disk;
 pub use fault::Failed;
+pub use fuse::Fuse;
 pub use pages::{PageBytes, PageDevice};
 pub use stream::{Sink, Source, write_all};
 pub use vault::Vault;

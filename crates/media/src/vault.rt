@@ -1,5 +1,5 @@
 //! The vault of backups and archive runs.
-ghost use Rattle.std.specs.Prelude.{◌≡◌, ◌++◌, ◌^◌, ◌-◌, ℕ, List, min, length, take, drop, OnOk, IfOk};
+ghost use Rattle.std.specs.Prelude.{◌≡◌, ◌⊎◌, ◌++◌, ◌^◌, ◌-◌, ℕ, List, min, length, take, drop, OnOk, IfOk};
 ghost use Rattle.std.specs.Io.{ReadsAtMost};
 ghost use Rattle.media.specs.Cause.{HasCause};
 ghost use Rattle.media.specs.Objects.{Stored, Unsynced, bytes_of, synced, SameObjects, OtherObjects, IsLoose, SyncsObjects, MaySync, LeavesObjects};
@@ -23,10 +23,11 @@ pub trait Vault {
     /// How many calls a fuse has refused.
     ghost refused: { Self → ℕ };
 
-    /// Puts an unsynced object, in place of one that has the name. After `Failed` it may hold any bytes, or be absent.
+    /// Puts an unsynced object, in place of one that has the name. After `Failed` that one stands there yet, or an
+    /// unsynced one with any bytes, or none.
     fn put(&mut self, name: ObjectName, bytes: &[u8]) -> Result<(), Failed>
         ensures put { tells → OnOk result (told self.new name ≡ Unsynced bytes.now) }
-        ensures loose { tells → IsLoose (told self.new name) }
+        ensures same_or_loose { tells → (told self.new name ≡ told self.old name) ⊎ IsLoose (told self.new name) }
         ensures others { tells → OtherObjects name (told self.old) (told self.new) }
         ensures cause { HasCause faults self.old self.new result };
 

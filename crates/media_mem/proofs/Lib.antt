@@ -1,2 +1,6 @@
 mod Copying
+mod Keeping
+mod Paging
 mod Reaching
+mod Replaying
+mod Shelves

@@ -1,5 +1,5 @@
 -- One more write, and one more time that has ended.
-use Rattle.std.proofs.Common.{◌≡◌, ◌⊎◌, inl, inr, ⊎_elim, ℕ, zero, suc, ◌+◌, ◌-◌, ◌<◌, ◌≤◌, List, [], ◌∷◌, ◌++◌, length, take, drop, refl, sym, ◌∙◌, ap, subst, arith, append_assoc, length-append, length-drop, length-take}
+use Rattle.std.proofs.Common.{◌≡◌, ◌⊎◌, inl, inr, ⊎_elim, ℕ, zero, suc, ◌+◌, ◌-◌, ◌≤◌, List, [], ◌∷◌, ◌++◌, length, take, drop, refl, sym, ◌∙◌, ap, subst, arith, append_assoc, length-append, length-drop, length-take}
 use Rattle.std.proofs.lemmas.List.{take_at, drop_at}
 use Rattle.media.specs.Kept.{Kept, Torn, written}
 use Rattle.media.specs.Crash.{Elapses}
@@ -23,17 +23,17 @@ torn_written k at bytes le =
 pub torn_not : (at n : ℕ) (k : Kept) → Torn at n k k
 torn_not at n k = record { start = refl; before = refl; after = refl; no_shorter = omega arith; no_longer = omega arith }
 
-pub reach_push : (ws : List Piece) (w : Piece) (k d c : Kept) → Reach ws k d → Torn w.at (length w.bytes) d c → Reach (ws ++ w ∷ []) k c
-reach_push [] w k d c is torn = (c, subst (λ x. Torn w.at (length w.bytes) x c) is torn, refl)
+pub reach_push : (ws : List Piece) (w : Piece) (k d c : Kept) → Reach ws k d → Torn w.at (w.size) d c → Reach (ws ++ w ∷ []) k c
+reach_push [] w k d c is torn = (c, subst (λ x. Torn w.at (w.size) x c) is torn, refl)
 reach_push (v ∷ ws) w k d c r torn = (r.0, r.1, reach_push ws w r.0 d c r.2 torn)
 
-pub reach_last : (ws : List Piece) (w : Piece) (k c : Kept) → Reach (ws ++ w ∷ []) k c → (d : Kept) × Reach ws k d × Torn w.at (length w.bytes) d c
-reach_last [] w k c r = (k, refl, subst (λ x. Torn w.at (length w.bytes) k x) (sym r.2) r.1)
+pub reach_last : (ws : List Piece) (w : Piece) (k c : Kept) → Reach (ws ++ w ∷ []) k c → (d : Kept) × Reach ws k d × Torn w.at (w.size) d c
+reach_last [] w k c r = (k, refl, subst (λ x. Torn w.at (w.size) k x) (sym r.2) r.1)
 reach_last (v ∷ ws) w k c r = let last = reach_last ws w r.0 c r.2 in (last.0, (r.0, r.1, last.1), last.2)
 
 pub reach_none : (ws : List Piece) (k : Kept) → Reach ws k k
 reach_none [] k = refl
-reach_none (w ∷ ws) k = (k, torn_not w.at (length w.bytes) k, reach_none ws k)
+reach_none (w ∷ ws) k = (k, torn_not w.at (w.size) k, reach_none ws k)
 
 keeps : (past : List Span) (s : Span) (c : Kept) → HadBeen past c → HadBeen (past ++ s ∷ []) c
 keeps [] s c had = absurd had
@@ -81,27 +81,6 @@ elapses_write old new is more =
       keeps = λ t c le left. ⊎_elim (λ now. inl (more c now)) (λ had. inr (subst (λ (l : List Span). HadBeen l c) (sym (at t)) had)) left;
     }
 
-pub reach_more : (ws ws2 : List Piece) (start at : ℕ) (base cur now next bytes copy : List ℕ)
-    → Reach ws (record { start = start; bytes = base }) (record { start = start; bytes = cur }) → now ≡ cur
-    → next ≡ take (at - start) now ++ bytes ++ drop (at - start + length bytes) now → copy ≡ bytes
-    → ws2 ≡ ws ++ (record { at = at; bytes = copy }) ∷ [] → at - start ≤ length now
-    → Reach ws2 (record { start = start; bytes = base }) (record { start = start; bytes = next })
-reach_more ws ws2 start at base cur now next bytes copy r same done copied pushed le =
-    let k : Kept = record { start = start; bytes = now } in
-    let c : Kept = record { start = start; bytes = next } in
-    let b : Kept = record { start = start; bytes = base } in
-    let w : Piece = record { at = at; bytes = copy } in
-    let torn : Torn at (length copy) k c = subst (λ (l : List ℕ). Torn at (length l) k c) (sym copied)
-    (subst (λ (l : List ℕ). Torn at (length bytes) k (record { start = start; bytes = l })) (sym done) (torn_written k at bytes le)) in
-    let r2 : Reach ws b k = subst (λ (l : List ℕ). Reach ws b (record { start = start; bytes = l })) (sym same) r in
-    subst (λ (l : List Piece). Reach l b c) (sym pushed) (reach_push ws w b k c r2 torn)
-
-pub size_more : (start at most : ℕ) (now next bytes : List ℕ) → next ≡ take (at - start) now ++ bytes ++ drop (at - start + length bytes) now
-    → at - start ≤ length now → start ≤ at → start + length now < most → at + length bytes < most → start + length next < most
-size_more start at most now next bytes done le from within fits =
-    let off = at - start in
-    omega (arith, ap length done, length-append (take off now ++ bytes) (drop (off + length bytes) now), length-append (take off now) bytes, length-take off now, length-drop (off + length bytes) now)
-
 pub settles_left : (old new : MemSeen) (k : Kept) → Settles old new k → leaves old k → leaves old (kept_now new)
 settles_left old new k (inl same) r = subst (leaves old) (same.3 ∙ ap kept_now (sym same.0)) r
 settles_left old new k (inr ends) r = subst (leaves old) (ap kept_now (sym ends)) r
@@ -127,18 +106,18 @@ pub base_left : (m : MemSeen) → leaves m (record { start = m.start; bytes = m.
 base_left m = reach_none m.writes (record { start = m.start; bytes = m.base })
 
 -- the call that writes
-pub writes_crash : (old new : MemSeen) (at : ℕ) (bytes : List ℕ) → new.start ≡ old.start → new.base ≡ old.base → new.writes ≡ old.writes ++ (record { at = at; bytes = bytes }) ∷ []
-    → (c : Kept) → leaves new c → (d : Kept) × leaves old d × Torn at (length bytes) d c
-writes_crash old new at bytes st ba ws c left =
-    reach_last old.writes (record { at = at; bytes = bytes }) (record { start = old.start; bytes = old.base }) c
+pub writes_crash : (old new : MemSeen) (at size : ℕ) → new.start ≡ old.start → new.base ≡ old.base → new.writes ≡ old.writes ++ (record { at = at; size = size }) ∷ []
+    → (c : Kept) → leaves new c → (d : Kept) × leaves old d × Torn at size d c
+writes_crash old new at size st ba ws c left =
+    reach_last old.writes (record { at = at; size = size }) (record { start = old.start; bytes = old.base }) c
     (subst (λ (l : List Piece). Reach l (record { start = old.start; bytes = old.base }) c) ws (subst (λ (k : Kept). Reach new.writes k c) (λ i. record { start = st i; bytes = ba i }) left))
 
-pub writes_more : (old new : MemSeen) (at : ℕ) (bytes : List ℕ) → new.start ≡ old.start → new.base ≡ old.base → new.writes ≡ old.writes ++ (record { at = at; bytes = bytes }) ∷ []
+pub writes_more : (old new : MemSeen) (at size : ℕ) → new.start ≡ old.start → new.base ≡ old.base → new.writes ≡ old.writes ++ (record { at = at; size = size }) ∷ []
     → (c : Kept) → leaves old c → leaves new c
-writes_more old new at bytes st ba ws c left =
+writes_more old new at size st ba ws c left =
     subst (λ (k : Kept). Reach new.writes k c) (λ i. record { start = sym st i; bytes = sym ba i })
     (subst (λ (l : List Piece). Reach l (record { start = old.start; bytes = old.base }) c) (sym ws)
-    (reach_push old.writes (record { at = at; bytes = bytes }) (record { start = old.start; bytes = old.base }) c c left (torn_not at (length bytes) c)))
+    (reach_push old.writes (record { at = at; size = size }) (record { start = old.start; bytes = old.base }) c c left (torn_not at size c)))
 
 pub settles_same : (old new : MemSeen) → Settles old new (kept_now old) → kept_now new ≡ kept_now old
 settles_same old new (inl same) = ap kept_now same.0

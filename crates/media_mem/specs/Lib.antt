@@ -1,2 +1,5 @@
+pub mod History
 pub mod Reach
+pub mod Shelf
+pub mod Slots
 pub mod Streams

@@ -3,14 +3,15 @@ use Rattle.std.specs.Prelude.{◌≡◌, ◌⊎◌, ℕ, List, [], ◌∷◌, �
 use Rattle.std.proofs.Common.{inl, inr}
 use Rattle.media.specs.Kept.{Kept, Torn}
 
+-- a range that was written
 pub record Piece : Type 0 where
   pub at : ℕ
-  pub bytes : List ℕ
+  pub size : ℕ
 
 -- each piece may be torn, one after the other
 abbrev pub Reach : List Piece → Kept → Kept → Type 0
 Reach [] k c = c ≡ k
-Reach (w ∷ ws) k c = (d : Kept) × Torn w.at (length w.bytes) k d × Reach ws d c
+Reach (w ∷ ws) k c = (d : Kept) × Torn w.at w.size k d × Reach ws d c
 
 -- a time between two syncs
 pub record Span : Type 0 where

@@ -1,5 +1,5 @@
-//! Bytes copied from one slice to another.
-ghost use Rattle.std.specs.Prelude.{◌≡◌, ◌-◌, ◌++◌, length, take, drop, min};
+//! Bytes copied from one place to another.
+ghost use Rattle.std.specs.Prelude.{◌≡◌, ◌+◌, ◌-◌, ◌≤◌, ◌++◌, length, take, drop, min, vec_capacity};
 
 /// Copies the bytes from an offset on to the front of `buf`, as many as there are and fit.
 pub fn copy_out(now: &[u8], off: usize, buf: &mut [u8]) -> usize
@@ -17,4 +17,38 @@ pub fn copy_out(now: &[u8], off: usize, buf: &mut [u8]) -> usize
     };
     buf[..n].copy_from_slice(&rest[..n]);
     n
+}
+
+/// Puts bytes over those at a place.
+fn put(bytes: &mut [u8], at: usize, with: &[u8])
+    requires { at + length with.now ≤ length bytes.old }
+    ensures { bytes.new ≡ take at bytes.old ++ with.now ++ drop (at + length with.now) bytes.old }
+{
+    let end = at + with.len();
+    bytes[at..end].copy_from_slice(with);
+}
+
+/// Puts bytes over those at a place and past the end, without memory.
+pub fn put_over(bytes: &mut Vec<u8>, at: usize, with: &[u8])
+    requires within { at ≤ length bytes.old.items }
+    requires room { at + length with.now ≤ vec_capacity bytes.old }
+    ensures bytes { bytes.new.items ≡ take at bytes.old.items ++ with.now ++ drop (at + length with.now) bytes.old.items }
+    ensures capacity { vec_capacity bytes.old ≤ vec_capacity bytes.new }
+{
+    let left = bytes.len() - at;
+    let inside = if left < with.len() { left } else { with.len() };
+    let (over, past) = with.split_at(inside);
+    put(bytes.as_mut_slice(), at, over);
+    match bytes.extend_from_slice(past) {
+        Ok(()) => {}
+        Err(_) => unreachable!(),
+    }
+}
+
+/// Puts as many other bytes in the place of those that are there.
+pub fn copy_over(bytes: &mut Vec<u8>, with: &[u8])
+    requires { length with.now ≡ length bytes.old.items }
+    ensures { bytes.new.items ≡ with.now }
+{
+    bytes.as_mut_slice().copy_from_slice(with);
 }

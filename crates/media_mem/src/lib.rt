@@ -8,10 +8,16 @@
 mod copy;
 mod disk;
 mod faults;
-mod piece;
+mod history;
+mod never_fails;
+mod pages;
 mod sink;
 mod source;
+mod vault;
 
 pub use disk::MemDisk;
+pub use never_fails::NeverFails;
+pub use pages::MemPages;
 pub use sink::MemSink;
 pub use source::MemSource;
+pub use vault::{MemVault, State};

@@ -4,9 +4,11 @@ use Rattle.log_blocks.specs.declared.header.Place.{Place}
 use Rattle.log_blocks.specs.Log.{StandsFor}
 use Rattle.log_blocks.specs.LogState.{LogState, IsDurable, IsWhole, lsn_behind}
 use Rattle.log_blocks.specs.Opening.{IsChain}
-use Rattle.log_blocks.proofs.Durable.{in_disk, length-places, durable_drop, dropped}
+use Rattle.log_blocks.proofs.Durable.{in_disk, durable_drop, dropped}
+use Rattle.log_blocks.proofs.Progressing.{length-places}
 use Rattle.log_blocks.proofs.Moments.{started, goes_on}
-use Rattle.log_blocks.proofs.Whole.{above, chain_at, chain_drop, whole_drop}
+use Rattle.log_blocks.proofs.Walking.{next_above}
+use Rattle.log_blocks.proofs.Whole.{chain_at, chain_drop, whole_drop}
 use Rattle.log_blocks.proofs.log.BlockLog.drop_front.Goals as goal
 
 pub discard-requires-clause-not_before : goal.discard-requires-clause-not_before
@@ -53,7 +55,7 @@ invariant_of-self g c =
     }
 
 pub lsn_before-requires : goal.lsn_before-requires
-lsn_before-requires g c = let w = c.self.invariant.whole in omega (arith, w.next_is, above (lsn_behind (c.self.inside.places.items ++ c.self.inside.recent)) c.self.inside.pending)
+lsn_before-requires g c = let w = c.self.invariant.whole in omega (arith, w.next_is, next_above (lsn_behind (c.self.inside.places.items ++ c.self.inside.recent)) c.self.inside.pending)
 
 pub returns-in-Ok-clause-durable : goal.returns-in-Ok-clause-durable
 returns-in-Ok-clause-durable g c tells bs =

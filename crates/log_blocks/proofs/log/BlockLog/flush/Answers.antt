@@ -8,7 +8,8 @@ use Rattle.log_blocks.specs.Log.{StandsForSome, IsRun, IsSequence, blocks}
 use Rattle.log_blocks.specs.LogState.{LogState, IsDurable, lsn_behind}
 use Rattle.log_blocks.specs.Opening.{IsChain}
 use Rattle.log_blocks.proofs.Durable.{chain_progress, durable_more}
-use Rattle.log_blocks.proofs.Whole.{chain_room, blocks_room, sized_run, above, whole_progress, progress_behind, sequence_whole}
+use Rattle.log_blocks.proofs.Walking.{next_above}
+use Rattle.log_blocks.proofs.Whole.{chain_room, blocks_room, sized_run, whole_progress, progress_behind, sequence_whole}
 use Rattle.log_blocks.proofs.log.BlockLog.flush.Goals as goal
 
 pub flush_all-requires-clause-not_before : goal.flush_all-requires-clause-not_before
@@ -41,7 +42,7 @@ invariant_of-self g c =
     }
 
 pub lsn_before-requires : goal.lsn_before-requires
-lsn_before-requires g c = let w = c.self.invariant.whole in omega (arith, w.next_is, above (lsn_behind (c.self.inside.places.items ++ c.self.inside.recent)) c.self.inside.pending)
+lsn_before-requires g c = let w = c.self.invariant.whole in omega (arith, w.next_is, next_above (lsn_behind (c.self.inside.places.items ++ c.self.inside.recent)) c.self.inside.pending)
 
 pub invariant_of-self-in-Err : goal.invariant_of-self-in-Err
 invariant_of-self-in-Err g c = record {

@@ -2,8 +2,10 @@ use Rattle.std.proofs.Common.{◌≡◌, ◌++◌, ◌+◌, ◌-◌, ◌<◌, Li
 use Rattle.media.specs.Kept.{bytes_at}
 use Rattle.log_blocks.specs.declared.header.Place.{Place}
 use Rattle.log_blocks.specs.LogState.{LogState, lsn_behind, payload_at}
-use Rattle.log_blocks.proofs.Durable.{in_disk, length-places, payload_read, payload_left, payload_right, payload_get}
-use Rattle.log_blocks.proofs.Whole.{above, chain_at}
+use Rattle.log_blocks.proofs.Durable.{in_disk, payload_read, payload_left, payload_right, payload_get}
+use Rattle.log_blocks.proofs.Progressing.{length-places}
+use Rattle.log_blocks.proofs.Walking.{next_above}
+use Rattle.log_blocks.proofs.Whole.{chain_at}
 use Rattle.log_blocks.proofs.log.BlockLog.read_block.Goals as goal
 
 pub returns-then-i-durable-clause-payload : goal.returns-then-i-durable-clause-payload
@@ -45,7 +47,7 @@ read_payload-requires-clause-within g c =
     omega (arith, at.1, inside)
 
 pub lsn_before-requires : goal.lsn_before-requires
-lsn_before-requires g c = let w = c.self.invariant.whole in omega (arith, w.next_is, above (lsn_behind (c.self.inside.places.items ++ c.self.inside.recent)) c.self.inside.pending)
+lsn_before-requires g c = let w = c.self.invariant.whole in omega (arith, w.next_is, next_above (lsn_behind (c.self.inside.places.items ++ c.self.inside.recent)) c.self.inside.pending)
 
 pub returns-in-Ok-clause-payload : goal.returns-in-Ok-clause-payload
 returns-in-Ok-clause-payload g c tells bs d =

@@ -1,0 +1,11 @@
+use Rattle.std.proofs.Common.{◌≡◌, ◌≤◌, length, drop}
+use Rattle.std.specs.Prelude.{vec_capacity}
+use Rattle.media_mem.specs.History.{AreWithin, grown, replay}
+use Rattle.media_mem.proofs.disk.replay_on.Given as goal
+
+abbrev pub invariant-loop-write : goal.invariant-loop-write
+invariant-loop-write l = record {
+  same : replay (drop l.write-index l.writes) (record { start = l.start; bytes = l.base.items }) ≡ replay l.writes (record { start = l.start; bytes = l.fn.base.items });
+  within : AreWithin l.start (length l.base.items) (drop l.write-index l.writes);
+  room : grown l.start (length l.base.items) (drop l.write-index l.writes) ≤ vec_capacity l.base;
+}
