@@ -1,0 +1,4 @@
+pub mod KindFields
+pub mod ListKinds
+pub mod StateKinds
+pub mod AnyKind

@@ -1,0 +1,6 @@
+use Rattle.std.proofs.Common.{◌≡◌, ◌-◌, []}
+use Rattle.wal_record.specs.Reading.{items_at, page_head_at}
+use Rattle.record_codec.proofs.lists.page_heads_items.Given as goal
+
+abbrev pub invariant-loop : goal.invariant-loop
+invariant-loop l = items_at page_head_at (l.count - l.counter) l.found l.rest ≡ items_at page_head_at l.count [] l.bytes

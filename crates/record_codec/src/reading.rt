@@ -1,0 +1,359 @@
+//! Reading a record.
+ghost use Rattle.std.specs.Prelude.{◌≡◌, ◌++◌, ℕ, List, length, take, IfOk};
+ghost use Rattle.wal_record.specs.declared.record.Record.{Record};
+ghost use Rattle.wal_record.specs.Rules.{HasSpelling};
+ghost use Rattle.wal_record.specs.Spelling.{spelling};
+ghost use Rattle.wal_record.specs.Reading.{record_at, format_at, write_at, apply_at, undo_at, commit_at, end_at, adopt_at, purge_at, written_at, run_done_at, lost_at, restored_at, checkpoint_at, backup_done_at, split_at, grow_at};
+ghost use Rattle.state_codec.specs.Gives.{Gives};
+ghost use Rattle.record_codec.specs.Gives.{Tells, IsFound};
+
+use crate::fault::RecordFault;
+use crate::lists::{page_heads_at, page_lsns_at, runs_at, segments_at, transactions_at};
+use state_codec::{
+    FieldFault, argument_at, child_at, key_at, limit_at, lsn_or_none_at, maybe_value_at,
+    new_value_at, next_at, number_at, page_at, state_at, u8_at, u32_at, u64_at,
+};
+use std::alloc::Global;
+use wal_record::{
+    Adopt, Apply, BackupDone, Checkpoint, Commit, End, Format, Grow, Lost, Purge, Record, Restored,
+    RunDone, Split, Undo, Write, Written,
+};
+
+#[tactic(auto, unfolding(wal_record::specs::Reading::format_at))]
+fn format_at(bytes: &[u8]) -> Result<(Format, &[u8]), FieldFault>
+    ensures { Gives (λ x. (x.0, x.1.now)) result (format_at bytes.now) }
+{
+    let (limit, rest) = limit_at(bytes)?;
+    Ok((Format { limit }, rest))
+}
+
+#[tactic(auto, unfolding(wal_record::specs::Reading::write_at))]
+fn write_at(bytes: &[u8]) -> Result<(Write, &[u8]), FieldFault>
+    ensures { Gives (λ x. (x.0, x.1.now)) result (write_at bytes.now) }
+{
+    let (tx, rest) = number_at(bytes)?;
+    let (prev, rest) = lsn_or_none_at(rest)?;
+    let (page, rest) = page_at(rest)?;
+    let (page_prev, rest) = lsn_or_none_at(rest)?;
+    let (key, rest) = key_at(rest)?;
+    let (old, rest) = maybe_value_at(rest)?;
+    let (new, rest) = new_value_at(&old, rest)?;
+    let found = Write {
+        tx,
+        prev,
+        page,
+        page_prev,
+        key,
+        old,
+        new,
+    };
+    Ok((found, rest))
+}
+
+#[tactic(auto, unfolding(wal_record::specs::Reading::apply_at))]
+fn apply_at(bytes: &[u8]) -> Result<(Apply, &[u8]), FieldFault>
+    ensures { Gives (λ x. (x.0, x.1.now)) result (apply_at bytes.now) }
+{
+    let (tx, rest) = number_at(bytes)?;
+    let (prev, rest) = lsn_or_none_at(rest)?;
+    let (page, rest) = page_at(rest)?;
+    let (page_prev, rest) = lsn_or_none_at(rest)?;
+    let (key, rest) = key_at(rest)?;
+    let (operator, rest) = u8_at(rest)?;
+    let (argument, rest) = argument_at(rest)?;
+    let (old, rest) = maybe_value_at(rest)?;
+    let found = Apply {
+        tx,
+        prev,
+        page,
+        page_prev,
+        key,
+        operator,
+        argument,
+        old,
+    };
+    Ok((found, rest))
+}
+
+#[tactic(auto, unfolding(wal_record::specs::Reading::undo_at))]
+fn undo_at(bytes: &[u8]) -> Result<(Undo, &[u8]), FieldFault>
+    ensures { Gives (λ x. (x.0, x.1.now)) result (undo_at bytes.now) }
+{
+    let (tx, rest) = number_at(bytes)?;
+    let (prev, rest) = lsn_or_none_at(rest)?;
+    let (page, rest) = page_at(rest)?;
+    let (page_prev, rest) = lsn_or_none_at(rest)?;
+    let (key, rest) = key_at(rest)?;
+    let (restores, rest) = maybe_value_at(rest)?;
+    let (undo_next, rest) = lsn_or_none_at(rest)?;
+    let found = Undo {
+        tx,
+        prev,
+        page,
+        page_prev,
+        key,
+        restores,
+        undo_next,
+    };
+    Ok((found, rest))
+}
+
+#[tactic(auto, unfolding(wal_record::specs::Reading::commit_at))]
+fn commit_at(bytes: &[u8]) -> Result<(Commit, &[u8]), FieldFault>
+    ensures { Gives (λ x. (x.0, x.1.now)) result (commit_at bytes.now) }
+{
+    let (tx, rest) = number_at(bytes)?;
+    let (prev, rest) = lsn_or_none_at(rest)?;
+    Ok((Commit { tx, prev }, rest))
+}
+
+#[tactic(auto, unfolding(wal_record::specs::Reading::end_at))]
+fn end_at(bytes: &[u8]) -> Result<(End, &[u8]), FieldFault>
+    ensures { Gives (λ x. (x.0, x.1.now)) result (end_at bytes.now) }
+{
+    let (tx, rest) = number_at(bytes)?;
+    let (prev, rest) = lsn_or_none_at(rest)?;
+    Ok((End { tx, prev }, rest))
+}
+
+#[tactic(auto, unfolding(wal_record::specs::Reading::adopt_at))]
+fn adopt_at(bytes: &[u8]) -> Result<(Adopt, &[u8]), FieldFault>
+    ensures { Gives (λ x. (x.0, x.1.now)) result (adopt_at bytes.now) }
+{
+    let (parent, rest) = page_at(bytes)?;
+    let (parent_prev, rest) = lsn_or_none_at(rest)?;
+    let (fosterer, rest) = page_at(rest)?;
+    let (fosterer_prev, rest) = lsn_or_none_at(rest)?;
+    let (child, rest) = child_at(rest)?;
+    let (key, rest) = key_at(rest)?;
+    let found = Adopt {
+        parent,
+        parent_prev,
+        fosterer,
+        fosterer_prev,
+        child,
+        key,
+    };
+    Ok((found, rest))
+}
+
+#[tactic(auto, unfolding(wal_record::specs::Reading::purge_at))]
+fn purge_at(bytes: &[u8]) -> Result<(Purge, &[u8]), FieldFault>
+    ensures { Gives (λ x. (x.0, x.1.now)) result (purge_at bytes.now) }
+{
+    let (page, rest) = page_at(bytes)?;
+    let (page_prev, rest) = lsn_or_none_at(rest)?;
+    Ok((Purge { page, page_prev }, rest))
+}
+
+#[tactic(auto, unfolding(wal_record::specs::Reading::written_at))]
+fn written_at(bytes: &[u8]) -> Result<(Written, &[u8]), FieldFault>
+    ensures { Gives (λ x. (x.0, x.1.now)) result (written_at bytes.now) }
+{
+    let (page, rest) = page_at(bytes)?;
+    let (lsn, rest) = number_at(rest)?;
+    Ok((Written { page, lsn }, rest))
+}
+
+#[tactic(auto, unfolding(wal_record::specs::Reading::run_done_at))]
+fn run_done_at(bytes: &[u8]) -> Result<(RunDone, &[u8]), FieldFault>
+    ensures { Gives (λ x. (x.0, x.1.now)) result (run_done_at bytes.now) }
+{
+    let (run, rest) = number_at(bytes)?;
+    let (first, rest) = number_at(rest)?;
+    let (last, rest) = number_at(rest)?;
+    Ok((RunDone { run, first, last }, rest))
+}
+
+#[tactic(auto, unfolding(wal_record::specs::Reading::lost_at))]
+fn lost_at(bytes: &[u8]) -> Result<(Lost, &[u8]), FieldFault>
+    ensures { Gives (λ x. (x.0, x.1.now)) result (lost_at bytes.now) }
+{
+    let (pages, rest) = u32_at(bytes)?;
+    Ok((Lost { pages }, rest))
+}
+
+#[tactic(auto, unfolding(wal_record::specs::Reading::restored_at))]
+fn restored_at(bytes: &[u8]) -> Result<(Restored, &[u8]), FieldFault>
+    ensures { Gives (λ x. (x.0, x.1.now)) result (restored_at bytes.now) }
+{
+    let (segment, rest) = u32_at(bytes)?;
+    Ok((Restored { segment }, rest))
+}
+
+#[tactic(auto, unfolding(wal_record::specs::Reading::checkpoint_at))]
+fn checkpoint_at(alloc: Global, bytes: &[u8]) -> Result<(Checkpoint, &[u8]), FieldFault>
+    ensures { Gives (λ x. (x.0, x.1.now)) result (checkpoint_at bytes.now) }
+{
+    let (next_tx, rest) = next_at(bytes)?;
+    let (commits, rest) = u64_at(rest)?;
+    let (limit, rest) = u32_at(rest)?;
+    let (pages, rest) = page_heads_at(alloc, rest)?;
+    let (transactions, rest) = transactions_at(alloc, rest)?;
+    let (lost, rest) = u32_at(rest)?;
+    let (unrestored, rest) = segments_at(alloc, rest)?;
+    let (runs, rest) = runs_at(alloc, rest)?;
+    let (next_backup, rest) = next_at(rest)?;
+    let (next_run, rest) = next_at(rest)?;
+    let found = Checkpoint {
+        next_tx,
+        commits,
+        limit,
+        pages,
+        transactions,
+        lost,
+        unrestored,
+        runs,
+        next_backup,
+        next_run,
+    };
+    Ok((found, rest))
+}
+
+#[tactic(auto, unfolding(wal_record::specs::Reading::backup_done_at))]
+fn backup_done_at(alloc: Global, bytes: &[u8]) -> Result<(BackupDone, &[u8]), FieldFault>
+    ensures { Gives (λ x. (x.0, x.1.now)) result (backup_done_at bytes.now) }
+{
+    let (backup, rest) = number_at(bytes)?;
+    let (segment, rest) = u32_at(rest)?;
+    let (pages, rest) = page_lsns_at(alloc, rest)?;
+    let found = BackupDone {
+        backup,
+        segment,
+        pages,
+    };
+    Ok((found, rest))
+}
+
+#[tactic(auto, unfolding(wal_record::specs::Reading::split_at))]
+fn split_at(alloc: Global, bytes: &[u8]) -> Result<(Split, &[u8]), FieldFault>
+    ensures { Gives (λ x. (x.0, x.1.now)) result (split_at bytes.now) }
+{
+    let (page, rest) = page_at(bytes)?;
+    let (page_prev, rest) = lsn_or_none_at(rest)?;
+    let (child, rest) = child_at(rest)?;
+    let (child_state, rest) = state_at(alloc, rest)?;
+    let found = Split {
+        page,
+        page_prev,
+        child,
+        child_state,
+    };
+    Ok((found, rest))
+}
+
+#[tactic(auto, unfolding(wal_record::specs::Reading::grow_at))]
+fn grow_at(alloc: Global, bytes: &[u8]) -> Result<(Grow, &[u8]), FieldFault>
+    ensures { Gives (λ x. (x.0, x.1.now)) result (grow_at bytes.now) }
+{
+    let (page_prev, rest) = lsn_or_none_at(bytes)?;
+    let (child, rest) = child_at(rest)?;
+    let (child_state, rest) = state_at(alloc, rest)?;
+    let found = Grow {
+        page_prev,
+        child,
+        child_state,
+    };
+    Ok((found, rest))
+}
+
+/// The record in front.
+#[tactic(auto, unfolding(wal_record::specs::Reading::record_at))]
+fn record_at(alloc: Global, bytes: &[u8]) -> Result<(Record, &[u8]), FieldFault>
+    ensures { Gives (λ x. (x.0, x.1.now)) result (record_at bytes.now) }
+{
+    match bytes {
+        [] => Err(FieldFault::Bad { left: 0 }),
+        [1, rest @ ..] => {
+            let (found, rest) = format_at(rest)?;
+            Ok((Record::Format(found), rest))
+        }
+        [2, rest @ ..] => {
+            let (found, rest) = write_at(rest)?;
+            Ok((Record::Write(found), rest))
+        }
+        [3, rest @ ..] => {
+            let (found, rest) = apply_at(rest)?;
+            Ok((Record::Apply(found), rest))
+        }
+        [4, rest @ ..] => {
+            let (found, rest) = undo_at(rest)?;
+            Ok((Record::Undo(found), rest))
+        }
+        [5, rest @ ..] => {
+            let (found, rest) = commit_at(rest)?;
+            Ok((Record::Commit(found), rest))
+        }
+        [6, rest @ ..] => {
+            let (found, rest) = end_at(rest)?;
+            Ok((Record::End(found), rest))
+        }
+        [7, rest @ ..] => {
+            let (found, rest) = split_at(alloc, rest)?;
+            Ok((Record::Split(found), rest))
+        }
+        [8, rest @ ..] => {
+            let (found, rest) = adopt_at(rest)?;
+            Ok((Record::Adopt(found), rest))
+        }
+        [9, rest @ ..] => {
+            let (found, rest) = grow_at(alloc, rest)?;
+            Ok((Record::Grow(found), rest))
+        }
+        [10, rest @ ..] => {
+            let (found, rest) = purge_at(rest)?;
+            Ok((Record::Purge(found), rest))
+        }
+        [11, rest @ ..] => {
+            let (found, rest) = written_at(rest)?;
+            Ok((Record::Written(found), rest))
+        }
+        [12, rest @ ..] => {
+            let (found, rest) = checkpoint_at(alloc, rest)?;
+            Ok((Record::Checkpoint(found), rest))
+        }
+        [13, rest @ ..] => {
+            let (found, rest) = backup_done_at(alloc, rest)?;
+            Ok((Record::BackupDone(found), rest))
+        }
+        [14, rest @ ..] => {
+            let (found, rest) = run_done_at(rest)?;
+            Ok((Record::RunDone(found), rest))
+        }
+        [15, rest @ ..] => {
+            let (found, rest) = lost_at(rest)?;
+            Ok((Record::Lost(found), rest))
+        }
+        [16, rest @ ..] => {
+            let (found, rest) = restored_at(rest)?;
+            Ok((Record::Restored(found), rest))
+        }
+        _ => Err(FieldFault::Bad { left: bytes.len() }),
+    }
+}
+
+/// The record in front and its length, or where the first fault is.
+fn told(alloc: Global, bytes: &[u8]) -> Result<(Record, usize), RecordFault>
+    ensures { Tells result (record_at bytes.now) (length bytes.now) }
+{
+    match record_at(alloc, bytes) {
+        Ok((found, rest)) => Ok((found, bytes.len() - rest.len())),
+        Err(FieldFault::Memory) => Err(RecordFault::Memory),
+        Err(FieldFault::Bad { left }) => Err(RecordFault::Bad {
+            byte: bytes.len() - left,
+        }),
+    }
+}
+
+/// The record that the bytes begin with, and its length. Want of memory apart, it is refused exactly where the bytes
+/// begin with no record, at the byte where the first field begins that is cut or breaks its rule.
+pub fn decode(alloc: Global, bytes: &[u8]) -> Result<(Record, usize), RecordFault>
+    // What is found keeps its rules, and its spelling begins the bytes.
+    ensures found { IfOk result (λ x. HasSpelling x.0 × (take x.1 bytes.now ≡ spelling x.0)) }
+    // Where a spelling begins the bytes, that record is found, unless memory ran out.
+    ensures only { (r : Record) (rest : List ℕ) → HasSpelling r → bytes.now ≡ spelling r ++ rest → IsFound result r }
+    // Where a fault is.
+    ensures exact { Tells result (record_at bytes.now) (length bytes.now) }
+{
+    told(alloc, bytes)
+}

@@ -1,0 +1,256 @@
+//! Writing a record.
+ghost use Rattle.std.specs.Prelude.{◌≡◌, ◌++◌, ◌∷◌, OnOk, OnErr, length};
+ghost use Rattle.wal_record.specs.Rules.{HasSpelling, KeepsCheckpoint, KeepsBackupDone, KeepsSplit, KeepsGrow};
+ghost use Rattle.wal_record.specs.Spelling.{spelling, format_bytes, write_bytes, apply_bytes, undo_bytes, commit_bytes, end_bytes, adopt_bytes, purge_bytes, written_bytes, run_done_bytes, lost_bytes, restored_bytes, checkpoint_bytes, backup_done_bytes, split_bytes, grow_bytes};
+
+use crate::list_writing::{
+    put_page_heads, put_page_lsns, put_runs, put_segments, put_transactions,
+};
+use state_codec::{put_argument, put_key, put_maybe_value, put_state, put_u8, put_u32, put_u64};
+use std::alloc::{AllocError, Global};
+use store_model::Memory;
+use wal_record::{
+    Adopt, Apply, BackupDone, Checkpoint, Commit, End, Format, Grow, Lost, Purge, Record, Restored,
+    RunDone, Split, Undo, Write, Written,
+};
+
+fn put_format(out: &mut Vec<u8>, found: &Format) -> Result<(), AllocError>
+    ensures { OnOk result (out.new.items ≡ out.old.items ++ format_bytes found.now) }
+{
+    put_u32(out, found.limit)
+}
+
+fn put_write(out: &mut Vec<u8>, found: &Write) -> Result<(), AllocError>
+    ensures { OnOk result (out.new.items ≡ out.old.items ++ write_bytes found.now) }
+{
+    put_u64(out, found.tx)?;
+    put_u64(out, found.prev)?;
+    put_u32(out, found.page)?;
+    put_u64(out, found.page_prev)?;
+    put_key(out, &found.key)?;
+    put_maybe_value(out, &found.old)?;
+    put_maybe_value(out, &found.new)
+}
+
+fn put_apply(out: &mut Vec<u8>, found: &Apply) -> Result<(), AllocError>
+    ensures { OnOk result (out.new.items ≡ out.old.items ++ apply_bytes found.now) }
+{
+    put_u64(out, found.tx)?;
+    put_u64(out, found.prev)?;
+    put_u32(out, found.page)?;
+    put_u64(out, found.page_prev)?;
+    put_key(out, &found.key)?;
+    put_u8(out, found.operator)?;
+    put_argument(out, &found.argument)?;
+    put_maybe_value(out, &found.old)
+}
+
+fn put_undo(out: &mut Vec<u8>, found: &Undo) -> Result<(), AllocError>
+    ensures { OnOk result (out.new.items ≡ out.old.items ++ undo_bytes found.now) }
+{
+    put_u64(out, found.tx)?;
+    put_u64(out, found.prev)?;
+    put_u32(out, found.page)?;
+    put_u64(out, found.page_prev)?;
+    put_key(out, &found.key)?;
+    put_maybe_value(out, &found.restores)?;
+    put_u64(out, found.undo_next)
+}
+
+fn put_commit(out: &mut Vec<u8>, found: &Commit) -> Result<(), AllocError>
+    ensures { OnOk result (out.new.items ≡ out.old.items ++ commit_bytes found.now) }
+{
+    put_u64(out, found.tx)?;
+    put_u64(out, found.prev)
+}
+
+fn put_end(out: &mut Vec<u8>, found: &End) -> Result<(), AllocError>
+    ensures { OnOk result (out.new.items ≡ out.old.items ++ end_bytes found.now) }
+{
+    put_u64(out, found.tx)?;
+    put_u64(out, found.prev)
+}
+
+fn put_adopt(out: &mut Vec<u8>, found: &Adopt) -> Result<(), AllocError>
+    ensures { OnOk result (out.new.items ≡ out.old.items ++ adopt_bytes found.now) }
+{
+    put_u32(out, found.parent)?;
+    put_u64(out, found.parent_prev)?;
+    put_u32(out, found.fosterer)?;
+    put_u64(out, found.fosterer_prev)?;
+    put_u32(out, found.child)?;
+    put_key(out, &found.key)
+}
+
+fn put_purge(out: &mut Vec<u8>, found: &Purge) -> Result<(), AllocError>
+    ensures { OnOk result (out.new.items ≡ out.old.items ++ purge_bytes found.now) }
+{
+    put_u32(out, found.page)?;
+    put_u64(out, found.page_prev)
+}
+
+fn put_written(out: &mut Vec<u8>, found: &Written) -> Result<(), AllocError>
+    ensures { OnOk result (out.new.items ≡ out.old.items ++ written_bytes found.now) }
+{
+    put_u32(out, found.page)?;
+    put_u64(out, found.lsn)
+}
+
+fn put_run_done(out: &mut Vec<u8>, found: &RunDone) -> Result<(), AllocError>
+    ensures { OnOk result (out.new.items ≡ out.old.items ++ run_done_bytes found.now) }
+{
+    put_u64(out, found.run)?;
+    put_u64(out, found.first)?;
+    put_u64(out, found.last)
+}
+
+fn put_lost(out: &mut Vec<u8>, found: &Lost) -> Result<(), AllocError>
+    ensures { OnOk result (out.new.items ≡ out.old.items ++ lost_bytes found.now) }
+{
+    put_u32(out, found.pages)
+}
+
+fn put_restored(out: &mut Vec<u8>, found: &Restored) -> Result<(), AllocError>
+    ensures { OnOk result (out.new.items ≡ out.old.items ++ restored_bytes found.now) }
+{
+    put_u32(out, found.segment)
+}
+
+#[tactic(auto, unfolding(wal_record::specs::Spelling::checkpoint_bytes))]
+fn put_checkpoint(out: &mut Vec<u8>, found: &Checkpoint) -> Result<(), AllocError>
+    requires { KeepsCheckpoint found.now }
+    ensures { OnOk result (out.new.items ≡ out.old.items ++ checkpoint_bytes found.now) }
+{
+    put_u64(out, found.next_tx)?;
+    put_u64(out, found.commits)?;
+    put_u32(out, found.limit)?;
+    put_page_heads(out, &found.pages)?;
+    put_transactions(out, &found.transactions)?;
+    put_u32(out, found.lost)?;
+    put_segments(out, &found.unrestored)?;
+    put_runs(out, &found.runs)?;
+    put_u64(out, found.next_backup)?;
+    put_u64(out, found.next_run)
+}
+
+fn put_backup_done(out: &mut Vec<u8>, found: &BackupDone) -> Result<(), AllocError>
+    requires { KeepsBackupDone found.now }
+    ensures { OnOk result (out.new.items ≡ out.old.items ++ backup_done_bytes found.now) }
+{
+    put_u64(out, found.backup)?;
+    put_u32(out, found.segment)?;
+    put_page_lsns(out, &found.pages)
+}
+
+fn put_split(out: &mut Vec<u8>, found: &Split) -> Result<(), AllocError>
+    requires { KeepsSplit found.now }
+    ensures { OnOk result (out.new.items ≡ out.old.items ++ split_bytes found.now) }
+{
+    put_u32(out, found.page)?;
+    put_u64(out, found.page_prev)?;
+    put_u32(out, found.child)?;
+    put_state(out, &found.child_state)
+}
+
+fn put_grow(out: &mut Vec<u8>, found: &Grow) -> Result<(), AllocError>
+    requires { KeepsGrow found.now }
+    ensures { OnOk result (out.new.items ≡ out.old.items ++ grow_bytes found.now) }
+{
+    put_u64(out, found.page_prev)?;
+    put_u32(out, found.child)?;
+    put_state(out, &found.child_state)
+}
+
+/// Appends the spelling, or part of it where memory runs out.
+fn put_record(out: &mut Vec<u8>, found: &Record) -> Result<(), AllocError>
+    requires { HasSpelling found.now }
+    ensures { OnOk result (out.new.items ≡ out.old.items ++ spelling found.now) }
+{
+    match found {
+        Record::Format(found) => {
+            out.push(1)?;
+            put_format(out, found)
+        }
+        Record::Write(found) => {
+            out.push(2)?;
+            put_write(out, found)
+        }
+        Record::Apply(found) => {
+            out.push(3)?;
+            put_apply(out, found)
+        }
+        Record::Undo(found) => {
+            out.push(4)?;
+            put_undo(out, found)
+        }
+        Record::Commit(found) => {
+            out.push(5)?;
+            put_commit(out, found)
+        }
+        Record::End(found) => {
+            out.push(6)?;
+            put_end(out, found)
+        }
+        Record::Split(found) => {
+            out.push(7)?;
+            put_split(out, found)
+        }
+        Record::Adopt(found) => {
+            out.push(8)?;
+            put_adopt(out, found)
+        }
+        Record::Grow(found) => {
+            out.push(9)?;
+            put_grow(out, found)
+        }
+        Record::Purge(found) => {
+            out.push(10)?;
+            put_purge(out, found)
+        }
+        Record::Written(found) => {
+            out.push(11)?;
+            put_written(out, found)
+        }
+        Record::Checkpoint(found) => {
+            out.push(12)?;
+            put_checkpoint(out, found)
+        }
+        Record::BackupDone(found) => {
+            out.push(13)?;
+            put_backup_done(out, found)
+        }
+        Record::RunDone(found) => {
+            out.push(14)?;
+            put_run_done(out, found)
+        }
+        Record::Lost(found) => {
+            out.push(15)?;
+            put_lost(out, found)
+        }
+        Record::Restored(found) => {
+            out.push(16)?;
+            put_restored(out, found)
+        }
+    }
+}
+
+/// Appends the one spelling of a record, which is spelled apart first: where memory runs out, `out` is as before.
+pub fn encode(alloc: Global, found: &Record, out: &mut Vec<u8>) -> Result<(), Memory>
+    requires { HasSpelling found.now }
+    ensures ok { OnOk result (out.new.items ≡ out.old.items ++ spelling found.now) }
+    ensures err { OnErr result (out.new.items ≡ out.old.items) }
+{
+    let mut bytes = Vec::new(alloc);
+    put_record(&mut bytes, found)?;
+    out.extend_from_slice(&bytes)?;
+    Ok(())
+}
+
+/// The spelling of a Commit. It takes no memory.
+pub fn commit_bytes(commit: &Commit) -> [u8; 17]
+    ensures { result ≡ spelling (Record.Commit commit.now) }
+{
+    let [a, b, c, d, e, f, g, h] = commit.tx.to_be_bytes();
+    let [i, j, k, l, m, n, o, p] = commit.prev.to_be_bytes();
+    [5, a, b, c, d, e, f, g, h, i, j, k, l, m, n, o, p]
+}

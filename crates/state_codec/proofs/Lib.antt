@@ -1,0 +1,10 @@
+pub mod Fields
+pub mod FieldKinds
+pub mod Items
+pub mod Taken
+pub mod StateAt
+pub mod Rising
+pub mod LeafField
+pub mod BranchField
+pub mod RowsField
+pub mod StateField
