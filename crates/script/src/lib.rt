@@ -19,6 +19,7 @@ mod word;
 pub use command::{Command, Device};
 pub use line::command_of;
 pub use name::Name;
+pub use token::is_plain;
 pub use word::first_word;
 
 #[cfg(test)]

@@ -28,7 +28,8 @@ fn hex(byte: u8) -> Option<u8>
     }
 }
 
-fn is_plain(byte: u8) -> bool
+/// Whether a byte of a token stands for itself.
+pub fn is_plain(byte: u8) -> bool
     ensures { result ≡ is_plain byte }
 {
     32 < byte && byte < 127 && byte != b'%'
