@@ -1,0 +1,118 @@
+-- What a run promises.
+use Rattle.std.specs.Prelude.{◌≡◌, ◌<◌, ◌+◌, ℕ, List, [], ◌∷◌, ◌++◌, length, map, Option, Some, None, true, false, ◌⊎◌}
+use Rattle.std.specs.List.{All}
+use Rattle.std.specs.Io.KnownBytes.{Appends, Consumes, IsAtEnd}
+use Rattle.std.specs.declared.result.Result.{Result}
+use Rattle.std.specs.declared.result.Result.TheVariants.{Ok, Err}
+use Rattle.script.specs.declared.command.Command.{Command}
+use Rattle.script.specs.Line.{reads}
+use Rattle.runner.specs.Lines.{Reader, to_come, IsLine, IsNoLine}
+use Rattle.runner.specs.Built.{is_built}
+use Rattle.runner.specs.Turns.{Turn, Stage, stage, Fits, IsRightLife, lives, is_lawful}
+use Rattle.runner.specs.Refusals.{IsNotBuilt, IsFull, IsOpen}
+use Rattle.runner.specs.Text.{text}
+use Rattle.runner.specs.declared.status.Status.{Status}
+use Rattle.runner.specs.declared.status.Status.TheVariants as statuses
+use Rattle.runner.specs.declared.run.Turned.{Turned}
+use Rattle.runner.specs.declared.run.Turned.TheVariants as results
+use Rattle.runner.specs.Machine.{Out}
+
+-- the bytes are the lines of these commands
+abbrev pub Script : List ℕ → List Command → Type 0
+Script bytes [] = bytes ≡ []
+Script bytes (c ∷ cs) = (line : List ℕ) × (rest : List ℕ) × (bytes ≡ line ++ 10 ∷ rest) × IsLine line × (reads line ≡ Some c) × Script rest cs
+
+abbrev pub IsPrefix : List ℕ → List ℕ → Type 0
+IsPrefix a b = (rest : List ℕ) × (b ≡ a ++ rest)
+
+abbrev pub command_of : Turn → Command
+command_of t = t.command
+
+-- turns that were run: of the lines read; each fits, and each life is right
+pub record Ran (read : List ℕ) (turns : List Turn) : Type 0 where
+  pub script : Script read (map command_of turns)
+  pub fits : Fits turns
+  pub right : All IsRightLife (lives (stage turns))
+
+-- the bytes are the lines of all turns before the last, and some of the last one's
+abbrev pub Partly : List Turn → List ℕ → Type 0
+Partly turns written = (before : List Turn) × (last : List Turn) × (length last < 2) × (turns ≡ before ++ last) × IsPrefix (text before) written × IsPrefix written (text turns)
+
+-- what is said of a command that a line spells
+abbrev pub OfCommand : (Command → Type 0) → Option Command → Type 0
+OfCommand P None = ⊥
+OfCommand P (Some c) = P c
+
+abbrev pub Unlawful : Stage → Option Command → Type 0
+Unlawful s None = Unit {0}
+Unlawful s (Some c) = is_lawful s c ≡ false
+
+-- the next line has a built word and is in no grammar, or its command isn't lawful after these turns; or no line is
+-- there: the input ends within it, or it is too long, or the script is
+abbrev pub BadLine : Stage → ℕ → List ℕ → Option (List ℕ) → Type 0
+BadLine s taken rest left = ((line : List ℕ) × (rest ≡ line ++ 10 ∷ []) × IsLine line × (is_built line ≡ true) × Unlawful s (reads line)) ⊎ IsNoLine taken rest left
+
+-- the next line spells a command of which this is so
+abbrev pub NextLine : (Command → Type 0) → List ℕ → Type 0
+NextLine P rest = (line : List ℕ) × (rest ≡ line ++ 10 ∷ []) × OfCommand P (reads line)
+
+abbrev pub NotBuiltLine : Stage → List ℕ → Type 0
+NotBuiltLine s rest = ((line : List ℕ) × (rest ≡ line ++ 10 ∷ []) × (is_built line ≡ false)) ⊎ NextLine (λ c. (is_lawful s c ≡ true) × IsNotBuilt s c) rest
+
+-- by the status: what was written of the turns' text, and why the run ended
+abbrev pub Ended : Status → List Turn → List ℕ → List ℕ → List ℕ → Option (List ℕ) → Type 0
+Ended statuses.Done turns read rest written left = (written ≡ text turns) × (rest ≡ []) × IsAtEnd left
+Ended statuses.Memory turns read rest written left = Partly turns written
+Ended statuses.Usage turns read rest written left = written ≡ []
+Ended (statuses.Script line) turns read rest written left = (written ≡ text turns) × (line ≡ length turns + 1) × BadLine (stage turns) (length read) rest left
+Ended statuses.SourceFault turns read rest written left = written ≡ text turns
+Ended statuses.SinkFault turns read rest written left = IsPrefix written (text turns)
+Ended statuses.LogFault turns read rest written left = written ≡ text turns
+Ended (statuses.LogBad block byte) turns read rest written left = (written ≡ text turns) × NextLine IsOpen rest
+Ended statuses.NotFormatted turns read rest written left = (written ≡ text turns) × NextLine IsOpen rest
+Ended (statuses.NotBuilt line) turns read rest written left = (written ≡ text turns) × (line ≡ length turns + 1) × NotBuiltLine (stage turns) rest
+Ended (statuses.NoSplit line) turns read rest written left = (written ≡ text turns) × (line ≡ length turns + 1) × NextLine (λ c. (is_lawful (stage turns) c ≡ true) × IsFull (stage turns) c) rest
+
+-- what was left and told at the start, and what is now
+pub record Headline (left0 left told0 told : Option (List ℕ)) (status : Status) : Type 0 where
+  pub turns : List Turn
+  pub read : List ℕ
+  pub rest : List ℕ
+  pub written : List ℕ
+  -- the lines read, and what was read behind them
+  pub taken : Consumes left0 left (read ++ rest)
+  pub ran : Ran read turns
+  pub wrote : Appends told0 told written
+  pub ended : Ended status turns read rest written left
+
+-- between two turns: what was read and written since the start, by the turns so far; H says what holds of their stage
+pub record Between (H : Stage → Type 0) (left0 told0 : Option (List ℕ)) (reader : Reader) (turns : List Turn) (left told : Option (List ℕ)) : Type 0 where
+  pub read : List ℕ
+  pub script : Script read (map command_of turns)
+  pub taken : Consumes left0 (to_come reader left) read
+  pub count : reader.lines ≡ length turns
+  pub size : reader.taken ≡ length read
+  pub fits : Fits turns
+  pub holds : H (stage turns)
+  pub wrote : Appends told0 told (text turns)
+
+-- the command of the next line, and that line's number
+abbrev pub TakesCommand : Reader → Reader → Option (List ℕ) → Option (List ℕ) → Result (Option (Command × ℕ)) Status → Type 0
+TakesCommand old new left_old left_new (Ok None) = Consumes (to_come old left_old) (to_come new left_new) [] × IsAtEnd (to_come new left_new)
+TakesCommand old new left_old left_new (Ok (Some (c, line))) = (bytes : List ℕ) × Consumes (to_come old left_old) (to_come new left_new) (bytes ++ 10 ∷ []) × IsLine bytes × (is_built bytes ≡ true) × (reads bytes ≡ Some c)
+    × (line ≡ old.lines + 1) × (new.lines ≡ old.lines + 1) × (new.taken ≡ old.taken + length bytes + 1)
+TakesCommand old new left_old left_new (Err (statuses.Script n)) = (n ≡ old.lines + 1) × (rest : List ℕ) × Consumes (to_come old left_old) (to_come new left_new) rest
+    × (((bytes : List ℕ) × (rest ≡ bytes ++ 10 ∷ []) × IsLine bytes × (is_built bytes ≡ true) × (reads bytes ≡ None)) ⊎ IsNoLine old.taken rest (to_come new left_new))
+TakesCommand old new left_old left_new (Err (statuses.NotBuilt n)) = (n ≡ old.lines + 1) × (bytes : List ℕ) × Consumes (to_come old left_old) (to_come new left_new) (bytes ++ 10 ∷ []) × (is_built bytes ≡ false)
+TakesCommand old new left_old left_new (Err e) = (rest : List ℕ) × Consumes (to_come old left_old) (to_come new left_new) rest
+
+-- a line outside of a life
+abbrev pub TurnedTo : {D F : Type 0} → (F → Stage → Type 0) → Option (List ℕ) → Option (List ℕ) → Reader → List Turn → Option (List ℕ) → Option (List ℕ) → Turned D F → Type 0
+TurnedTo inside left0 told0 reader turns left told (results.Stays disk formatted) = (t : Turn) × Between (Out formatted) left0 told0 reader (turns ++ t ∷ []) left told
+TurnedTo inside left0 told0 reader turns left told (results.Opens life) = (t : Turn) × Between (inside life) left0 told0 reader (turns ++ t ∷ []) left told
+TurnedTo inside left0 told0 reader turns left told (results.Ends status disk) = Headline left0 (to_come reader left) told0 told status
+
+-- a line in a life
+abbrev pub TurnedIn : (Stage → Type 0) → Option (List ℕ) → Option (List ℕ) → Reader → List Turn → Option (List ℕ) → Option (List ℕ) → Result (Unit {0}) Status → Type 0
+TurnedIn inside left0 told0 reader turns left told (Ok done) = (t : Turn) × Between inside left0 told0 reader (turns ++ t ∷ []) left told
+TurnedIn inside left0 told0 reader turns left told (Err status) = Headline left0 (to_come reader left) told0 told status

@@ -1,0 +1,15 @@
+pub mod Active
+pub mod Built
+pub mod Causes
+pub mod Clause
+pub mod Leaf
+pub mod Lines
+pub mod Machine
+pub mod Printing
+pub mod Refusals
+pub mod Session
+pub mod Status
+pub mod Text
+pub mod Turning
+pub mod Turns
+pub mod Usage

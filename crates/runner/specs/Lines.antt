@@ -1,0 +1,88 @@
+-- What the reader of lines takes from its source.
+use Rattle.std.specs.Prelude.{◌≡◌, ◌+◌, ◌<◌, ◌≤◌, ℕ, List, [], ◌∷◌, ◌++◌, length, Option, Bool, false, ◌==◌, ◌⊎◌}
+use Rattle.std.specs.List.{list_any}
+use Rattle.std.specs.declared.result.Result.{Result}
+use Rattle.std.specs.declared.result.Result.TheVariants.{Ok, Err}
+use Rattle.std.specs.Io.KnownBytes.{Consumes, IsAtEnd, prepend_known}
+use Rattle.media.specs.Cause.{Rose}
+use Rattle.runner.specs.declared.status.Status.{Status}
+use Rattle.runner.specs.declared.status.Status.TheVariants as statuses
+use Rattle.runner.specs.declared.input.Byte.{Byte}
+use Rattle.runner.specs.declared.input.Byte.TheVariants as bytes
+use Rattle.runner.specs.declared.input.Filled.{Filled}
+use Rattle.runner.specs.declared.input.Filled.TheVariants as fills
+use Rattle.runner.specs.declared.input.Next.{Next}
+use Rattle.runner.specs.declared.input.Next.TheVariants as nexts
+
+-- the most bytes of a line, with its end, and of a script
+abbrev pub longest_line : ℕ
+longest_line = 2048
+
+abbrev pub longest_script : ℕ
+longest_script = 16777216
+
+-- a reader: the bytes that it has read and given to no line yet, how many the lines had so far with their ends, and how
+-- many lines there were
+pub record Reader : Type 0 where
+  pub pending : List ℕ
+  pub taken : ℕ
+  pub lines : ℕ
+
+abbrev pub first_reader : Reader
+first_reader = record { pending = []; taken = 0; lines = 0 }
+
+-- what comes yet: the pending bytes, and what is left of the source
+abbrev pub to_come : Reader → Option (List ℕ) → Option (List ℕ)
+to_come r left = prepend_known r.pending left
+
+-- a reader is filled: nothing is taken, and a byte is pending, or none is left, or too many were read
+abbrev pub Fills : {E : Type 0} → Reader → Reader → Option (List ℕ) → Option (List ℕ) → Result Filled E → Type 0
+Fills old new left_old left_new (Ok fills.Some) = Consumes (to_come old left_old) (to_come new left_new) [] × (0 < length new.pending)
+Fills old new left_old left_new (Ok fills.End) = Consumes (to_come old left_old) (to_come new left_new) [] × IsAtEnd (to_come new left_new)
+Fills old new left_old left_new (Ok fills.TooLong) = Consumes (to_come old left_old) (to_come new left_new) [] × (longest_script < new.taken)
+Fills old new left_old left_new (Err e) = Consumes (to_come old left_old) (to_come new left_new) []
+
+-- a byte is taken
+abbrev pub TakesByte : {E : Type 0} → Reader → Reader → Option (List ℕ) → Option (List ℕ) → Result Byte E → Type 0
+TakesByte old new left_old left_new (Ok (bytes.One b)) = Consumes (to_come old left_old) (to_come new left_new) (b ∷ [])
+TakesByte old new left_old left_new (Ok bytes.End) = Consumes (to_come old left_old) (to_come new left_new) [] × IsAtEnd (to_come new left_new)
+TakesByte old new left_old left_new (Ok bytes.TooLong) = Consumes (to_come old left_old) (to_come new left_new) [] × (longest_script < new.taken)
+TakesByte old new left_old left_new (Err e) = Consumes (to_come old left_old) (to_come new left_new) []
+
+abbrev pub has_end : List ℕ → Bool
+has_end line = list_any (λ b. b == 10) line
+
+-- a line without its end: no line end in it, and with its end at most 2,048 bytes
+pub record IsLine (line : List ℕ) : Type 0 where
+  pub one : has_end line ≡ false
+  pub short : length line < 2048
+
+abbrev pub CountsByte : {E : Type 0} → Reader → Reader → Result Byte E → Type 0
+CountsByte old new (Ok (bytes.One b)) = (new.taken ≡ old.taken + 1) × (new.lines ≡ old.lines) × (new.lines < new.taken)
+CountsByte old new _ = (new.taken ≡ old.taken) × (new.lines ≡ old.lines)
+
+-- why these bytes begin no line of a script that had so many bytes before: they are too many for a line, or the input
+-- ends within the line, or the script gets too long
+abbrev pub IsNoLine : ℕ → List ℕ → Option (List ℕ) → Type 0
+IsNoLine before rest left = ((has_end rest ≡ false) × ((2048 ≤ length rest) ⊎ ((0 < length rest) × IsAtEnd left))) ⊎ (longest_script < before + length rest)
+
+-- the input ends behind these bytes of a line
+abbrev pub ended : List ℕ → Next
+ended [] = nexts.End
+ended (b ∷ bs) = nexts.Bad
+
+abbrev pub TakesNext : Reader → Reader → Option (List ℕ) → Option (List ℕ) → Next → Type 0
+TakesNext old new left_old left_new (nexts.Line line) =
+    Consumes (to_come old left_old) (to_come new left_new) (line.items ++ 10 ∷ []) × IsLine line.items × (new.taken ≡ old.taken + length line.items + 1) × (new.taken ≤ longest_script) × (new.lines ≡ old.lines + 1)
+TakesNext old new left_old left_new nexts.End = Consumes (to_come old left_old) (to_come new left_new) [] × IsAtEnd (to_come new left_new)
+TakesNext old new left_old left_new nexts.Bad = (rest : List ℕ) × Consumes (to_come old left_old) (to_come new left_new) rest × IsNoLine old.taken rest (to_come new left_new)
+
+abbrev pub TakesLine : {E : Type 0} → Reader → Reader → Option (List ℕ) → Option (List ℕ) → Result Next E → Type 0
+TakesLine old new left_old left_new (Ok next) = TakesNext old new left_old left_new next
+TakesLine old new left_old left_new (Err e) = (rest : List ℕ) × Consumes (to_come old left_old) (to_come new left_new) rest
+
+-- a line isn't read for want of memory, or since the source failed
+abbrev pub IsReadFault : ℕ → ℕ → Status → Type 0
+IsReadFault before now statuses.Memory = Unit {0}
+IsReadFault before now statuses.SourceFault = Rose before now
+IsReadFault before now _ = ⊥

@@ -1,0 +1,212 @@
+//! Opening a life: the log's records are applied to the page in order.
+ghost use Rattle.std.specs.Prelude.{◌≡◌, ◌≤◌, ℕ, true, [], None, IfErr, IfOk, MatchResult};
+ghost use Rattle.log_blocks.specs.Opening.{RoseFor};
+ghost use Rattle.runner.specs.Causes.{LogCause, IsOpenRefusal};
+
+use crate::leaf::{Leaf, PutRefused};
+use crate::life::Life;
+use crate::status::Status;
+use log_blocks::{BlockLog, open_log};
+use media::Disk;
+use record_codec::{RecordFault, decode};
+use std::alloc::Global;
+use store_model::{Fault, Lsn, TxId};
+use wal_record::{LeafRow, Record, Write};
+
+/// Where a block's payload begins.
+const HEAD: u64 = 23;
+
+/// What the records so far made.
+#[derive(Drop)]
+struct Replay {
+    leaf: Leaf,
+    /// The LSN of the last record that names the page.
+    head: Lsn,
+    /// The least number above those of all transactions.
+    next: TxId,
+    commits: u64,
+    /// The LSN of the last record.
+    last: Lsn,
+
+    ghost number: { 1 ≤ next },
+}
+
+/// A log that isn't opened, with its disk.
+#[derive(Drop)]
+pub struct NotOpened<L> {
+    pub disk: L,
+    pub status: Status,
+}
+
+/// Reads the log of a disk, and opens a life on it. `line` is the line that asks for it. Only the log that a format
+/// made is opened yet: where the disk gives another one, it isn't built.
+pub fn open<L: Disk>(alloc: Global, disk: L, line: u64) -> Result<Life<L>, NotOpened<L>>
+    ensures later { MatchResult result (λ life. L.faults disk ≤ L.faults life.log.device) (λ refused. L.faults disk ≤ L.faults refused.disk) }
+    ensures cause { IfErr result (λ refused. LogCause (L.faults disk) (L.faults refused.disk) refused.status) }
+    ensures first { IfOk result (λ life. (life.leaf ≡ []) × (life.head ≡ 1) × (life.session ≡ None) × (life.next ≡ 1) × (life.commits ≡ 0) × (life.log.next ≡ 2)) }
+    ensures err { IfErr result (λ refused. IsOpenRefusal line refused.status) }
+{
+    let mut log = match open_log(alloc, disk) {
+        Ok(log) => log,
+        Err(refused) => {
+            return Err(NotOpened {
+                disk: refused.disk,
+                status: status_of(&refused.fault),
+            });
+        }
+    };
+    match replay_log(alloc, &mut log, line) {
+        Ok(found) => {
+            if !found.is_first() || log.next() != 2 {
+                return Err(NotOpened {
+                    disk: log.into_device(),
+                    status: Status::NotBuilt { line },
+                });
+            }
+            Ok(Life {
+                log,
+                leaf: found.leaf,
+                head: found.head,
+                session: None,
+                next: found.next,
+                commits: found.commits,
+            })
+        }
+        Err(status) => Err(NotOpened {
+            disk: log.into_device(),
+            status,
+        }),
+    }
+}
+
+/// The status of a fault of the log.
+pub fn status_of(fault: &Fault) -> Status
+    ensures cause { (before now : ℕ) → RoseFor before now fault.now → LogCause before now result }
+    ensures kind { (line : ℕ) → IsOpenRefusal line result }
+{
+    match fault {
+        Fault::LogFault => Status::LogFault,
+        Fault::LogBad { block, byte } => Status::LogBad {
+            block: *block,
+            byte: *byte,
+        },
+        _ => Status::Memory,
+    }
+}
+
+fn replay_log<L: Disk>(alloc: Global, log: &mut BlockLog<L>, line: u64) -> Result<Replay, Status>
+    requires { log.old.ended ≡ None }
+    ensures later { L.faults log.old.device ≤ L.faults log.new.device }
+    ensures cause { IfErr result (LogCause (L.faults log.old.device) (L.faults log.new.device)) }
+    ensures number { IfOk result (λ found. 1 ≤ found.next) }
+    ensures err { IfErr result (IsOpenRefusal line) }
+{
+    let mut found = Replay {
+        leaf: Leaf::new(alloc),
+        head: 0,
+        next: 1,
+        commits: 0,
+        last: 0,
+    };
+    for block in 0..log.blocks() {
+        let mut payload = Vec::new(alloc);
+        match log.read_block(block, &mut payload) {
+            Ok(()) => {}
+            Err(Fault::LogFault) => return Err(Status::LogFault),
+            Err(_) => return Err(Status::Memory),
+        }
+        match found.replay_block(alloc, block, &payload, line) {
+            Ok(()) => {}
+            Err(status) => return Err(status),
+        }
+    }
+    if found.last == 0 {
+        return Err(Status::NotFormatted);
+    }
+    Ok(found)
+}
+
+impl Replay {
+    /// Whether a format was the only record.
+    fn is_first(&self) -> bool
+        ensures { (result ≡ true) → (self.now.leaf ≡ []) × (self.now.head ≡ 1) × (self.now.next ≡ 1) × (self.now.commits ≡ 0) }
+    {
+        self.leaf.is_empty() && self.head == 1 && self.next == 1 && self.commits == 0
+    }
+
+    fn replay_block(
+        &mut self,
+        alloc: Global,
+        block: u64,
+        payload: &[u8],
+        line: u64,
+    ) -> Result<(), Status>
+        ensures cause { IfErr result (LogCause 0 0) }
+        ensures err { IfErr result (IsOpenRefusal line) }
+    {
+        let mut at = 0;
+        while at < payload.len() {
+            let (_, rest) = payload.split_at(at);
+            match decode(alloc, rest) {
+                Ok((record, length)) => {
+                    match self.apply(&record, line) {
+                        Ok(()) => {}
+                        Err(status) => return Err(status),
+                    }
+                    at += length;
+                }
+                Err(RecordFault::Memory) => return Err(Status::Memory),
+                Err(RecordFault::Bad { byte }) => {
+                    return Err(Status::LogBad {
+                        block,
+                        byte: HEAD + (at + byte) as u64,
+                    });
+                }
+            }
+        }
+        Ok(())
+    }
+
+    /// A record does to the page what it says. Kinds that nothing enters yet aren't built.
+    fn apply(&mut self, record: &Record, line: u64) -> Result<(), Status>
+        ensures cause { IfErr result (LogCause 0 0) }
+        ensures err { IfErr result (IsOpenRefusal line) }
+    {
+        self.last = self.last.saturating_add(1);
+        match record {
+            Record::Format(_) => {
+                self.head = self.last;
+                Ok(())
+            }
+            Record::Write(write) => self.apply_write(write, line),
+            Record::Commit(commit) => {
+                self.next = self.next.max(commit.tx.saturating_add(1));
+                self.commits = self.commits.saturating_add(1);
+                Ok(())
+            }
+            _ => Err(Status::NotBuilt { line }),
+        }
+    }
+
+    fn apply_write(&mut self, write: &Write, line: u64) -> Result<(), Status>
+        ensures cause { IfErr result (LogCause 0 0) }
+        ensures err { IfErr result (IsOpenRefusal line) }
+    {
+        self.head = self.last;
+        self.next = self.next.max(write.tx.saturating_add(1));
+        let value = match &write.new {
+            Some(value) => value.copied(),
+            None => return Err(Status::NotBuilt { line }),
+        };
+        let row = LeafRow {
+            key: write.key.copied(),
+            tombstone: false,
+            value,
+        };
+        match self.leaf.put(row) {
+            Ok(()) => Ok(()),
+            Err(PutRefused::Full) => Err(Status::NotBuilt { line }),
+            Err(PutRefused::Memory) => Err(Status::Memory),
+        }
+    }
+}

@@ -1,0 +1,170 @@
+use super::*;
+use media::Devices;
+use media_mem::{MemDisk, MemSink, MemSource};
+use std::test::Fail;
+
+/// A script with one transaction, and its transcript.
+const APPLE: &[u8] = b"format\nopen\nbegin A\nput A apple 1\nget A apple\ncommit A\n";
+
+const APPLE_PRINTED: &[u8] =
+    b"format ok\nopen commits=0 losers=0\nA begin\nA put apple was none\nA get apple = 1\nA commit 1\n";
+
+/// What a run printed, how it ended, and what the log disk keeps then.
+#[derive(Drop)]
+struct Ran {
+    status: Status,
+    printed: Vec<u8>,
+    kept: Vec<u8>,
+}
+
+/// Runs a script on blank devices, of which the calls with these numbers fail.
+fn run_failing(
+    rt: &HostRuntime,
+    script: &[u8],
+    reads: u64,
+    writes: u64,
+    calls: u64,
+) -> Result<Ran, Fail> {
+    let alloc = rt.alloc();
+    let mut source = MemSource::failing(script.to_vec(alloc)?, vec![in alloc; reads]?);
+    let mut sink = MemSink::failing(alloc, vec![in alloc; writes]?);
+    let devices = Devices {
+        log: MemDisk::failing(alloc, vec![in alloc; calls]?),
+        pages: (),
+        vault: (),
+    };
+    let (status, devices) = run_words(alloc, &[], &mut source, &mut sink, devices);
+    Ok(Ran {
+        status,
+        printed: sink.bytes().to_vec(alloc)?,
+        kept: devices.log.bytes().to_vec(alloc)?,
+    })
+}
+
+/// Runs a script on blank devices.
+fn run(rt: &HostRuntime, script: &[u8]) -> Result<Ran, Fail> {
+    run_failing(rt, script, 0, 0, 0)
+}
+
+#[test]
+fn an_empty_script_prints_nothing(rt: HostRuntime) -> Result<(), Fail> {
+    let ran = run(&rt, b"".as_slice())?;
+    assert_eq!(rt; ran.status, Status::Done);
+    assert!(rt; ran.printed.is_empty() && ran.kept.is_empty());
+    Ok(())
+}
+
+#[test]
+fn a_put_is_read_and_committed(rt: HostRuntime) -> Result<(), Fail> {
+    let ran = run(&rt, APPLE)?;
+    assert_eq!(rt; ran.status, Status::Done);
+    assert_eq!(rt; ran.printed.as_slice(), APPLE_PRINTED);
+    assert_eq!(rt;
+        ran.kept.as_slice(),
+        b"\xa5\x00\x00\x00\x00\x00\x00\x00\x01\x00\x00\x00\x00\x00\x00\x00\x00\x00\x01\x00\x00\x00\x05\x01\x00\x00\x40\x00\xa5\x00\x00\x00\x00\x00\x00\x00\x02\x00\x00\x00\x00\x00\x00\x00\x00\x00\x02\x00\x00\x00\x39\x02\x00\x00\x00\x00\x00\x00\x00\x01\x00\x00\x00\x00\x00\x00\x00\x00\x00\x00\x00\x01\x00\x00\x00\x00\x00\x00\x00\x01\x05apple\x00\x01\x00\x011\x05\x00\x00\x00\x00\x00\x00\x00\x01\x00\x00\x00\x00\x00\x00\x00\x02\x00".as_slice()
+    );
+    Ok(())
+}
+
+#[test]
+fn a_key_has_at_most_64_bytes(rt: HostRuntime) -> Result<(), Fail> {
+    let ran = run(
+        &rt,
+        b"format\nopen\nbegin A\nput A KKKKKKKKKKKKKKKKKKKKKKKKKKKKKKKKKKKKKKKKKKKKKKKKKKKKKKKKKKKKKKKK %\nput A k v\nput A KKKKKKKKKKKKKKKKKKKKKKKKKKKKKKKKKKKKKKKKKKKKKKKKKKKKKKKKKKKKKKKKK 1\n".as_slice(),
+    )?;
+    assert_eq!(rt; ran.status, Status::Script { line: 6 });
+    assert_eq!(rt;
+        ran.printed.as_slice(),
+        b"format ok\nopen commits=0 losers=0\nA begin\nA put KKKKKKKKKKKKKKKKKKKKKKKKKKKKKKKKKKKKKKKKKKKKKKKKKKKKKKKKKKKKKKKK was none\nA put k was none\n".as_slice()
+    );
+    Ok(())
+}
+
+#[test]
+fn lines_end_a_run(rt: HostRuntime) -> Result<(), Fail> {
+    let cases = [
+        (b"format\nopen\nbeg".as_slice(), Status::Script { line: 3 }),
+        (
+            b"format\nopen\nbeg\n".as_slice(),
+            Status::NotBuilt { line: 3 },
+        ),
+        (b"begin A\n".as_slice(), Status::Script { line: 1 }),
+        (
+            b"\n# nothing\nget k\n".as_slice(),
+            Status::Script { line: 3 },
+        ),
+        (b"open\n".as_slice(), Status::NotBuilt { line: 1 }),
+        (b"format 8\n".as_slice(), Status::NotBuilt { line: 1 }),
+        (b"format 7\n".as_slice(), Status::Script { line: 1 }),
+        (b"format\nformat\n".as_slice(), Status::NotBuilt { line: 2 }),
+        (
+            b"format\nopen\nformat\n".as_slice(),
+            Status::Script { line: 3 },
+        ),
+        (
+            b"format\nopen\nbegin A\nbegin A\n".as_slice(),
+            Status::Script { line: 4 },
+        ),
+        (
+            b"format\nopen\nbegin A\nbegin B\n".as_slice(),
+            Status::NotBuilt { line: 4 },
+        ),
+        (
+            b"format\nopen\nbegin A\ncommit A\nget A k\n".as_slice(),
+            Status::Script { line: 5 },
+        ),
+        (
+            b"format\nopen\nstop\n".as_slice(),
+            Status::NotBuilt { line: 3 },
+        ),
+    ];
+    for (script, status) in cases {
+        assert_eq!(rt; run(&rt, script)?.status, status);
+    }
+    Ok(())
+}
+
+#[test]
+fn words_are_none_or_run(rt: HostRuntime) -> Result<(), Fail> {
+    let alloc = rt.alloc();
+    let cases = [
+        ("run", Status::Done),
+        ("--help", Status::Usage),
+        ("RUN", Status::Usage),
+    ];
+    for (word, status) in cases {
+        let words = vec![in alloc; String::from_str(alloc, word)?]?;
+        let mut source = MemSource::new(alloc, Vec::new(alloc));
+        let mut sink = MemSink::new(alloc);
+        let devices = Devices {
+            log: MemDisk::new(alloc),
+            pages: (),
+            vault: (),
+        };
+        let (ended, _devices) = run_words(alloc, &words, &mut source, &mut sink, devices);
+        assert_eq!(rt; ended, status);
+    }
+    Ok(())
+}
+
+#[test]
+fn a_fault_ends_a_run_where_it_comes(rt: HostRuntime) -> Result<(), Fail> {
+    assert_eq!(rt;
+        run_failing(&rt, APPLE, 1, 0, 0)?.status,
+        Status::SourceFault
+    );
+    for write in 1..=6 {
+        let ran = run_failing(&rt, APPLE, 0, write, 0)?;
+        assert_eq!(rt; ran.status, Status::SinkFault);
+        assert!(rt; APPLE_PRINTED.starts_with(&ran.printed));
+    }
+    // A format syncs, closes the first gate in two calls and writes its block in four; an open syncs and reads two headers
+    // and a payload; a commit is four calls.
+    for call in 1..=15 {
+        let ran = run_failing(&rt, APPLE, 0, 0, call)?;
+        assert_eq!(rt; ran.status, Status::LogFault, "call {call}");
+        assert!(rt; APPLE_PRINTED.starts_with(&ran.printed));
+    }
+    assert_eq!(rt; run_failing(&rt, APPLE, 0, 0, 30)?.status, Status::Done);
+    Ok(())
+}
