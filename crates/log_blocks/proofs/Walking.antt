@@ -57,16 +57,16 @@ pub record IsWalked (k : Kept) (at next : ℕ) (found : List Place) : Type 0 whe
   pub more : 1 ≤ length rest
   pub long : 1 < length k.bytes
 
-pub at_start : (k : Kept) → 1 < length k.bytes → IsWalked k k.start 0 []
-at_start k long = record {
+pub at_start : (k : Kept) (at next : ℕ) (found : List Place) → at ≡ k.start → next ≡ 0 → found ≡ [] → 1 < length k.bytes → IsWalked k at next found
+at_start k at next found at_is next_is found_is long = record {
   bs = [];
   rest = k.bytes;
   bytes = refl;
-  place = omega arith;
+  place = omega (arith, at_is);
   sequence = record { from_one = λ _. refl; run = tt };
-  next_is = refl;
-  found_is = refl;
-  more = omega arith;
+  next_is = next_is;
+  found_is = found_is;
+  more = omega (arith, long);
   long = long;
 }
 
@@ -98,13 +98,13 @@ ended k at next found _ g r w is shut = record {
   next_is = w.next_is;
 }
 
-pub nothing : (k : Kept) → length k.bytes ≤ 1 → IsOpened k [] k.start 0
-nothing k short = record {
+pub nothing : (k : Kept) (at next : ℕ) (found : List Place) → at ≡ k.start → next ≡ 0 → found ≡ [] → length k.bytes ≤ 1 → IsOpened k found at next
+nothing k at next found at_is next_is found_is short = record {
   bs = [];
   stands = record { sequence = record { from_one = λ _. refl; run = tt }; bytes = inl (short, refl) };
-  found_is = refl;
-  gate_is = omega arith;
-  next_is = refl;
+  found_is = found_is;
+  gate_is = omega (arith, at_is);
+  next_is = next_is;
 }
 
 first_of : (rest : List ℕ) → 1 ≤ length rest → rest ≡ get_or (take 23 rest) 0 0 ∷ drop 1 rest
@@ -157,15 +157,17 @@ bad_end k at next found head start total r is block byte number fault pos =
 
 pub next_one : (k : Kept) (at next : ℕ) (found : List Place) (head : List ℕ) (start total : ℕ) → IsRead k at next found head start total → get_or head 0 0 ≡ open_gate
     → (h : Header) → h ≡ header_in head → h.count < 2 ^ 16 → ((i : ℕ) → get_or head i 0 < 256) → fault_at start next total head ≡ 0
-    → (found2 : List Place) → found2 ≡ found ++ (record { at = at; first = h.first; checkpoint = h.checkpoint; count = h.count; length = h.length }) ∷ []
-    → IsWalked k (at + (23 + h.length)) (h.first + h.count) found2
-next_one k at next found head start total r is h h_is fits small none found2 more =
+    → (at2 next2 : ℕ) (found2 : List Place) → at2 ≡ at + (23 + h.length) → next2 ≡ h.first + h.count
+    → found2 ≡ found ++ (record { at = at; first = h.first; checkpoint = h.checkpoint; count = h.count; length = h.length }) ∷ []
+    → IsWalked k at2 next2 found2
+next_one k at next found head start total r is h h_is fits small none at2 next2 found2 at_is next_is more =
     let w = r.walked in
     let open_is = gate_is k at next found head start total r is in
     let tail = drop 1 w.rest in
     let p = parsed k.start next tail head (r.head_is ∙ ap (λ (l : List ℕ). take 23 l) open_is) small (subst (λ (x : Header). x.count < 2 ^ 16) h_is fits)
     (ap (λ (n : ℕ). fault_at n next (length (open_gate ∷ tail)) head) (sym r.start_is) ∙ ap (λ (n : ℕ). fault_at start next n head) (sym (r.total_is ∙ ap length open_is)) ∙ none) in
-    subst (λ (l : List Place). IsWalked k (at + (23 + h.length)) (h.first + h.count) l) (sym more) (one_more k at next found w tail h open_is (subst (λ (x : Header). Parsed k.start next x tail) (sym h_is) p))
+    let walked = subst (λ (l : List Place). IsWalked k (at + (23 + h.length)) (h.first + h.count) l) (sym more) (one_more k at next found w tail h open_is (subst (λ (x : Header). Parsed k.start next x tail) (sym h_is) p)) in
+    subst (λ (a : ℕ). IsWalked k a next2 found2) (sym at_is) (subst (λ (n : ℕ). IsWalked k (at + (23 + h.length)) n found2) (sym next_is) walked)
 
 pub chain_push : (at : ℕ) (ps : List Place) (gate : ℕ) (p : Place) → IsChain at ps gate → p.at ≡ gate → IsChain at (ps ++ p ∷ []) (gate + (23 + p.length))
 chain_push at [] gate p chain is = (is ∙ chain, ap (λ (n : ℕ). n + (23 + p.length)) chain)

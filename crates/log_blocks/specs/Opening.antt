@@ -25,6 +25,15 @@ field2_at at bytes = from_be_bytes w16 (take 2 (drop at bytes))
 abbrev pub may_begin : ℕ → ℕ → ℕ → Bool
 may_begin start next first = nat_le 1 first && nat_lt first 9223372036854775808 && (if next == 0 then (not (start == 0) || first == 1) else first == next)
 
+-- The offset of the first field, from the payload's length on, that is cut or breaks its rule in total bytes that begin
+-- with an open gate, 0 where there is none. Of the bytes those of gate and header are given.
+abbrev pub length_fault : ℕ → List ℕ → ℕ
+length_fault total head =
+    if nat_lt total 23 || field4_at 19 head == 0 || nat_lt 4194304 (field4_at 19 head) then 19
+    else (if nat_lt total (23 + field4_at 19 head) then 23
+    else (if nat_lt total (24 + field4_at 19 head) then 23 + field4_at 19 head
+    else 0))
+
 -- The offset of the first field that is cut or breaks its rule in total bytes that begin with an open gate,
 -- 0 where there is none. Of the bytes those of gate and header are given.
 unfoldable pub fault_at : ℕ → ℕ → ℕ → List ℕ → ℕ
@@ -32,10 +41,7 @@ fault_at start next total head =
     if nat_lt total 9 || not (may_begin start next (field_at 1 head)) then 1
     else (if nat_lt total 17 || nat_le 9223372036854775808 (field_at 9 head) || (nat_le 19 total && nat_le (field_at 1 head + field2_at 17 head) (field_at 9 head)) then 9
     else (if nat_lt total 19 || field2_at 17 head == 0 || nat_lt 9223372036854775808 (field_at 1 head + field2_at 17 head) then 17
-    else (if nat_lt total 23 || field4_at 19 head == 0 || nat_lt 4194304 (field4_at 19 head) then 19
-    else (if nat_lt total (23 + field4_at 19 head) then 23
-    else (if nat_lt total (24 + field4_at 19 head) then 23 + field4_at 19 head
-    else 0)))))
+    else length_fault total head))
 
 unfoldable pub header_in : List ℕ → Header
 header_in head = record { first = field_at 1 head; checkpoint = field_at 9 head; count = field2_at 17 head; length = field4_at 19 head }

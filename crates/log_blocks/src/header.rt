@@ -1,6 +1,6 @@
 //! A block's header.
 ghost use Rattle.std.specs.Prelude.{◌≡◌, ◌+◌, ◌<◌, ◌≤◌, ◌^◌, min, length, take, drop, MatchResult, IfOk, ℕ, slice_index};
-ghost use Rattle.log_blocks.specs.Opening.{field_at, field4_at, field2_at, fault_at, header_in};
+ghost use Rattle.log_blocks.specs.Opening.{field_at, field4_at, field2_at, fault_at, header_in, length_fault, may_begin};
 
 /// What stands between a block's gate and its payload.
 #[derive(Clone, Copy)]
@@ -51,6 +51,46 @@ fn u16_at(head: &[u8], at: usize) -> u16
 /// The highest LSN.
 const HIGHEST: u64 = (1 << 63) - 1;
 
+/// The most bytes of a payload.
+const LONGEST: u32 = 4_194_304;
+
+/// Whether a block may begin with this LSN. `next` is the LSN that it has to begin with, 0 for any.
+fn may_begin(start: u64, next: u64, first: u64) -> bool
+    ensures { result ≡ may_begin start next first }
+{
+    if first < 1 || first > HIGHEST {
+        false
+    } else if next == 0 {
+        start != 0 || first == 1
+    } else {
+        first == next
+    }
+}
+
+/// The length of the payload, or the offset of the first of the fields from its length on that is cut or breaks a rule.
+fn judge_length(head: &[u8], total: u64) -> Result<u32, u64>
+    requires size { length head.now ≡ min 23 total }
+    ensures in_range { IfOk result (λ size. (size ≤ 4194304) × (24 + size ≤ total)) }
+    ensures exact { MatchResult result
+        (λ size. (length_fault total head.now ≡ 0) × (size ≡ field4_at 19 head.now))
+        (λ byte. (length_fault total head.now ≡ byte) × (0 < byte)) }
+{
+    if total < 23 {
+        return Err(19);
+    }
+    let length = u32_at(head, 19);
+    let end = 23 + length as u64;
+    if length == 0 || length > LONGEST {
+        Err(19)
+    } else if total < end {
+        Err(23)
+    } else if total < end + 1 {
+        Err(end)
+    } else {
+        Ok(length)
+    }
+}
+
 /// The header in these bytes, which begin with an open gate and of which the disk has this many in all, or the offset
 /// of the first field that is cut or breaks a rule. `next` is the LSN that the block has to begin with, 0 for any.
 #[tactic(auto, unfolding(crate::specs::Opening::fault_at, crate::specs::Opening::header_in))]
@@ -66,14 +106,7 @@ pub fn judge(head: &[u8], total: u64, start: u64, next: u64) -> Result<Header, u
         return Err(1);
     }
     let first = u64_at(head, 1);
-    if first < 1 || first > HIGHEST {
-        return Err(1);
-    }
-    if next == 0 {
-        if start == 0 && first != 1 {
-            return Err(1);
-        }
-    } else if first != next {
+    if !may_begin(start, next, first) {
         return Err(1);
     }
     if total < 17 {
@@ -93,19 +126,7 @@ pub fn judge(head: &[u8], total: u64, start: u64, next: u64) -> Result<Header, u
     if count == 0 || first + count as u64 > HIGHEST + 1 {
         return Err(17);
     }
-    if total < 23 {
-        return Err(19);
-    }
-    let length = u32_at(head, 19);
-    if length == 0 || length > 4_194_304 {
-        return Err(19);
-    }
-    if total < 23 + length as u64 {
-        return Err(23);
-    }
-    if total < 24 + length as u64 {
-        return Err(23 + length as u64);
-    }
+    let length = judge_length(head, total)?;
     Ok(Header {
         first,
         checkpoint,

@@ -1,13 +1,13 @@
 //! An opening reads headers, and changes no byte.
-ghost use Rattle.std.specs.Prelude.{◌≡◌, ◌≤◌, ◌<◌, ◌-◌, min, length, take, drop, IfOk, OnOk};
+ghost use Rattle.std.specs.Prelude.{◌≡◌, ◌≤◌, ◌<◌, ◌+◌, ◌-◌, ◌^◌, ◌++◌, ◌∷◌, [], min, length, take, drop, IfOk, OnOk};
 ghost use Rattle.media.specs.Crash.{NoMore, LeavesOnly};
 ghost use Rattle.media.specs.Cause.{HasCause};
 ghost use Rattle.log_blocks.specs.Opening.{IsPlaced, Tells, RoseIn};
 
-use crate::header::{Place, judge};
+use crate::header::{Header, Place, judge};
 use media::{Disk, Failed};
 use std::alloc::Global;
-use store_model::Fault;
+use store_model::{Fault, Memory};
 
 const OPEN: u8 = 0xA5;
 
@@ -17,6 +17,40 @@ pub struct Walked {
     pub places: Vec<Place>,
     pub gate: u64,
     pub next: u64,
+}
+
+impl Walked {
+    /// No block yet, and the first gate at this offset.
+    fn new(alloc: Global, gate: u64) -> Walked
+        ensures { (result.places.items ≡ []) × (result.gate ≡ gate) × (result.next ≡ 0) }
+    {
+        Walked {
+            places: Vec::new(alloc),
+            gate,
+            next: 0,
+        }
+    }
+
+    /// The block behind the gate has this header. The next gate stands behind the block.
+    fn add(&mut self, header: Header) -> Result<(), Memory>
+        requires gate { self.old.gate < 2 ^ 63 }
+        requires size { header.length ≤ 4194304 }
+        requires last { header.first + header.count ≤ 2 ^ 63 }
+        ensures places { OnOk result (self.new.places.items ≡ self.old.places.items ++ (record { at = self.old.gate; first = header.first; checkpoint = header.checkpoint; count = header.count; length = header.length }) ∷ []) }
+        ensures gate { OnOk result (self.new.gate ≡ self.old.gate + (23 + header.length)) }
+        ensures next { OnOk result (self.new.next ≡ header.first + header.count) }
+    {
+        self.places.push(Place {
+            at: self.gate,
+            first: header.first,
+            checkpoint: header.checkpoint,
+            count: header.count,
+            length: header.length,
+        })?;
+        self.gate += 23 + header.length as u64;
+        self.next = header.first + header.count as u64;
+        Ok(())
+    }
 }
 
 /// The bytes from an offset on, at most 23 of them.
@@ -49,53 +83,29 @@ pub fn walk<D: Disk>(alloc: Global, device: &mut D) -> Result<Walked, Fault>
 {
     let start = device.start();
     let len = device.len();
-    let mut places = Vec::new(alloc);
-    let mut at = start;
-    let mut next = 0;
+    let mut found = Walked::new(alloc, start);
     if len - start <= 1 {
-        return Ok(Walked {
-            places,
-            gate: at,
-            next,
-        });
+        return Ok(found);
     }
-    while at < len {
+    while found.gate < len {
         let mut buf = [0u8; 23];
-        let n = match look(device, at, &mut buf) {
+        let n = match look(device, found.gate, &mut buf) {
             Ok(n) => n,
             Err(_) => return Err(Fault::LogFault),
         };
         let head = &buf[..n];
         if head[0] != OPEN {
-            return Ok(Walked {
-                places,
-                gate: at,
-                next,
-            });
+            return Ok(found);
         }
-        match judge(head, len - at, start, next) {
+        match judge(head, len - found.gate, start, found.next) {
+            Ok(header) => found.add(header)?,
             Err(byte) => {
                 return Err(Fault::LogBad {
-                    block: places.len() as u64,
+                    block: found.places.len() as u64,
                     byte,
                 });
             }
-            Ok(h) => {
-                places.push(Place {
-                    at,
-                    first: h.first,
-                    checkpoint: h.checkpoint,
-                    count: h.count,
-                    length: h.length,
-                })?;
-                at += 23 + h.length as u64;
-                next = h.first + h.count as u64;
-            }
         }
     }
-    Ok(Walked {
-        places,
-        gate: at,
-        next,
-    })
+    Ok(found)
 }
