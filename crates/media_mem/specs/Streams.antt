@@ -5,8 +5,3 @@ use Rattle.std.specs.Prelude.{ℕ, List}
 pub record Streamed : Type 0 where
   pub bytes : List ℕ
   pub faults : ℕ
-
--- where the bytes of a disk begin and end
-pub record Extent : Type 0 where
-  pub start : ℕ
-  pub size : ℕ

@@ -18,7 +18,7 @@ pub struct NeverFails<D> {
 
 impl<D> Model for NeverFails<D> {
     ghost use Rattle.std.specs.Prelude.{◌<◌, ◌≤◌, ◌^◌};
-    ghost use Rattle.media_mem.specs.Streams.{Extent};
+    ghost use Rattle.media_steady.specs.Extent.{Extent};
 
     ghost Value = { Extent };
 
