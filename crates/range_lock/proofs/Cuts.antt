@@ -1,5 +1,5 @@
 -- Texts that stand one behind the other: one more at the end.
-use Rattle.std.proofs.Common.{◌≡◌, ℕ, ◌+◌, ◌-◌, ◌<◌, ◌≤◌, Bool, true, false, List, [], ◌∷◌, ◌++◌, length, take, drop, get_or, refl, sym, ap, arith}
+use Rattle.std.proofs.Common.{◌≡◌, ℕ, ◌+◌, ◌<◌, ◌≤◌, Bool, false, List, [], ◌∷◌, ◌++◌, length, take, drop, get_or, refl, sym, ap, arith}
 use Rattle.std.specs.List.{sum, list_any}
 use Rattle.std.proofs.lemmas.List.{take_more, take-append-le, drop-append-le, length-drop}
 use Rattle.std.proofs.lemmas.List.Sums.{sum_by-cons}

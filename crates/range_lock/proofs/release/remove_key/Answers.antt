@@ -1,5 +1,5 @@
 -- Bytes that are no key are those of no lock.
-use Rattle.std.proofs.Common.{◌≡◌, ℕ, List, true, false, refl, subst}
+use Rattle.std.proofs.Common.{◌≡◌, ℕ, List, false, refl, subst}
 use Rattle.std.specs.Ordering.{nat_cmp, eq_by_cmp}
 use Rattle.std.specs.Cmp.Lexicographic.{slice_cmp}
 use Rattle.std.proofs.lemmas.Map.Lookups.{exact_bytes}

@@ -1,4 +1,4 @@
-use Rattle.std.proofs.Common.{◌≡◌, ◌++◌, ◌∷◌, [], sym}
+use Rattle.std.proofs.Common.{◌≡◌, ◌++◌, ◌∷◌, []}
 use Rattle.range_lock.specs.Cut.{cut_into}
 use Rattle.range_lock.proofs.Cuts.{cut_more}
 use Rattle.range_lock.proofs.key_list.KeyList.push.Goals as goal

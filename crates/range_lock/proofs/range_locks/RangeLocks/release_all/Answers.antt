@@ -1,8 +1,5 @@
 -- Each point lock of the transaction was listed, so none is left; its range locks are gone with their list.
-use Rattle.std.proofs.Common.{◌≡◌, ℕ, List, true, false, subst, refl, sym}
-use Rattle.std.specs.List.{list_any}
-use Rattle.std.specs.Ordering.{nat_cmp, eq_by_cmp}
-use Rattle.std.specs.Cmp.Lexicographic.{slice_cmp}
+use Rattle.std.proofs.Common.{◌≡◌, true, refl, sym}
 use Rattle.std.specs.BTreeSet.{contains}
 use Rattle.range_lock.specs.Tables.{all_locks, point_cmp}
 use Rattle.range_lock.specs.declared.entry.PointLock.{PointLock}
