@@ -1,5 +1,6 @@
 //! Fields that break their rules. A row is the byte where the field begins, what is wrong, and the bytes.
 use crate::row::{fault_at, row_of};
+use record_codec::RecordFault;
 use std::alloc::Global;
 use std::test::Fail;
 
@@ -186,5 +187,17 @@ fn a_field_of_another_record_is_named_where_it_begins(rt: HostRuntime) -> Result
     for line in PAGES.lines() {
         assert!(rt; is_named(rt.alloc(), line) == Some(true), "{line}");
     }
+    Ok(())
+}
+
+#[test]
+fn a_fault_is_told_with_its_byte(rt: HostRuntime) -> Result<(), Fail> {
+    let bad = format!(in rt.alloc(); "{}", RecordFault::Bad { byte: 9 })?;
+    assert_eq!(rt;
+        bad.as_str(),
+        "no record: the field at byte 9 is cut or breaks its rule"
+    );
+    let memory = format!(in rt.alloc(); "{}", RecordFault::Memory)?;
+    assert_eq!(rt; memory.as_str(), "out of memory");
     Ok(())
 }
