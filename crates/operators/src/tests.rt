@@ -9,6 +9,27 @@ const TOO_GREAT: &[u8] = b"18446744073709551616";
 
 const BYTES: [u8; 65] = [b'j'; 65];
 
+/// Operator, old value, argument and answer. An empty old value stands for none.
+const NUMBERS: [(u8, &[u8], &[u8], Option<&[u8]>); 17] = [
+    (1, b"", b"0", Some(b"0")),
+    (1, b"", b"00", None),
+    (1, b"00", b"0", None),
+    (1, b"7", b"5", Some(b"12")),
+    (1, b"7", b"", None),
+    (1, b"7", b"+5", None),
+    (1, b"7a", b"5", None),
+    (1, GREATEST, b"0", Some(GREATEST)),
+    (1, GREATEST, b"1", None),
+    (1, b"0", TOO_GREAT, None),
+    (2, b"", b"0", Some(b"0")),
+    (2, b"9", b"10", Some(b"10")),
+    (2, GREATEST, b"3", Some(GREATEST)),
+    (2, b"1", b"x", None),
+    (2, TOO_GREAT, b"1", None),
+    (0, b"1", b"1", None),
+    (4, b"1", b"1", None),
+];
+
 /// Whether an operator answers as it should. An empty old value stands for none.
 fn answers(
     operators: &Operators,
@@ -49,26 +70,7 @@ fn numbers_add_and_compare_at_their_edges(rt: HostRuntime) -> Result<(), Fail> {
             |old: &Option<Value>, argument: &OpValue| join(old, argument),
         )?,
     );
-    let table: [(u8, &[u8], &[u8], Option<&[u8]>); 17] = [
-        (1, b"", b"0", Some(b"0")),
-        (1, b"", b"00", None),
-        (1, b"00", b"0", None),
-        (1, b"7", b"5", Some(b"12")),
-        (1, b"7", b"", None),
-        (1, b"7", b"+5", None),
-        (1, b"7a", b"5", None),
-        (1, GREATEST, b"0", Some(GREATEST)),
-        (1, GREATEST, b"1", None),
-        (1, b"0", TOO_GREAT, None),
-        (2, b"", b"0", Some(b"0")),
-        (2, b"9", b"10", Some(b"10")),
-        (2, GREATEST, b"3", Some(GREATEST)),
-        (2, b"1", b"x", None),
-        (2, TOO_GREAT, b"1", None),
-        (0, b"1", b"1", None),
-        (4, b"1", b"1", None),
-    ];
-    for (id, old, argument, want) in table {
+    for (id, old, argument, want) in NUMBERS {
         assert!(rt;
             answers(&operators, id, old, argument, want),
             "{id} {old:?} {argument:?}"

@@ -4,4 +4,5 @@ pub mod Members
 pub mod First
 pub mod Changes
 pub mod Points
+pub mod Cuts
 pub mod Holding

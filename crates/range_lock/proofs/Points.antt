@@ -131,7 +131,7 @@ or_false_both : (a b c : Bool) → (b ≡ false → c ≡ false) → (a || b) �
 or_false_both true b c h e = absurd cc
 or_false_both false b c h e = h e
 
-none_last : (t : List ℕ → Bool) (key : List ℕ) → t key ≡ false → (ks : List (List ℕ)) → list_any t ks ≡ false → list_any t (ks ++ key ∷ []) ≡ false
+pub none_last : (t : List ℕ → Bool) (key : List ℕ) → t key ≡ false → (ks : List (List ℕ)) → list_any t ks ≡ false → list_any t (ks ++ key ∷ []) ≡ false
 none_last t key none [] g = rw none refl
 none_last t key none (k ∷ ks) g = or_false_both (t k) (list_any t ks) (list_any t (ks ++ key ∷ [])) (none_last t key none ks) g
 

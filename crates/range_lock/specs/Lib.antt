@@ -3,3 +3,4 @@ pub mod Order
 pub mod Nearest
 pub mod Tables
 pub mod Held
+pub mod Cut

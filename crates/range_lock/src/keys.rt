@@ -3,14 +3,15 @@ ghost use Rattle.std.specs.Prelude.{◌≡◌, ◌≢◌, OnOk, OnErr, true};
 ghost use Rattle.range_lock.specs.Tables.{is_listed};
 ghost use Rattle.range_lock.specs.declared.entry.PointLock.{PointLock};
 
+use crate::key_list::KeyList;
 use std::alloc::{AllocError, Global};
 use std::collections::BTreeMap;
-use store_model::{Key, List, TxId};
+use store_model::{Key, TxId};
 
 /// Lists a key for a transaction. Where memory runs out, all that was listed still is.
 pub fn list_key(
     alloc: Global,
-    keys: &mut BTreeMap<TxId, List<Key>>,
+    keys: &mut BTreeMap<TxId, KeyList>,
     tx: TxId,
     key: &Key,
 ) -> Result<(), AllocError>
@@ -18,11 +19,11 @@ pub fn list_key(
     ensures added { OnOk result ((p : PointLock) → p.tx ≡ tx → p.key ≡ key.now → is_listed keys.new p ≡ true) }
 {
     if let Some(listed) = keys.get_mut(&tx) {
-        listed.push(key.copied())?;
+        listed.push(key)?;
         return Ok(());
     }
-    let mut listed = List::new(alloc);
-    listed.push(key.copied())?;
+    let mut listed = KeyList::new(alloc);
+    listed.push(key)?;
     keys.insert(tx, listed)?;
     Ok(())
 }

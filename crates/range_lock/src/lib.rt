@@ -15,12 +15,13 @@
 //! 5. Where memory runs out, what is held stays as it was.
 //!
 //! Behind it, locks on single keys stand in an ordered set by key, so that one is found, taken and checked in a time
-//! that is logarithmic in their number; the few locks on wider ranges stand in a list for each transaction, and each
-//! check looks at all of them.
+//! that is logarithmic in their number; for their release each transaction has the bytes of their keys, one key behind
+//! the other. The few locks on wider ranges stand in a list for each transaction, and each check looks at all of them.
 #![tactic(auto)]
 
 mod entry;
 mod holders;
+mod key_list;
 mod keys;
 mod point;
 mod range_locks;

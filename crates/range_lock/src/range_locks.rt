@@ -7,10 +7,11 @@ ghost use Rattle.range_lock.specs.Tables.{all_locks, AreListed, AreKeys, IsKey};
 
 use crate::entry::{PointLock, RangeLock};
 use crate::holders::{add_at_points, add_on_ranges, append};
+use crate::key_list::KeyList;
 use crate::keys::list_key;
 use crate::point::{covers_at_point, point_of};
 use crate::refusal::LockRefused;
-use crate::release::remove_points;
+use crate::release::remove_listed;
 use crate::rival::Rival;
 use crate::search::{first_point, first_range, is_exclusive};
 use crate::wider::{copied, covers_on_range, holds_range, put_range};
@@ -24,7 +25,7 @@ pub struct RangeLocks {
     alloc: Global,
     points: BTreeSet<PointLock>,
     /// For each transaction, the keys of its point locks.
-    keys: BTreeMap<TxId, List<Key>>,
+    keys: BTreeMap<TxId, KeyList>,
     /// For each transaction, its locks on wider ranges.
     ranges: BTreeMap<TxId, List<RangeLock>>,
     ghost compatible: { AreCompatible (all_locks points ranges) },
@@ -134,7 +135,7 @@ impl RangeLocks {
     {
         self.ranges.remove(&tx);
         if let Some(keys) = self.keys.remove(&tx) {
-            remove_points(&mut self.points, tx, keys.as_slice());
+            remove_listed(&mut self.points, tx, &keys);
         }
     }
 

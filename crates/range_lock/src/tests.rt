@@ -1,7 +1,10 @@
 //! Which pairs of ranges conflict, which lock is named, and what a release leaves.
 use crate::{LockRefused, RangeLocks};
+use std::alloc::Global;
 use std::test::Fail;
 use store_model::{Bound, Key, KeyRange, Mode};
+
+const LONGEST: [u8; 64] = [b'k'; 64];
 
 const LONG: [u8; 65] = [b'k'; 65];
 
@@ -19,92 +22,143 @@ fn point(key: &[u8]) -> Option<KeyRange> {
     Some(KeyRange::point(&Key::new(key)?))
 }
 
+/// The keys that a lock is asked for: from one text up to another, an empty one standing for the top, or a single key.
+#[derive(Clone, Copy)]
+enum Keys {
+    From(&'static [u8], &'static [u8]),
+    One(&'static [u8]),
+}
+
+fn range_of(keys: Keys) -> Option<KeyRange> {
+    match keys {
+        Keys::From(low, high) => between(low, high),
+        Keys::One(key) => point(key),
+    }
+}
+
+/// Two ranges, and whether they overlap.
+const PAIRS: [(&str, Keys, Keys, bool); 15] = [
+    (
+        "touching",
+        Keys::From(b"a", b"c"),
+        Keys::From(b"c", b"e"),
+        false,
+    ),
+    (
+        "overlapping",
+        Keys::From(b"a", b"d"),
+        Keys::From(b"c", b"e"),
+        true,
+    ),
+    (
+        "nested",
+        Keys::From(b"a", b"z"),
+        Keys::From(b"c", b"d"),
+        true,
+    ),
+    (
+        "equal",
+        Keys::From(b"a", b"c"),
+        Keys::From(b"a", b"c"),
+        true,
+    ),
+    (
+        "a point at the low edge",
+        Keys::From(b"c", b"e"),
+        Keys::One(b"c"),
+        true,
+    ),
+    (
+        "a point at the high edge",
+        Keys::From(b"a", b"c"),
+        Keys::One(b"c"),
+        false,
+    ),
+    (
+        "a point below the top",
+        Keys::From(b"x", b""),
+        Keys::One(b"zz"),
+        true,
+    ),
+    (
+        "touching below the top",
+        Keys::From(b"a", b"x"),
+        Keys::From(b"x", b""),
+        false,
+    ),
+    (
+        "from the least text on",
+        Keys::From(b"", b"b"),
+        Keys::One(b"a"),
+        true,
+    ),
+    ("one key", Keys::One(b"a"), Keys::One(b"a"), true),
+    (
+        "neighbouring keys",
+        Keys::One(b"a"),
+        Keys::One(b"a\0"),
+        false,
+    ),
+    (
+        "a range of one key",
+        Keys::One(b"a"),
+        Keys::From(b"a", b"a\0"),
+        true,
+    ),
+    (
+        "up to a key",
+        Keys::From(b"a", &LONGEST),
+        Keys::One(&LONGEST),
+        false,
+    ),
+    (
+        "beyond a key",
+        Keys::From(b"a", &LONG),
+        Keys::One(&LONGEST),
+        true,
+    ),
+    (
+        "from beyond a key on",
+        Keys::From(&LONG, b"z"),
+        Keys::One(&LONGEST),
+        false,
+    ),
+];
+
+/// How a lock is held, how another is asked for, and whether that is too much where they overlap.
+const MODES: [(Mode, Mode, bool); 4] = [
+    (Mode::Shared, Mode::Shared, false),
+    (Mode::Shared, Mode::Exclusive, true),
+    (Mode::Exclusive, Mode::Shared, true),
+    (Mode::Exclusive, Mode::Exclusive, true),
+];
+
+/// Whether another transaction's lock on `asked` is refused beside one on `held`, in each of the modes, as it should.
+fn is_refused_rightly(alloc: Global, held: &KeyRange, asked: &KeyRange, overlap: bool) -> bool {
+    for (mode, other, exclusive) in MODES {
+        let mut locks = RangeLocks::new(alloc);
+        let taken = locks.acquire(1, held, mode).is_ok();
+        let refused = locks.acquire(2, asked, other).is_err();
+        if !taken || refused != (overlap && exclusive) {
+            return false;
+        }
+    }
+    true
+}
+
 #[test]
 fn ranges_conflict_where_they_overlap_and_one_is_exclusive(rt: HostRuntime) -> Result<(), Fail> {
-    let pairs = [
-        ("touching", between(b"a", b"c"), between(b"c", b"e"), false),
-        (
-            "overlapping",
-            between(b"a", b"d"),
-            between(b"c", b"e"),
-            true,
-        ),
-        ("nested", between(b"a", b"z"), between(b"c", b"d"), true),
-        ("equal", between(b"a", b"c"), between(b"a", b"c"), true),
-        (
-            "a point at the low edge",
-            between(b"c", b"e"),
-            point(b"c"),
-            true,
-        ),
-        (
-            "a point at the high edge",
-            between(b"a", b"c"),
-            point(b"c"),
-            false,
-        ),
-        (
-            "a point below the top",
-            between(b"x", b""),
-            point(b"zz"),
-            true,
-        ),
-        (
-            "touching below the top",
-            between(b"a", b"x"),
-            between(b"x", b""),
-            false,
-        ),
-        (
-            "from the least text on",
-            between(b"", b"b"),
-            point(b"a"),
-            true,
-        ),
-        ("one key", point(b"a"), point(b"a"), true),
-        ("neighbouring keys", point(b"a"), point(b"a\0"), false),
-        (
-            "a range of one key",
-            point(b"a"),
-            between(b"a", b"a\0"),
-            true,
-        ),
-        (
-            "up to a key",
-            between(b"a", &LONG[..64]),
-            point(&LONG[..64]),
-            false,
-        ),
-        (
-            "beyond a key",
-            between(b"a", &LONG),
-            point(&LONG[..64]),
-            true,
-        ),
-        (
-            "from beyond a key on",
-            between(&LONG, b"z"),
-            point(&LONG[..64]),
-            false,
-        ),
-    ];
-    let modes = [
-        (Mode::Shared, Mode::Shared, false),
-        (Mode::Shared, Mode::Exclusive, true),
-        (Mode::Exclusive, Mode::Shared, true),
-        (Mode::Exclusive, Mode::Exclusive, true),
-    ];
-    for (name, first, second, overlap) in &pairs {
-        let first = first.as_ref().ok_or("a range")?;
-        let second = second.as_ref().ok_or("a range")?;
-        for (held, asked, exclusive) in modes {
-            for (a, b) in [(first, second), (second, first)] {
-                let mut locks = RangeLocks::new(rt.alloc());
-                assert!(rt; locks.acquire(1, a, held).is_ok(), "{name}");
-                let refused = locks.acquire(2, b, asked).is_err();
-                assert_eq!(rt; refused, *overlap && exclusive, "{name}");
-            }
-        }
+    for (name, first, second, overlap) in PAIRS {
+        let first = range_of(first).ok_or("a range")?;
+        let second = range_of(second).ok_or("a range")?;
+        assert!(rt;
+            is_refused_rightly(rt.alloc(), &first, &second, overlap),
+            "{name}"
+        );
+        assert!(rt;
+            is_refused_rightly(rt.alloc(), &second, &first, overlap),
+            "{name}"
+        );
     }
     Ok(())
 }

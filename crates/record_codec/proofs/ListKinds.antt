@@ -1,5 +1,5 @@
 -- The items of lists, and the kinds of records with lists, are fields.
-use Rattle.std.proofs.Common.{◌≡◌, ℕ, zero, suc, get_or, ◌<◌, ◌^◌, Bool, true, false, List, [], ◌∷◌, ◌++◌, length, refl, sym, ap, subst, append_assoc, arith}
+use Rattle.std.proofs.Common.{◌≡◌, ℕ, zero, suc, get_or, ◌<◌, ◌^◌, Bool, List, [], ◌∷◌, ◌++◌, length, refl, sym, subst, append_assoc, arith}
 use Rattle.std.specs.Prelude.{IsTrue, ◌&&◌}
 use Rattle.std.specs.List.{list_all}
 use Rattle.std.specs.Int.{w8, w16, w32, w64}
@@ -8,7 +8,7 @@ use Rattle.std.proofs.lemmas.List.{append-nil}
 use Rattle.store_model.specs.Along.{AllFrom, AllAlong}
 use Rattle.store_model.proofs.Bools.{both_true, and_true}
 use Rattle.wal_record.specs.State.{is_key}
-use Rattle.wal_record.specs.Rules.{is_number, is_lsn_or_none, is_next, is_page, is_page_count, is_u8, is_u16, is_u32, is_u64, rises_above, page_head_fits, open_write_fits, segment_fits, run_fits, page_lsn_fits, KeepsUnfinished, KeepsCheckpoint, KeepsBackupDone}
+use Rattle.wal_record.specs.Rules.{is_number, is_lsn_or_none, is_next, is_page, is_page_count, is_u16, is_u32, is_u64, rises_above, page_head_fits, open_write_fits, segment_fits, run_fits, page_lsn_fits, KeepsUnfinished, KeepsCheckpoint, KeepsBackupDone}
 use Rattle.wal_record.specs.Spelling.{number_bytes, list_bytes, page_head_bytes, open_write_bytes, unfinished_bytes, run_bytes, page_lsn_bytes, checkpoint_bytes, backup_done_bytes}
 use Rattle.wal_record.specs.Reading.{any_number, number_at, list_at, page_head_at, open_write_at, unfinished_at, segment_at, run_at, page_lsn_at, checkpoint_at, backup_done_at}
 use Rattle.wal_record.specs.declared.analysis.PageHead.{PageHead}

@@ -1,5 +1,5 @@
 -- The kinds of records with a page's state are fields.
-use Rattle.std.proofs.Common.{◌≡◌, ℕ, List, [], ◌∷◌, ◌++◌, refl, sym, append_assoc}
+use Rattle.std.proofs.Common.{◌≡◌, refl, sym, append_assoc}
 use Rattle.std.specs.Prelude.{IsTrue}
 use Rattle.std.proofs.lemmas.List.{append-nil}
 use Rattle.wal_record.specs.State.{is_child, KeepsState}

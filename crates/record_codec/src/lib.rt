@@ -20,8 +20,6 @@ mod laws;
 mod list_writing;
 mod lists;
 mod reading;
-#[cfg(test)]
-mod tests;
 mod writing;
 
 pub use fault::RecordFault;

@@ -1,9 +1,10 @@
 //! Reading a record.
 ghost use Rattle.std.specs.Prelude.{◌≡◌, ◌++◌, ℕ, List, length, take, IfOk};
 ghost use Rattle.wal_record.specs.declared.record.Record.{Record};
+ghost use Rattle.wal_record.specs.declared.record.Record.TheVariants as kinds;
 ghost use Rattle.wal_record.specs.Rules.{HasSpelling};
 ghost use Rattle.wal_record.specs.Spelling.{spelling};
-ghost use Rattle.wal_record.specs.Reading.{record_at, format_at, write_at, apply_at, undo_at, commit_at, end_at, adopt_at, purge_at, written_at, run_done_at, lost_at, restored_at, checkpoint_at, backup_done_at, split_at, grow_at};
+ghost use Rattle.wal_record.specs.Reading.{as_kind, record_at, format_at, write_at, apply_at, undo_at, commit_at, end_at, adopt_at, purge_at, written_at, run_done_at, lost_at, restored_at, checkpoint_at, backup_done_at, split_at, grow_at};
 ghost use Rattle.state_codec.specs.Gives.{Gives};
 ghost use Rattle.record_codec.specs.Gives.{Tells, IsFound};
 
@@ -20,16 +21,16 @@ use wal_record::{
 };
 
 #[tactic(auto, unfolding(wal_record::specs::Reading::format_at))]
-fn format_at(bytes: &[u8]) -> Result<(Format, &[u8]), FieldFault>
-    ensures { Gives (λ x. (x.0, x.1.now)) result (format_at bytes.now) }
+fn format_at(bytes: &[u8]) -> Result<(Record, &[u8]), FieldFault>
+    ensures { Gives (λ x. (x.0, x.1.now)) result (as_kind kinds.Format (format_at bytes.now)) }
 {
     let (limit, rest) = limit_at(bytes)?;
-    Ok((Format { limit }, rest))
+    Ok((Record::Format(Format { limit }), rest))
 }
 
 #[tactic(auto, unfolding(wal_record::specs::Reading::write_at))]
-fn write_at(bytes: &[u8]) -> Result<(Write, &[u8]), FieldFault>
-    ensures { Gives (λ x. (x.0, x.1.now)) result (write_at bytes.now) }
+fn write_at(bytes: &[u8]) -> Result<(Record, &[u8]), FieldFault>
+    ensures { Gives (λ x. (x.0, x.1.now)) result (as_kind kinds.Write (write_at bytes.now)) }
 {
     let (tx, rest) = number_at(bytes)?;
     let (prev, rest) = lsn_or_none_at(rest)?;
@@ -47,12 +48,12 @@ fn write_at(bytes: &[u8]) -> Result<(Write, &[u8]), FieldFault>
         old,
         new,
     };
-    Ok((found, rest))
+    Ok((Record::Write(found), rest))
 }
 
 #[tactic(auto, unfolding(wal_record::specs::Reading::apply_at))]
-fn apply_at(bytes: &[u8]) -> Result<(Apply, &[u8]), FieldFault>
-    ensures { Gives (λ x. (x.0, x.1.now)) result (apply_at bytes.now) }
+fn apply_at(bytes: &[u8]) -> Result<(Record, &[u8]), FieldFault>
+    ensures { Gives (λ x. (x.0, x.1.now)) result (as_kind kinds.Apply (apply_at bytes.now)) }
 {
     let (tx, rest) = number_at(bytes)?;
     let (prev, rest) = lsn_or_none_at(rest)?;
@@ -72,12 +73,12 @@ fn apply_at(bytes: &[u8]) -> Result<(Apply, &[u8]), FieldFault>
         argument,
         old,
     };
-    Ok((found, rest))
+    Ok((Record::Apply(found), rest))
 }
 
 #[tactic(auto, unfolding(wal_record::specs::Reading::undo_at))]
-fn undo_at(bytes: &[u8]) -> Result<(Undo, &[u8]), FieldFault>
-    ensures { Gives (λ x. (x.0, x.1.now)) result (undo_at bytes.now) }
+fn undo_at(bytes: &[u8]) -> Result<(Record, &[u8]), FieldFault>
+    ensures { Gives (λ x. (x.0, x.1.now)) result (as_kind kinds.Undo (undo_at bytes.now)) }
 {
     let (tx, rest) = number_at(bytes)?;
     let (prev, rest) = lsn_or_none_at(rest)?;
@@ -95,30 +96,30 @@ fn undo_at(bytes: &[u8]) -> Result<(Undo, &[u8]), FieldFault>
         restores,
         undo_next,
     };
-    Ok((found, rest))
+    Ok((Record::Undo(found), rest))
 }
 
 #[tactic(auto, unfolding(wal_record::specs::Reading::commit_at))]
-fn commit_at(bytes: &[u8]) -> Result<(Commit, &[u8]), FieldFault>
-    ensures { Gives (λ x. (x.0, x.1.now)) result (commit_at bytes.now) }
+fn commit_at(bytes: &[u8]) -> Result<(Record, &[u8]), FieldFault>
+    ensures { Gives (λ x. (x.0, x.1.now)) result (as_kind kinds.Commit (commit_at bytes.now)) }
 {
     let (tx, rest) = number_at(bytes)?;
     let (prev, rest) = lsn_or_none_at(rest)?;
-    Ok((Commit { tx, prev }, rest))
+    Ok((Record::Commit(Commit { tx, prev }), rest))
 }
 
 #[tactic(auto, unfolding(wal_record::specs::Reading::end_at))]
-fn end_at(bytes: &[u8]) -> Result<(End, &[u8]), FieldFault>
-    ensures { Gives (λ x. (x.0, x.1.now)) result (end_at bytes.now) }
+fn end_at(bytes: &[u8]) -> Result<(Record, &[u8]), FieldFault>
+    ensures { Gives (λ x. (x.0, x.1.now)) result (as_kind kinds.End (end_at bytes.now)) }
 {
     let (tx, rest) = number_at(bytes)?;
     let (prev, rest) = lsn_or_none_at(rest)?;
-    Ok((End { tx, prev }, rest))
+    Ok((Record::End(End { tx, prev }), rest))
 }
 
 #[tactic(auto, unfolding(wal_record::specs::Reading::adopt_at))]
-fn adopt_at(bytes: &[u8]) -> Result<(Adopt, &[u8]), FieldFault>
-    ensures { Gives (λ x. (x.0, x.1.now)) result (adopt_at bytes.now) }
+fn adopt_at(bytes: &[u8]) -> Result<(Record, &[u8]), FieldFault>
+    ensures { Gives (λ x. (x.0, x.1.now)) result (as_kind kinds.Adopt (adopt_at bytes.now)) }
 {
     let (parent, rest) = page_at(bytes)?;
     let (parent_prev, rest) = lsn_or_none_at(rest)?;
@@ -134,56 +135,56 @@ fn adopt_at(bytes: &[u8]) -> Result<(Adopt, &[u8]), FieldFault>
         child,
         key,
     };
-    Ok((found, rest))
+    Ok((Record::Adopt(found), rest))
 }
 
 #[tactic(auto, unfolding(wal_record::specs::Reading::purge_at))]
-fn purge_at(bytes: &[u8]) -> Result<(Purge, &[u8]), FieldFault>
-    ensures { Gives (λ x. (x.0, x.1.now)) result (purge_at bytes.now) }
+fn purge_at(bytes: &[u8]) -> Result<(Record, &[u8]), FieldFault>
+    ensures { Gives (λ x. (x.0, x.1.now)) result (as_kind kinds.Purge (purge_at bytes.now)) }
 {
     let (page, rest) = page_at(bytes)?;
     let (page_prev, rest) = lsn_or_none_at(rest)?;
-    Ok((Purge { page, page_prev }, rest))
+    Ok((Record::Purge(Purge { page, page_prev }), rest))
 }
 
 #[tactic(auto, unfolding(wal_record::specs::Reading::written_at))]
-fn written_at(bytes: &[u8]) -> Result<(Written, &[u8]), FieldFault>
-    ensures { Gives (λ x. (x.0, x.1.now)) result (written_at bytes.now) }
+fn written_at(bytes: &[u8]) -> Result<(Record, &[u8]), FieldFault>
+    ensures { Gives (λ x. (x.0, x.1.now)) result (as_kind kinds.Written (written_at bytes.now)) }
 {
     let (page, rest) = page_at(bytes)?;
     let (lsn, rest) = number_at(rest)?;
-    Ok((Written { page, lsn }, rest))
+    Ok((Record::Written(Written { page, lsn }), rest))
 }
 
 #[tactic(auto, unfolding(wal_record::specs::Reading::run_done_at))]
-fn run_done_at(bytes: &[u8]) -> Result<(RunDone, &[u8]), FieldFault>
-    ensures { Gives (λ x. (x.0, x.1.now)) result (run_done_at bytes.now) }
+fn run_done_at(bytes: &[u8]) -> Result<(Record, &[u8]), FieldFault>
+    ensures { Gives (λ x. (x.0, x.1.now)) result (as_kind kinds.RunDone (run_done_at bytes.now)) }
 {
     let (run, rest) = number_at(bytes)?;
     let (first, rest) = number_at(rest)?;
     let (last, rest) = number_at(rest)?;
-    Ok((RunDone { run, first, last }, rest))
+    Ok((Record::RunDone(RunDone { run, first, last }), rest))
 }
 
 #[tactic(auto, unfolding(wal_record::specs::Reading::lost_at))]
-fn lost_at(bytes: &[u8]) -> Result<(Lost, &[u8]), FieldFault>
-    ensures { Gives (λ x. (x.0, x.1.now)) result (lost_at bytes.now) }
+fn lost_at(bytes: &[u8]) -> Result<(Record, &[u8]), FieldFault>
+    ensures { Gives (λ x. (x.0, x.1.now)) result (as_kind kinds.Lost (lost_at bytes.now)) }
 {
     let (pages, rest) = u32_at(bytes)?;
-    Ok((Lost { pages }, rest))
+    Ok((Record::Lost(Lost { pages }), rest))
 }
 
 #[tactic(auto, unfolding(wal_record::specs::Reading::restored_at))]
-fn restored_at(bytes: &[u8]) -> Result<(Restored, &[u8]), FieldFault>
-    ensures { Gives (λ x. (x.0, x.1.now)) result (restored_at bytes.now) }
+fn restored_at(bytes: &[u8]) -> Result<(Record, &[u8]), FieldFault>
+    ensures { Gives (λ x. (x.0, x.1.now)) result (as_kind kinds.Restored (restored_at bytes.now)) }
 {
     let (segment, rest) = u32_at(bytes)?;
-    Ok((Restored { segment }, rest))
+    Ok((Record::Restored(Restored { segment }), rest))
 }
 
 #[tactic(auto, unfolding(wal_record::specs::Reading::checkpoint_at))]
-fn checkpoint_at(alloc: Global, bytes: &[u8]) -> Result<(Checkpoint, &[u8]), FieldFault>
-    ensures { Gives (λ x. (x.0, x.1.now)) result (checkpoint_at bytes.now) }
+fn checkpoint_at(alloc: Global, bytes: &[u8]) -> Result<(Record, &[u8]), FieldFault>
+    ensures { Gives (λ x. (x.0, x.1.now)) result (as_kind kinds.Checkpoint (checkpoint_at bytes.now)) }
 {
     let (next_tx, rest) = next_at(bytes)?;
     let (commits, rest) = u64_at(rest)?;
@@ -207,12 +208,12 @@ fn checkpoint_at(alloc: Global, bytes: &[u8]) -> Result<(Checkpoint, &[u8]), Fie
         next_backup,
         next_run,
     };
-    Ok((found, rest))
+    Ok((Record::Checkpoint(found), rest))
 }
 
 #[tactic(auto, unfolding(wal_record::specs::Reading::backup_done_at))]
-fn backup_done_at(alloc: Global, bytes: &[u8]) -> Result<(BackupDone, &[u8]), FieldFault>
-    ensures { Gives (λ x. (x.0, x.1.now)) result (backup_done_at bytes.now) }
+fn backup_done_at(alloc: Global, bytes: &[u8]) -> Result<(Record, &[u8]), FieldFault>
+    ensures { Gives (λ x. (x.0, x.1.now)) result (as_kind kinds.BackupDone (backup_done_at bytes.now)) }
 {
     let (backup, rest) = number_at(bytes)?;
     let (segment, rest) = u32_at(rest)?;
@@ -222,12 +223,12 @@ fn backup_done_at(alloc: Global, bytes: &[u8]) -> Result<(BackupDone, &[u8]), Fi
         segment,
         pages,
     };
-    Ok((found, rest))
+    Ok((Record::BackupDone(found), rest))
 }
 
 #[tactic(auto, unfolding(wal_record::specs::Reading::split_at))]
-fn split_at(alloc: Global, bytes: &[u8]) -> Result<(Split, &[u8]), FieldFault>
-    ensures { Gives (λ x. (x.0, x.1.now)) result (split_at bytes.now) }
+fn split_at(alloc: Global, bytes: &[u8]) -> Result<(Record, &[u8]), FieldFault>
+    ensures { Gives (λ x. (x.0, x.1.now)) result (as_kind kinds.Split (split_at bytes.now)) }
 {
     let (page, rest) = page_at(bytes)?;
     let (page_prev, rest) = lsn_or_none_at(rest)?;
@@ -239,12 +240,12 @@ fn split_at(alloc: Global, bytes: &[u8]) -> Result<(Split, &[u8]), FieldFault>
         child,
         child_state,
     };
-    Ok((found, rest))
+    Ok((Record::Split(found), rest))
 }
 
 #[tactic(auto, unfolding(wal_record::specs::Reading::grow_at))]
-fn grow_at(alloc: Global, bytes: &[u8]) -> Result<(Grow, &[u8]), FieldFault>
-    ensures { Gives (λ x. (x.0, x.1.now)) result (grow_at bytes.now) }
+fn grow_at(alloc: Global, bytes: &[u8]) -> Result<(Record, &[u8]), FieldFault>
+    ensures { Gives (λ x. (x.0, x.1.now)) result (as_kind kinds.Grow (grow_at bytes.now)) }
 {
     let (page_prev, rest) = lsn_or_none_at(bytes)?;
     let (child, rest) = child_at(rest)?;
@@ -254,7 +255,7 @@ fn grow_at(alloc: Global, bytes: &[u8]) -> Result<(Grow, &[u8]), FieldFault>
         child,
         child_state,
     };
-    Ok((found, rest))
+    Ok((Record::Grow(found), rest))
 }
 
 /// The record in front.
@@ -264,70 +265,22 @@ fn record_at(alloc: Global, bytes: &[u8]) -> Result<(Record, &[u8]), FieldFault>
 {
     match bytes {
         [] => Err(FieldFault::Bad { left: 0 }),
-        [1, rest @ ..] => {
-            let (found, rest) = format_at(rest)?;
-            Ok((Record::Format(found), rest))
-        }
-        [2, rest @ ..] => {
-            let (found, rest) = write_at(rest)?;
-            Ok((Record::Write(found), rest))
-        }
-        [3, rest @ ..] => {
-            let (found, rest) = apply_at(rest)?;
-            Ok((Record::Apply(found), rest))
-        }
-        [4, rest @ ..] => {
-            let (found, rest) = undo_at(rest)?;
-            Ok((Record::Undo(found), rest))
-        }
-        [5, rest @ ..] => {
-            let (found, rest) = commit_at(rest)?;
-            Ok((Record::Commit(found), rest))
-        }
-        [6, rest @ ..] => {
-            let (found, rest) = end_at(rest)?;
-            Ok((Record::End(found), rest))
-        }
-        [7, rest @ ..] => {
-            let (found, rest) = split_at(alloc, rest)?;
-            Ok((Record::Split(found), rest))
-        }
-        [8, rest @ ..] => {
-            let (found, rest) = adopt_at(rest)?;
-            Ok((Record::Adopt(found), rest))
-        }
-        [9, rest @ ..] => {
-            let (found, rest) = grow_at(alloc, rest)?;
-            Ok((Record::Grow(found), rest))
-        }
-        [10, rest @ ..] => {
-            let (found, rest) = purge_at(rest)?;
-            Ok((Record::Purge(found), rest))
-        }
-        [11, rest @ ..] => {
-            let (found, rest) = written_at(rest)?;
-            Ok((Record::Written(found), rest))
-        }
-        [12, rest @ ..] => {
-            let (found, rest) = checkpoint_at(alloc, rest)?;
-            Ok((Record::Checkpoint(found), rest))
-        }
-        [13, rest @ ..] => {
-            let (found, rest) = backup_done_at(alloc, rest)?;
-            Ok((Record::BackupDone(found), rest))
-        }
-        [14, rest @ ..] => {
-            let (found, rest) = run_done_at(rest)?;
-            Ok((Record::RunDone(found), rest))
-        }
-        [15, rest @ ..] => {
-            let (found, rest) = lost_at(rest)?;
-            Ok((Record::Lost(found), rest))
-        }
-        [16, rest @ ..] => {
-            let (found, rest) = restored_at(rest)?;
-            Ok((Record::Restored(found), rest))
-        }
+        [1, rest @ ..] => format_at(rest),
+        [2, rest @ ..] => write_at(rest),
+        [3, rest @ ..] => apply_at(rest),
+        [4, rest @ ..] => undo_at(rest),
+        [5, rest @ ..] => commit_at(rest),
+        [6, rest @ ..] => end_at(rest),
+        [7, rest @ ..] => split_at(alloc, rest),
+        [8, rest @ ..] => adopt_at(rest),
+        [9, rest @ ..] => grow_at(alloc, rest),
+        [10, rest @ ..] => purge_at(rest),
+        [11, rest @ ..] => written_at(rest),
+        [12, rest @ ..] => checkpoint_at(alloc, rest),
+        [13, rest @ ..] => backup_done_at(alloc, rest),
+        [14, rest @ ..] => run_done_at(rest),
+        [15, rest @ ..] => lost_at(rest),
+        [16, rest @ ..] => restored_at(rest),
         _ => Err(FieldFault::Bad { left: bytes.len() }),
     }
 }

@@ -1,7 +1,8 @@
 //! Writing a record.
 ghost use Rattle.std.specs.Prelude.{◌≡◌, ◌++◌, ◌∷◌, OnOk, OnErr, length};
 ghost use Rattle.wal_record.specs.Rules.{HasSpelling, KeepsCheckpoint, KeepsBackupDone, KeepsSplit, KeepsGrow};
-ghost use Rattle.wal_record.specs.Spelling.{spelling, format_bytes, write_bytes, apply_bytes, undo_bytes, commit_bytes, end_bytes, adopt_bytes, purge_bytes, written_bytes, run_done_bytes, lost_bytes, restored_bytes, checkpoint_bytes, backup_done_bytes, split_bytes, grow_bytes};
+ghost use Rattle.wal_record.specs.Spelling.{spelling};
+ghost use Rattle.wal_record.specs.declared.record.Record.TheVariants as kinds;
 
 use crate::list_writing::{
     put_page_heads, put_page_lsns, put_runs, put_segments, put_transactions,
@@ -15,14 +16,16 @@ use wal_record::{
 };
 
 fn put_format(out: &mut Vec<u8>, found: &Format) -> Result<(), AllocError>
-    ensures { OnOk result (out.new.items ≡ out.old.items ++ format_bytes found.now) }
+    ensures { OnOk result (out.new.items ≡ out.old.items ++ spelling (kinds.Format found.now)) }
 {
+    out.push(1)?;
     put_u32(out, found.limit)
 }
 
 fn put_write(out: &mut Vec<u8>, found: &Write) -> Result<(), AllocError>
-    ensures { OnOk result (out.new.items ≡ out.old.items ++ write_bytes found.now) }
+    ensures { OnOk result (out.new.items ≡ out.old.items ++ spelling (kinds.Write found.now)) }
 {
+    out.push(2)?;
     put_u64(out, found.tx)?;
     put_u64(out, found.prev)?;
     put_u32(out, found.page)?;
@@ -33,8 +36,9 @@ fn put_write(out: &mut Vec<u8>, found: &Write) -> Result<(), AllocError>
 }
 
 fn put_apply(out: &mut Vec<u8>, found: &Apply) -> Result<(), AllocError>
-    ensures { OnOk result (out.new.items ≡ out.old.items ++ apply_bytes found.now) }
+    ensures { OnOk result (out.new.items ≡ out.old.items ++ spelling (kinds.Apply found.now)) }
 {
+    out.push(3)?;
     put_u64(out, found.tx)?;
     put_u64(out, found.prev)?;
     put_u32(out, found.page)?;
@@ -46,8 +50,9 @@ fn put_apply(out: &mut Vec<u8>, found: &Apply) -> Result<(), AllocError>
 }
 
 fn put_undo(out: &mut Vec<u8>, found: &Undo) -> Result<(), AllocError>
-    ensures { OnOk result (out.new.items ≡ out.old.items ++ undo_bytes found.now) }
+    ensures { OnOk result (out.new.items ≡ out.old.items ++ spelling (kinds.Undo found.now)) }
 {
+    out.push(4)?;
     put_u64(out, found.tx)?;
     put_u64(out, found.prev)?;
     put_u32(out, found.page)?;
@@ -58,22 +63,25 @@ fn put_undo(out: &mut Vec<u8>, found: &Undo) -> Result<(), AllocError>
 }
 
 fn put_commit(out: &mut Vec<u8>, found: &Commit) -> Result<(), AllocError>
-    ensures { OnOk result (out.new.items ≡ out.old.items ++ commit_bytes found.now) }
+    ensures { OnOk result (out.new.items ≡ out.old.items ++ spelling (kinds.Commit found.now)) }
 {
+    out.push(5)?;
     put_u64(out, found.tx)?;
     put_u64(out, found.prev)
 }
 
 fn put_end(out: &mut Vec<u8>, found: &End) -> Result<(), AllocError>
-    ensures { OnOk result (out.new.items ≡ out.old.items ++ end_bytes found.now) }
+    ensures { OnOk result (out.new.items ≡ out.old.items ++ spelling (kinds.End found.now)) }
 {
+    out.push(6)?;
     put_u64(out, found.tx)?;
     put_u64(out, found.prev)
 }
 
 fn put_adopt(out: &mut Vec<u8>, found: &Adopt) -> Result<(), AllocError>
-    ensures { OnOk result (out.new.items ≡ out.old.items ++ adopt_bytes found.now) }
+    ensures { OnOk result (out.new.items ≡ out.old.items ++ spelling (kinds.Adopt found.now)) }
 {
+    out.push(8)?;
     put_u32(out, found.parent)?;
     put_u64(out, found.parent_prev)?;
     put_u32(out, found.fosterer)?;
@@ -83,44 +91,50 @@ fn put_adopt(out: &mut Vec<u8>, found: &Adopt) -> Result<(), AllocError>
 }
 
 fn put_purge(out: &mut Vec<u8>, found: &Purge) -> Result<(), AllocError>
-    ensures { OnOk result (out.new.items ≡ out.old.items ++ purge_bytes found.now) }
+    ensures { OnOk result (out.new.items ≡ out.old.items ++ spelling (kinds.Purge found.now)) }
 {
+    out.push(10)?;
     put_u32(out, found.page)?;
     put_u64(out, found.page_prev)
 }
 
 fn put_written(out: &mut Vec<u8>, found: &Written) -> Result<(), AllocError>
-    ensures { OnOk result (out.new.items ≡ out.old.items ++ written_bytes found.now) }
+    ensures { OnOk result (out.new.items ≡ out.old.items ++ spelling (kinds.Written found.now)) }
 {
+    out.push(11)?;
     put_u32(out, found.page)?;
     put_u64(out, found.lsn)
 }
 
 fn put_run_done(out: &mut Vec<u8>, found: &RunDone) -> Result<(), AllocError>
-    ensures { OnOk result (out.new.items ≡ out.old.items ++ run_done_bytes found.now) }
+    ensures { OnOk result (out.new.items ≡ out.old.items ++ spelling (kinds.RunDone found.now)) }
 {
+    out.push(14)?;
     put_u64(out, found.run)?;
     put_u64(out, found.first)?;
     put_u64(out, found.last)
 }
 
 fn put_lost(out: &mut Vec<u8>, found: &Lost) -> Result<(), AllocError>
-    ensures { OnOk result (out.new.items ≡ out.old.items ++ lost_bytes found.now) }
+    ensures { OnOk result (out.new.items ≡ out.old.items ++ spelling (kinds.Lost found.now)) }
 {
+    out.push(15)?;
     put_u32(out, found.pages)
 }
 
 fn put_restored(out: &mut Vec<u8>, found: &Restored) -> Result<(), AllocError>
-    ensures { OnOk result (out.new.items ≡ out.old.items ++ restored_bytes found.now) }
+    ensures { OnOk result (out.new.items ≡ out.old.items ++ spelling (kinds.Restored found.now)) }
 {
+    out.push(16)?;
     put_u32(out, found.segment)
 }
 
 #[tactic(auto, unfolding(wal_record::specs::Spelling::checkpoint_bytes))]
 fn put_checkpoint(out: &mut Vec<u8>, found: &Checkpoint) -> Result<(), AllocError>
     requires { KeepsCheckpoint found.now }
-    ensures { OnOk result (out.new.items ≡ out.old.items ++ checkpoint_bytes found.now) }
+    ensures { OnOk result (out.new.items ≡ out.old.items ++ spelling (kinds.Checkpoint found.now)) }
 {
+    out.push(12)?;
     put_u64(out, found.next_tx)?;
     put_u64(out, found.commits)?;
     put_u32(out, found.limit)?;
@@ -135,8 +149,9 @@ fn put_checkpoint(out: &mut Vec<u8>, found: &Checkpoint) -> Result<(), AllocErro
 
 fn put_backup_done(out: &mut Vec<u8>, found: &BackupDone) -> Result<(), AllocError>
     requires { KeepsBackupDone found.now }
-    ensures { OnOk result (out.new.items ≡ out.old.items ++ backup_done_bytes found.now) }
+    ensures { OnOk result (out.new.items ≡ out.old.items ++ spelling (kinds.BackupDone found.now)) }
 {
+    out.push(13)?;
     put_u64(out, found.backup)?;
     put_u32(out, found.segment)?;
     put_page_lsns(out, &found.pages)
@@ -144,8 +159,9 @@ fn put_backup_done(out: &mut Vec<u8>, found: &BackupDone) -> Result<(), AllocErr
 
 fn put_split(out: &mut Vec<u8>, found: &Split) -> Result<(), AllocError>
     requires { KeepsSplit found.now }
-    ensures { OnOk result (out.new.items ≡ out.old.items ++ split_bytes found.now) }
+    ensures { OnOk result (out.new.items ≡ out.old.items ++ spelling (kinds.Split found.now)) }
 {
+    out.push(7)?;
     put_u32(out, found.page)?;
     put_u64(out, found.page_prev)?;
     put_u32(out, found.child)?;
@@ -154,8 +170,9 @@ fn put_split(out: &mut Vec<u8>, found: &Split) -> Result<(), AllocError>
 
 fn put_grow(out: &mut Vec<u8>, found: &Grow) -> Result<(), AllocError>
     requires { KeepsGrow found.now }
-    ensures { OnOk result (out.new.items ≡ out.old.items ++ grow_bytes found.now) }
+    ensures { OnOk result (out.new.items ≡ out.old.items ++ spelling (kinds.Grow found.now)) }
 {
+    out.push(9)?;
     put_u64(out, found.page_prev)?;
     put_u32(out, found.child)?;
     put_state(out, &found.child_state)
@@ -167,70 +184,22 @@ fn put_record(out: &mut Vec<u8>, found: &Record) -> Result<(), AllocError>
     ensures { OnOk result (out.new.items ≡ out.old.items ++ spelling found.now) }
 {
     match found {
-        Record::Format(found) => {
-            out.push(1)?;
-            put_format(out, found)
-        }
-        Record::Write(found) => {
-            out.push(2)?;
-            put_write(out, found)
-        }
-        Record::Apply(found) => {
-            out.push(3)?;
-            put_apply(out, found)
-        }
-        Record::Undo(found) => {
-            out.push(4)?;
-            put_undo(out, found)
-        }
-        Record::Commit(found) => {
-            out.push(5)?;
-            put_commit(out, found)
-        }
-        Record::End(found) => {
-            out.push(6)?;
-            put_end(out, found)
-        }
-        Record::Split(found) => {
-            out.push(7)?;
-            put_split(out, found)
-        }
-        Record::Adopt(found) => {
-            out.push(8)?;
-            put_adopt(out, found)
-        }
-        Record::Grow(found) => {
-            out.push(9)?;
-            put_grow(out, found)
-        }
-        Record::Purge(found) => {
-            out.push(10)?;
-            put_purge(out, found)
-        }
-        Record::Written(found) => {
-            out.push(11)?;
-            put_written(out, found)
-        }
-        Record::Checkpoint(found) => {
-            out.push(12)?;
-            put_checkpoint(out, found)
-        }
-        Record::BackupDone(found) => {
-            out.push(13)?;
-            put_backup_done(out, found)
-        }
-        Record::RunDone(found) => {
-            out.push(14)?;
-            put_run_done(out, found)
-        }
-        Record::Lost(found) => {
-            out.push(15)?;
-            put_lost(out, found)
-        }
-        Record::Restored(found) => {
-            out.push(16)?;
-            put_restored(out, found)
-        }
+        Record::Format(found) => put_format(out, found),
+        Record::Write(found) => put_write(out, found),
+        Record::Apply(found) => put_apply(out, found),
+        Record::Undo(found) => put_undo(out, found),
+        Record::Commit(found) => put_commit(out, found),
+        Record::End(found) => put_end(out, found),
+        Record::Split(found) => put_split(out, found),
+        Record::Adopt(found) => put_adopt(out, found),
+        Record::Grow(found) => put_grow(out, found),
+        Record::Purge(found) => put_purge(out, found),
+        Record::Written(found) => put_written(out, found),
+        Record::Checkpoint(found) => put_checkpoint(out, found),
+        Record::BackupDone(found) => put_backup_done(out, found),
+        Record::RunDone(found) => put_run_done(out, found),
+        Record::Lost(found) => put_lost(out, found),
+        Record::Restored(found) => put_restored(out, found),
     }
 }
 
@@ -248,7 +217,7 @@ pub fn encode(alloc: Global, found: &Record, out: &mut Vec<u8>) -> Result<(), Me
 
 /// The spelling of a Commit. It takes no memory.
 pub fn commit_bytes(commit: &Commit) -> [u8; 17]
-    ensures { result ≡ spelling (Record.Commit commit.now) }
+    ensures { result ≡ spelling (kinds.Commit commit.now) }
 {
     let [a, b, c, d, e, f, g, h] = commit.tx.to_be_bytes();
     let [i, j, k, l, m, n, o, p] = commit.prev.to_be_bytes();

@@ -1,6 +1,5 @@
 use Rattle.std.proofs.Common.{◌≡◌, ◌++◌, drop}
 use Rattle.std.specs.Prelude.{flat_map}
-use Rattle.std.specs.Int.{w32}
 use Rattle.wal_record.specs.Spelling.{open_write_bytes}
 use Rattle.record_codec.proofs.list_writing.put_open_writes_items.Given as goal
 

@@ -1,4 +1,3 @@
-use Rattle.std.proofs.Common.{◌≡◌, subst}
 use Rattle.std.proofs.lemmas.Result.{err_from_is_err_and}
 use Rattle.wal_record.specs.Reading.{open_write_at}
 use Rattle.state_codec.proofs.Items.{goes_on, ends, is_done}
