@@ -1,6 +1,7 @@
 pub mod Blocks
 pub mod Causes
 pub mod Commands
+pub mod Disks
 pub mod Reading
 pub mod Rows
 pub mod Runs

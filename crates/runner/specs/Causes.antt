@@ -37,8 +37,7 @@ IsOpenRefusal line (statuses.NotBuilt n) = n ≡ line
 IsOpenRefusal line _ = ⊥
 
 -- why a log isn't made
-abbrev pub IsFormatRefusal : ℕ → Status → Type 0
-IsFormatRefusal line statuses.Memory = Unit {0}
-IsFormatRefusal line statuses.LogFault = Unit {0}
-IsFormatRefusal line (statuses.NotBuilt n) = n ≡ line
-IsFormatRefusal line _ = ⊥
+abbrev pub IsFormatRefusal : Status → Type 0
+IsFormatRefusal statuses.Memory = Unit {0}
+IsFormatRefusal statuses.LogFault = Unit {0}
+IsFormatRefusal _ = ⊥

@@ -4,6 +4,7 @@ pub mod Causes
 pub mod Clause
 pub mod Leaf
 pub mod Lines
+pub mod LogDisk
 pub mod Machine
 pub mod Printing
 pub mod Refusals

@@ -1,12 +1,16 @@
 //! Opening a life: the log's records are applied to the page in order.
-ghost use Rattle.std.specs.Prelude.{◌≡◌, ◌≤◌, ℕ, true, [], None, IfErr, IfOk, MatchResult};
+ghost use Rattle.std.specs.Prelude.{◌≡◌, ◌≤◌, ℕ, List, true, [], None, IfErr, IfOk, MatchResult};
+ghost use Rattle.log_blocks.specs.Log.{Block};
+ghost use Rattle.log_blocks.specs.LogState.{IsDurable};
 ghost use Rattle.log_blocks.specs.Opening.{RoseFor};
+ghost use Rattle.runner.specs.Turns.{formatted_log};
+ghost use Rattle.runner.specs.LogDisk.{KeepsLog, KeepsFirst};
 ghost use Rattle.runner.specs.Causes.{LogCause, IsOpenRefusal};
 
 use crate::leaf::{Leaf, PutRefused};
 use crate::life::Life;
 use crate::status::Status;
-use log_blocks::{BlockLog, open_log};
+use log_blocks::{BlockLog, one_log, open_log};
 use media::Disk;
 use record_codec::{RecordFault, decode};
 use std::alloc::Global;
@@ -44,6 +48,10 @@ pub fn open<L: Disk>(alloc: Global, disk: L, line: u64) -> Result<Life<L>, NotOp
     ensures later { MatchResult result (λ life. L.faults disk ≤ L.faults life.log.device) (λ refused. L.faults disk ≤ L.faults refused.disk) }
     ensures cause { IfErr result (λ refused. LogCause (L.faults disk) (L.faults refused.disk) refused.status) }
     ensures first { IfOk result (λ life. (life.leaf ≡ []) × (life.head ≡ 1) × (life.session ≡ None) × (life.next ≡ 1) × (life.commits ≡ 0) × (life.log.next ≡ 2)) }
+    // It syncs and reads, and changes no byte.
+    ensures opened { L.tells → KeepsFirst L.told L.may_leave disk → IfOk result (λ life. KeepsLog L.told L.may_leave life.log formatted_log) }
+    ensures kept { L.tells → KeepsFirst L.told L.may_leave disk → IfErr result (λ refused. KeepsFirst L.told L.may_leave refused.disk) }
+    ensures fresh { IfOk result (λ life. life.log.pending ≡ []) }
     ensures err { IfErr result (λ refused. IsOpenRefusal line refused.status) }
 {
     let mut log = match open_log(alloc, disk) {
@@ -55,6 +63,8 @@ pub fn open<L: Disk>(alloc: Global, disk: L, line: u64) -> Result<Life<L>, NotOp
             });
         }
     };
+    // What the disk keeps can be read in one way only.
+    one_log();
     match replay_log(alloc, &mut log, line) {
         Ok(found) => {
             if !found.is_first() || log.next() != 2 {
@@ -96,6 +106,8 @@ pub fn status_of(fault: &Fault) -> Status
 
 fn replay_log<L: Disk>(alloc: Global, log: &mut BlockLog<L>, line: u64) -> Result<Replay, Status>
     requires { log.old.ended ≡ None }
+    ensures durable { L.tells → (bs : List Block) → IsDurable L.told L.may_leave log.old bs → IsDurable L.told L.may_leave log.new bs }
+    ensures pending { log.new.pending ≡ log.old.pending }
     ensures later { L.faults log.old.device ≤ L.faults log.new.device }
     ensures cause { IfErr result (LogCause (L.faults log.old.device) (L.faults log.new.device)) }
     ensures number { IfOk result (λ found. 1 ≤ found.next) }

@@ -1,4 +1,6 @@
-use Rattle.std.proofs.Common.{◌≡◌, ◌≤◌, None, Option, ℕ}
+use Rattle.std.proofs.Common.{◌≡◌, ◌≤◌, None, Option, ℕ, List}
+use Rattle.log_blocks.specs.Log.{Block}
+use Rattle.log_blocks.specs.LogState.{IsDurable}
 use Rattle.runner.proofs.opening.replay_log.Given as goal
 
 abbrev pub invariant-loop-block : goal.invariant-loop-block
@@ -6,5 +8,6 @@ invariant-loop-block g l = record {
   places : l.log.places ≡ l.fn.log.places;
   pending : l.log.pending ≡ l.fn.log.pending;
   live : ◌≡◌ {A = Option ℕ} l.log.ended None;
+  durable : g.L.Disk.tells → (bs : List Block) → IsDurable g.L.Disk.told g.L.Disk.may_leave l.fn.log bs → IsDurable g.L.Disk.told g.L.Disk.may_leave l.log bs;
   faults : g.L.Disk.faults l.fn.log.device ≤ g.L.Disk.faults l.log.device;
 }
