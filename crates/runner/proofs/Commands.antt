@@ -45,7 +45,7 @@ use Rattle.runner.specs.Turns.{Life, Active, Stage, IsAid, longer, opened, tx_of
 use Rattle.runner.specs.Text.{kept_log, log_of_life}
 use Rattle.runner.specs.declared.status.Status.{Status}
 use Rattle.runner.specs.declared.status.Status.TheVariants as statuses
-use Rattle.runner.specs.Causes.{IsOpenRefusal, IsFormatRefusal}
+use Rattle.runner.specs.Causes.{IsOpenRefusal, IsDiskFault, IsFormatRefusal}
 use Rattle.runner.specs.Session.{commit_record}
 use Rattle.runner.specs.Refusals.{CutAt, HasMost, IsFull, IsNotBuilt, RefusesAt}
 use Rattle.runner.specs.LogDisk.{Spells, HoldsLog, KeepsLog, KeepsFirst, IsBlank, KeepsFor, Leaves, LeavesBlank}
@@ -122,13 +122,17 @@ module _ {D : Type 0} (tells : Type 0) (told : D → Kept) (may_leave : D → Ke
   pub ends_out : (c : Command) (line : ℕ) (status : Status) → status ≢ statuses.LogFault → RefusesAt tells may_leave start len disk0 disk s c line status → EndsRun tells told may_leave start len disk0 disk s c line status
   ends_out c line status other why = record { why = why; leaves = λ _. here_out }
 
+  -- no store was formatted
+  pub unformatted : (line : ℕ) → formatted ≡ false → EndsRun tells told may_leave start len disk0 disk s commands.Open line (statuses.NotBuilt line)
+  unformatted line is_not = record { why = (refl, lawful_out, λ t. unmade is_not); leaves = λ _. here_out }
+
   pub has_limit : (limit line : ℕ) → EndsRun tells told may_leave start len disk0 disk s (commands.Format (Some limit)) line (statuses.NotBuilt line)
   has_limit limit line = record { why = (refl, lawful_out, inl (λ q. cc)); leaves = λ _. here_out }
 
   pub not_blank : (line : ℕ) → (formatted ≡ true) ⊎ (start disk ≢ 0) ⊎ (len disk ≢ 0) → EndsRun tells told may_leave start len disk0 disk s (commands.Format None) line (statuses.NotBuilt line)
   not_blank line why = record { why = (refl, lawful_out, by formatted refl why); leaves = λ _. here_out }
     where
-      by : (b : Bool) → formatted ≡ b → (formatted ≡ true) ⊎ (start disk ≢ 0) ⊎ (len disk ≢ 0) → IsNotBuilt (start disk0) (len disk0) s (commands.Format None)
+      by : (b : Bool) → formatted ≡ b → (formatted ≡ true) ⊎ (start disk ≢ 0) ⊎ (len disk ≢ 0) → IsNotBuilt tells (start disk0) (len disk0) s (commands.Format None)
       by true is any = inr (inl (λ none. absurd (let e : ◌≡◌ {A = Option (List Record)} None (Some formatted_log) = sym none ∙ made is in cc)))
       by false is (inl has) = absurd (let e : false ≡ true = sym is ∙ has in cc)
       by false is (inr (inl from)) = inr (inr (inl (λ none. from (ap start (same_out is) ∙ none))))
@@ -182,19 +186,19 @@ module _ {D : Type 0} (tells : Type 0) (told : D → Kept) (may_leave : D → Ke
       leaves = λ t k crash. log_kept (may_leave disk0) (longer s.life []) s.kept k unlived (made is_formatted) (subst (HoldsLog formatted_log) (sym ((keeps t).only k crash)) (first_holds told may_leave now (keeps t)));
     }
 
-    pub ends_open : (now : D) (line : ℕ) (status : Status) → IsOpenRefusal line status → (tells → KeepsFirst told may_leave disk → KeepsFirst told may_leave now) → EndsRun tells told may_leave start len disk0 now s commands.Open line status
-    ends_open now line status kind keeps = record { why = why status kind; leaves = λ _. first_leaves tells told may_leave start len disk0 s now h.life (made is_formatted) blank_first here }
+    pub ends_open : (now : D) (line : ℕ) (status : Status) → IsOpenRefusal line status → (tells → KeepsFirst told may_leave disk → IsDiskFault status) → (tells → KeepsFirst told may_leave disk → KeepsFirst told may_leave now) → EndsRun tells told may_leave start len disk0 now s commands.Open line status
+    ends_open now line status kind met keeps = record { why = why status kind (λ t. met t ((log_disk is_formatted).1 t)); leaves = λ _. first_leaves tells told may_leave start len disk0 s now h.life (made is_formatted) blank_first here }
       where
         here : tells → KeepsFirst told may_leave now
         here t = keeps t ((log_disk is_formatted).1 t)
 
-        why : (status : Status) → IsOpenRefusal line status → RefusesAt tells may_leave start len disk0 now s commands.Open line status
-        why statuses.Memory kind = tt
-        why statuses.LogFault kind = cut_open now here
-        why (statuses.LogBad block byte) kind = tt
-        why statuses.NotFormatted kind = tt
-        why (statuses.NotBuilt n) kind = (kind, lawful_out, tt)
-        why _ kind = absurd kind
+        why : (status : Status) → IsOpenRefusal line status → (tells → IsDiskFault status) → RefusesAt tells may_leave start len disk0 now s commands.Open line status
+        why statuses.Memory kind met = tt
+        why statuses.LogFault kind met = cut_open now here
+        why (statuses.LogBad block byte) kind met = tt
+        why statuses.NotFormatted kind met = (tt, λ t. met t)
+        why (statuses.NotBuilt n) kind met = (kind, lawful_out, λ t. absurd (met t))
+        why _ kind met = absurd kind
 
     module _ (rows : List LeafRow) (head : ℕ) (session : Option Session) (next count : ℕ) (log : LogState D) (no_rows : rows ≡ []) (one : head ≡ 1) (none : ◌≡◌ {A = Option Session} session None) (first : next ≡ 1) (zero_count : count ≡ 0) (two : log.next ≡ 2)
         (fresh : log.pending ≡ []) (opens : tells → KeepsFirst told may_leave disk → KeepsLog told may_leave log formatted_log) where
@@ -521,7 +525,7 @@ module _ {D : Type 0} (tells : Type 0) (told : D → Kept) (may_leave : D → Ke
                       k.0 ++ (log.pending ++ numbered log.next blocks'),
                       flushed t k.0 k.1,
                       subst (Spells (k.0 ++ (log.pending ++ numbered log.next blocks'))) (append_assoc formatted_log l.disk.durable (l.disk.waiting ++ committing o ∷ []))
-                      (spells_append k.0 (log.pending ++ numbered log.next blocks') (formatted_log ++ l.disk.durable) (l.disk.waiting ++ committing o ∷ []) k.2 (spelled_commit blocks' entered)),
+                          (spells_append k.0 (log.pending ++ numbered log.next blocks') (formatted_log ++ l.disk.durable) (l.disk.waiting ++ committing o ∷ []) k.2 (spelled_commit blocks' entered)),
                     );
               };
             };
@@ -580,7 +584,7 @@ module _ {D : Type 0} (tells : Type 0) (told : D → Kept) (may_leave : D → Ke
       let right : IsRight formatted_log l.history = calm_right formatted_log l.history rows head (opened_by session) next count l.lsn l.calm in
       let left : IsLeft formatted_log l.history d.durable = right.behind d.durable d.waiting d.whole d.uncommitted in
       let held : (before : Kept → Type 0) (t : tells) → KeepsFor before s.life s.kept (told log.device) = λ before t.
-          subst (λ (x : Option Life). KeepsFor before x s.kept (told log.device)) (sym l.is) (d.durable, left, ((d.keeps t).0, (d.keeps t).1.stands, (d.keeps t).2)) in
+      subst (λ (x : Option Life). KeepsFor before x s.kept (told log.device)) (sym l.is) (d.durable, left, ((d.keeps t).0, (d.keeps t).1.stands, (d.keeps t).2)) in
       record {
         now = λ t. held (λ k. k ≡ told disk0) t;
         crash = λ t c crash. subst (KeepsFor (may_leave disk0) s.life s.kept) (sym ((d.keeps t).1.only c crash)) (held (may_leave disk0) t);

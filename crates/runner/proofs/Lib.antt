@@ -3,6 +3,7 @@ pub mod Causes
 pub mod Commands
 pub mod Disks
 pub mod Reading
+pub mod Replays
 pub mod Rows
 pub mod Runs
 pub mod Turning

@@ -56,7 +56,7 @@ module _ {D : Type 0} (tells : Type 0) (keeps : D → Kept) (may_leave : D → K
   Ends now told' status = Headline tells keeps may_leave start len disk0 now left0 new.pending ln told0 told' status
 
   -- between two turns
-  pub stop : (now : D) (rest : List ℕ) (status : Status) → Consumes (to_come old lo) (to_come new ln) rest → new.taken ≡ old.taken + length rest → Ended (start disk0) (len disk0) status turns b.read rest (text turns) (to_come new ln)
+  pub stop : (now : D) (rest : List ℕ) (status : Status) → Consumes (to_come old lo) (to_come new ln) rest → new.taken ≡ old.taken + length rest → Ended tells (start disk0) (len disk0) status turns b.read rest (text turns) (to_come new ln)
       → LeavesAt tells keeps may_leave start len disk0 now status turns → Ends now told status
   stop now rest status took size ended left = record {
     turns = turns;
@@ -145,12 +145,12 @@ module _ {D : Type 0} (tells : Type 0) (keeps : D → Kept) (may_leave : D → K
         by statuses.Memory why left = no_memory_at now whole took count (left (λ q. cc))
         by (statuses.Script m) why left = stop now whole (statuses.Script m) took count (refl, why.0 ∙ at_line line n, inl (bytes, refl, is, built, subst (Unlawful (stage turns)) (sym e) why.1)) (left (λ q. cc))
         by (statuses.NotBuilt m) why left =
-            stop now whole (statuses.NotBuilt m) took count (refl, why.0 ∙ at_line line n, inr (of_command (λ d. (is_lawful (stage turns) d ≡ true) × IsNotBuilt (start disk0) (len disk0) (stage turns) d) bytes whole c refl e (why.1, why.2))) (left (λ q. cc))
+            stop now whole (statuses.NotBuilt m) took count (refl, why.0 ∙ at_line line n, inr (of_command (λ d. (is_lawful (stage turns) d ≡ true) × IsNotBuilt tells (start disk0) (len disk0) (stage turns) d) bytes whole c refl e (why.1, why.2))) (left (λ q. cc))
         by (statuses.NoSplit m) why left =
             stop now whole (statuses.NoSplit m) took count (refl, why.0 ∙ at_line line n, of_command (λ d. (is_lawful (stage turns) d ≡ true) × IsFull (stage turns) d) bytes whole c refl e (why.1, why.2)) (left (λ q. cc))
         by statuses.LogFault why left = cut_off now why
         by (statuses.LogBad block byte) why left = stop now whole (statuses.LogBad block byte) took count (refl, of_command IsOpen bytes whole c refl e why) (left (λ q. cc))
-        by statuses.NotFormatted why left = stop now whole statuses.NotFormatted took count (refl, of_command IsOpen bytes whole c refl e why) (left (λ q. cc))
+        by statuses.NotFormatted why left = stop now whole statuses.NotFormatted took count (refl, of_command IsOpen bytes whole c refl e why.0, why.1) (left (λ q. cc))
         by _ why left = absurd why
 
     -- one turn more
@@ -228,7 +228,7 @@ nothing_pending (Some bytes) = refl
 
 module _ {D : Type 0} (tells : Type 0) (keeps : D → Kept) (may_leave : D → Kept → Type 0) (start len : D → ℕ) (disk : D) where
   -- nothing is run
-  not_begun : (left told : Option (List ℕ)) (status : Status) → Ended (start disk) (len disk) status [] [] [] [] (prepend_known [] left) → LeavesAt tells keeps may_leave start len disk disk status []
+  not_begun : (left told : Option (List ℕ)) (status : Status) → Ended tells (start disk) (len disk) status [] [] [] [] (prepend_known [] left) → LeavesAt tells keeps may_leave start len disk disk status []
       → (pending : List ℕ) × Headline tells keeps may_leave start len disk disk left pending left told told status
   unfolding Fits AllAlong stage text along
   not_begun left told status ended left_at = (
@@ -263,6 +263,8 @@ module _ {D : Type 0} (tells : Type 0) (keeps : D → Kept) (may_leave : D → K
 
   pub ran_whole : (now : D) (left left' told told' : Option (List ℕ)) (old new : Reader) (status : Status) → old ≡ first_reader → Headline tells keeps may_leave start len disk now (to_come old left) new.pending left' told told' status
       → (pending : List ℕ) × Headline tells keeps may_leave start len disk now left pending left' told told' status
-  ran_whole now left left' told told' old new status is h =
-      (new.pending, subst (λ (x : Option (List ℕ)). Headline tells keeps may_leave start len disk now x new.pending left' told told' status) (nothing_pending left)
-      (subst (λ (r : Reader). Headline tells keeps may_leave start len disk now (to_come r left) new.pending left' told told' status) is h))
+  ran_whole now left left' told told' old new status is h = (
+    new.pending,
+    subst (λ (x : Option (List ℕ)). Headline tells keeps may_leave start len disk now x new.pending left' told told' status) (nothing_pending left)
+        (subst (λ (r : Reader). Headline tells keeps may_leave start len disk now (to_come r left) new.pending left' told told' status) is h),
+  )

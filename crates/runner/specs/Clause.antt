@@ -58,23 +58,23 @@ BadLine s taken rest left = ((line : List ℕ) × (rest ≡ line ++ 10 ∷ []) �
 abbrev pub NextLine : (Command → Type 0) → List ℕ → Type 0
 NextLine P rest = (line : List ℕ) × (rest ≡ line ++ 10 ∷ []) × OfCommand P (reads line)
 
-abbrev pub NotBuiltLine : ℕ → ℕ → Stage → List ℕ → Type 0
-NotBuiltLine start len s rest = ((line : List ℕ) × (rest ≡ line ++ 10 ∷ []) × (is_built line ≡ false)) ⊎ NextLine (λ c. (is_lawful s c ≡ true) × IsNotBuilt start len s c) rest
+abbrev pub NotBuiltLine : Type 0 → ℕ → ℕ → Stage → List ℕ → Type 0
+NotBuiltLine tells start len s rest = ((line : List ℕ) × (rest ≡ line ++ 10 ∷ []) × (is_built line ≡ false)) ⊎ NextLine (λ c. (is_lawful s c ≡ true) × IsNotBuilt tells start len s c) rest
 
 -- by the status: what was written of the turns' text, and why the run ended; the log disk that was handed in had this
 -- start and length
-abbrev pub Ended : ℕ → ℕ → Status → List Turn → List ℕ → List ℕ → List ℕ → Option (List ℕ) → Type 0
-Ended start len statuses.Done turns read rest written left = (written ≡ text turns) × (rest ≡ []) × IsAtEnd left
-Ended start len statuses.Memory turns read rest written left = Partly turns written
-Ended start len statuses.Usage turns read rest written left = written ≡ []
-Ended start len (statuses.Script line) turns read rest written left = (written ≡ text turns) × (line ≡ length turns + 1) × BadLine (stage turns) (length read) rest left
-Ended start len statuses.SourceFault turns read rest written left = written ≡ text turns
-Ended start len statuses.SinkFault turns read rest written left = IsPrefix written (text turns)
-Ended start len statuses.LogFault turns read rest written left = written ≡ text turns
-Ended start len (statuses.LogBad block byte) turns read rest written left = (written ≡ text turns) × NextLine IsOpen rest
-Ended start len statuses.NotFormatted turns read rest written left = (written ≡ text turns) × NextLine IsOpen rest
-Ended start len (statuses.NotBuilt line) turns read rest written left = (written ≡ text turns) × (line ≡ length turns + 1) × NotBuiltLine start len (stage turns) rest
-Ended start len (statuses.NoSplit line) turns read rest written left = (written ≡ text turns) × (line ≡ length turns + 1) × NextLine (λ c. (is_lawful (stage turns) c ≡ true) × IsFull (stage turns) c) rest
+abbrev pub Ended : Type 0 → ℕ → ℕ → Status → List Turn → List ℕ → List ℕ → List ℕ → Option (List ℕ) → Type 0
+Ended tells start len statuses.Done turns read rest written left = (written ≡ text turns) × (rest ≡ []) × IsAtEnd left
+Ended tells start len statuses.Memory turns read rest written left = Partly turns written
+Ended tells start len statuses.Usage turns read rest written left = written ≡ []
+Ended tells start len (statuses.Script line) turns read rest written left = (written ≡ text turns) × (line ≡ length turns + 1) × BadLine (stage turns) (length read) rest left
+Ended tells start len statuses.SourceFault turns read rest written left = written ≡ text turns
+Ended tells start len statuses.SinkFault turns read rest written left = IsPrefix written (text turns)
+Ended tells start len statuses.LogFault turns read rest written left = written ≡ text turns
+Ended tells start len (statuses.LogBad block byte) turns read rest written left = (written ≡ text turns) × NextLine IsOpen rest
+Ended tells start len statuses.NotFormatted turns read rest written left = (written ≡ text turns) × NextLine IsOpen rest × (tells → ⊥)
+Ended tells start len (statuses.NotBuilt line) turns read rest written left = (written ≡ text turns) × (line ≡ length turns + 1) × NotBuiltLine tells start len (stage turns) rest
+Ended tells start len (statuses.NoSplit line) turns read rest written left = (written ≡ text turns) × (line ≡ length turns + 1) × NextLine (λ c. (is_lawful (stage turns) c ≡ true) × IsFull (stage turns) c) rest
 
 -- The log disk that was handed in and the one handed back, as disks of its type tell; then what was left and told at the
 -- start, and what is now. What was read and given to no line is still pending.
@@ -89,7 +89,7 @@ pub record Headline {D : Type 0} (tells : Type 0) (keeps : D → Kept) (may_leav
   pub most : length read + length rest + length pending ≤ longest_script + 1
   pub ran : Ran read turns
   pub wrote : Appends told0 told written
-  pub ended : Ended (start disk0) (len disk0) status turns read rest written (prepend_known pending left)
+  pub ended : Ended tells (start disk0) (len disk0) status turns read rest written (prepend_known pending left)
   -- of the life that is open the disk has a member of what a stop may leave
   pub leaves : LeavesAt tells keeps may_leave start len disk0 disk status turns
 

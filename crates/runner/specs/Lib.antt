@@ -8,6 +8,7 @@ pub mod LogDisk
 pub mod Machine
 pub mod Printing
 pub mod Refusals
+pub mod Replaying
 pub mod Session
 pub mod Status
 pub mod Text

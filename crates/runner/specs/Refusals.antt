@@ -31,14 +31,15 @@ IsRequestNotBuilt log tx (requests.Put key value) = HasMost log tx
 IsRequestNotBuilt log tx _ = Unit {0}
 
 -- What isn't built of a lawful command: a format with a limit, of a store that this run formatted, or of a disk whose
--- start or length isn't 0; an opening where this run formatted no store; a second transaction beside an open one; a
+-- start or length isn't 0; an opening where this run formatted no store, or the disk, which tells nothing, gives another
+-- log than its; a second transaction beside an open one; a
 -- transaction of more than 4,000 puts.
-abbrev pub IsNotBuilt : ℕ → ℕ → Stage → Command → Type 0
-IsNotBuilt start len s (commands.Format limit) = (limit ≢ None) ⊎ (s.kept ≢ None) ⊎ (start ≢ 0) ⊎ (len ≢ 0)
-IsNotBuilt start len s commands.Open = Unit {0}
-IsNotBuilt start len s (commands.Begin name) = s.active ≢ []
-IsNotBuilt start len s (commands.Ask name request) = IsRequestNotBuilt (log_of_life s.life) (tx_of s.active name) request
-IsNotBuilt start len s _ = ⊥
+abbrev pub IsNotBuilt : Type 0 → ℕ → ℕ → Stage → Command → Type 0
+IsNotBuilt tells start len s (commands.Format limit) = (limit ≢ None) ⊎ (s.kept ≢ None) ⊎ (start ≢ 0) ⊎ (len ≢ 0)
+IsNotBuilt tells start len s commands.Open = tells → s.kept ≡ None
+IsNotBuilt tells start len s (commands.Begin name) = s.active ≢ []
+IsNotBuilt tells start len s (commands.Ask name request) = IsRequestNotBuilt (log_of_life s.life) (tx_of s.active name) request
+IsNotBuilt tells start len s _ = ⊥
 
 -- the leaf has no room for the row of a put
 abbrev pub IsFull : Stage → Command → Type 0
@@ -60,9 +61,9 @@ pub record CutAt {D : Type 0} (tells : Type 0) (may_leave : D → Kept → Type 
 abbrev pub RefusesAt : {D : Type 0} → Type 0 → (D → Kept → Type 0) → (D → ℕ) → (D → ℕ) → D → D → Stage → Command → ℕ → Status → Type 0
 RefusesAt tells may_leave start len disk0 disk s c line statuses.Memory = Unit {0}
 RefusesAt tells may_leave start len disk0 disk s c line (statuses.Script n) = (n ≡ line) × (is_lawful s c ≡ false)
-RefusesAt tells may_leave start len disk0 disk s c line (statuses.NotBuilt n) = (n ≡ line) × (is_lawful s c ≡ true) × IsNotBuilt (start disk0) (len disk0) s c
+RefusesAt tells may_leave start len disk0 disk s c line (statuses.NotBuilt n) = (n ≡ line) × (is_lawful s c ≡ true) × IsNotBuilt tells (start disk0) (len disk0) s c
 RefusesAt tells may_leave start len disk0 disk s c line (statuses.NoSplit n) = (n ≡ line) × (is_lawful s c ≡ true) × IsFull s c
 RefusesAt tells may_leave start len disk0 disk s c line statuses.LogFault = CutAt tells may_leave disk0 disk s c
 RefusesAt tells may_leave start len disk0 disk s c line (statuses.LogBad block byte) = IsOpen c
-RefusesAt tells may_leave start len disk0 disk s c line statuses.NotFormatted = IsOpen c
+RefusesAt tells may_leave start len disk0 disk s c line statuses.NotFormatted = IsOpen c × (tells → ⊥)
 RefusesAt tells may_leave start len disk0 disk s c line _ = ⊥

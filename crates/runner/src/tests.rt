@@ -200,26 +200,34 @@ impl Expected {
             None => format!(in alloc; " none")?,
         };
         if self.draw(2) == 0 {
-            self.script.push_str(&format!(in alloc; "get T{number} k{key}\n")?)?;
-            self.printed.push_str(&format!(in alloc; "T{number} get k{key}{old}\n")?)?;
+            self.script
+                .push_str(&format!(in alloc; "get T{number} k{key}\n")?)?;
+            self.printed
+                .push_str(&format!(in alloc; "T{number} get k{key}{old}\n")?)?;
         } else {
             let value = self.draw(100_000);
             self.map.insert(key, value)?;
-            self.script.push_str(&format!(in alloc; "put T{number} k{key} v{value}\n")?)?;
-            self.printed.push_str(&format!(in alloc; "T{number} put k{key} was{old}\n")?)?;
+            self.script
+                .push_str(&format!(in alloc; "put T{number} k{key} v{value}\n")?)?;
+            self.printed
+                .push_str(&format!(in alloc; "T{number} put k{key} was{old}\n")?)?;
         }
         Ok(())
     }
 
     /// A transaction of six requests.
     fn transaction(&mut self, alloc: Global, number: u64) -> Result<(), Fail> {
-        self.script.push_str(&format!(in alloc; "begin T{number}\n")?)?;
-        self.printed.push_str(&format!(in alloc; "T{number} begin\n")?)?;
+        self.script
+            .push_str(&format!(in alloc; "begin T{number}\n")?)?;
+        self.printed
+            .push_str(&format!(in alloc; "T{number} begin\n")?)?;
         for _ in 0..6 {
             self.ask(alloc, number)?;
         }
-        self.script.push_str(&format!(in alloc; "commit T{number}\n")?)?;
-        self.printed.push_str(&format!(in alloc; "T{number} commit {number}\n")?)?;
+        self.script
+            .push_str(&format!(in alloc; "commit T{number}\n")?)?;
+        self.printed
+            .push_str(&format!(in alloc; "T{number} commit {number}\n")?)?;
         Ok(())
     }
 }

@@ -1,5 +1,8 @@
 use Rattle.std.proofs.Common.{sym, subst}
-use Rattle.runner.specs.LogDisk.{KeepsFirst}
+use Rattle.log_blocks.specs.LogState.{LogState}
+use Rattle.runner.specs.Turns.{formatted_log}
+use Rattle.runner.specs.LogDisk.{KeepsFirst, KeepsLog}
+use Rattle.runner.proofs.Replays.{ok_from, err_from}
 use Rattle.runner.proofs.Disks.{first_kept, first_log_kept, kept_first}
 use Rattle.runner.proofs.opening.open.Goals as goal
 
@@ -13,16 +16,28 @@ pub returns-in-Err-replay_log-clause-kept : goal.returns-in-Err-replay_log-claus
 returns-in-Err-replay_log-clause-kept g c = λ t k.
     let found = c.in-Ok.ensures.blocks t in
     let first = first_kept g.L.Disk.told g.L.Disk.may_leave c.args.disk c.in-Ok.log found.0 c.one_log.ensures k found.1 (c.in-Ok.ensures.same t) in
-    subst (KeepsFirst g.L.Disk.told g.L.Disk.may_leave) (sym c.into_device-in-Err-replay_log.ensures) (kept_first g.L.Disk.told g.L.Disk.may_leave c.replay_log.new.log first.0 (c.in-Err-replay_log.ensures.durable t _ first.1))
+    subst (KeepsFirst g.L.Disk.told g.L.Disk.may_leave) (sym c.into_device.ensures) (kept_first g.L.Disk.told g.L.Disk.may_leave c.replay_log.new.log first.0 (c.in-Err-replay_log.ensures.durable t _ first.1))
 
-pub returns-then-not-is_first-clause-kept : goal.returns-then-not-is_first-clause-kept
-returns-then-not-is_first-clause-kept g c = λ t k.
+pub returns-in-Err-replay_log-clause-met : goal.returns-in-Err-replay_log-clause-met
+returns-in-Err-replay_log-clause-met g c = λ t k.
     let found = c.in-Ok.ensures.blocks t in
     let first = first_kept g.L.Disk.told g.L.Disk.may_leave c.args.disk c.in-Ok.log found.0 c.one_log.ensures k found.1 (c.in-Ok.ensures.same t) in
-    subst (KeepsFirst g.L.Disk.told g.L.Disk.may_leave) (sym c.into_device.ensures) (kept_first g.L.Disk.told g.L.Disk.may_leave c.replay_log.new.log first.0 (c.in-Ok-replay_log.ensures.durable t _ first.1))
+    c.in-Err-replay_log.ensures.met t first.0 first.1 c.in-Ok.ensures.fresh.0
 
-pub returns-else-next-ne2-clause-opened : goal.returns-else-next-ne2-clause-opened
-returns-else-next-ne2-clause-opened g c = λ t k.
+pub returns-in-Ok-replay_log-clause-opened : goal.returns-in-Ok-replay_log-clause-opened
+returns-in-Ok-replay_log-clause-opened g c = λ t k.
     let found = c.in-Ok.ensures.blocks t in
     let first = first_kept g.L.Disk.told g.L.Disk.may_leave c.args.disk c.in-Ok.log found.0 c.one_log.ensures k found.1 (c.in-Ok.ensures.same t) in
-    first_log_kept g.L.Disk.told g.L.Disk.may_leave c.replay_log.new.log first.0 (c.in-Ok-replay_log.ensures.durable t _ first.1)
+    ok_from _ _ c.first_life.result c.first_life.ensures.log (λ life. KeepsLog g.L.Disk.told g.L.Disk.may_leave life.log formatted_log) (λ life is. subst (λ (l : LogState g.row.L.Denot). KeepsLog g.L.Disk.told g.L.Disk.may_leave l formatted_log) (sym is) (first_log_kept g.L.Disk.told g.L.Disk.may_leave c.replay_log.new.log first.0 (c.in-Ok-replay_log.ensures.durable t _ first.1)))
+
+pub returns-in-Ok-replay_log-clause-kept : goal.returns-in-Ok-replay_log-clause-kept
+returns-in-Ok-replay_log-clause-kept g c = λ t k.
+    let found = c.in-Ok.ensures.blocks t in
+    let first = first_kept g.L.Disk.told g.L.Disk.may_leave c.args.disk c.in-Ok.log found.0 c.one_log.ensures k found.1 (c.in-Ok.ensures.same t) in
+    err_from _ _ c.first_life.result c.first_life.ensures.log (λ refused. KeepsFirst g.L.Disk.told g.L.Disk.may_leave refused.disk) (λ refused is. subst (KeepsFirst g.L.Disk.told g.L.Disk.may_leave) (sym is) (kept_first g.L.Disk.told g.L.Disk.may_leave c.replay_log.new.log first.0 (c.in-Ok-replay_log.ensures.durable t _ first.1)))
+
+pub returns-in-Ok-replay_log-clause-met : goal.returns-in-Ok-replay_log-clause-met
+returns-in-Ok-replay_log-clause-met g c = λ t k.
+    let found = c.in-Ok.ensures.blocks t in
+    let first = first_kept g.L.Disk.told g.L.Disk.may_leave c.args.disk c.in-Ok.log found.0 c.one_log.ensures k found.1 (c.in-Ok.ensures.same t) in
+    c.first_life.ensures.met (c.in-Ok-replay_log.ensures.met t first.0 first.1 c.in-Ok.ensures.fresh.0)

@@ -9,4 +9,4 @@ returns-in-Ok-open_line-clause-turns g c = λ disk0 s h.
 
 pub returns-in-Err-clause-turns : goal.returns-in-Err-clause-turns
 returns-in-Err-clause-turns g c = λ disk0 s h.
-    ends_open g.L.Disk.tells g.L.Disk.told g.L.Disk.may_leave g.L.Disk.start g.L.Disk.len disk0 c.args.disk s c.args.formatted h (search rules) c.in-Err.refused.disk c.args.line c.in-Err.refused.status c.in-Err.ensures.err c.in-Err.ensures.kept
+    ends_open g.L.Disk.tells g.L.Disk.told g.L.Disk.may_leave g.L.Disk.start g.L.Disk.len disk0 c.args.disk s c.args.formatted h (search rules) c.in-Err.refused.disk c.args.line c.in-Err.refused.status c.in-Err.ensures.err c.in-Err.ensures.met c.in-Err.ensures.kept

@@ -9,7 +9,7 @@ append_batch-requires-clause-checked g c = checked_plain _ _ c.commit-batch.ensu
 
 pub returns-in-Ok-flush-clause-ok : goal.returns-in-Ok-flush-clause-ok
 returns-in-Ok-flush-clause-ok g c = λ disk0 s h.
-    did_commit g.L.Disk.tells g.L.Disk.told g.L.Disk.may_leave g.L.Disk.start g.L.Disk.len disk0 s _ _ _ _ _ _ h c.args.name.now c.in-Some.session (search rules) (search rules) _ _ c.flush.new.self c.commit-batch.result.blocks _ (search rules) refl (search rules) (search rules) (search rules) c.commit-batch.ensures.entered c.in-Ok-flush.ensures.all.0 
+    did_commit g.L.Disk.tells g.L.Disk.told g.L.Disk.may_leave g.L.Disk.start g.L.Disk.len disk0 s _ _ _ _ _ _ h c.args.name.now c.in-Some.session (search rules) (search rules) _ _ c.flush.new.self c.commit-batch.result.blocks _ (search rules) refl (search rules) (search rules) (search rules) c.commit-batch.ensures.entered c.in-Ok-flush.ensures.all.0
     (λ t bs d. flushed_durable g.L.Disk.told g.L.Disk.may_leave c.args.self.now.log c.append_batch.new.self _ _ c.append_batch.ensures.appended c.flush.new.self bs d (c.in-Ok-flush.ensures.durable t bs)) c.in-Ok.ensures
 
 pub returns-in-Err-LogFault-clause-err : goal.returns-in-Err-LogFault-clause-err
