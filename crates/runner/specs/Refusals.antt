@@ -30,10 +30,9 @@ IsRequestNotBuilt log tx (requests.Get key) = ⊥
 IsRequestNotBuilt log tx (requests.Put key value) = HasMost log tx
 IsRequestNotBuilt log tx _ = Unit {0}
 
--- What isn't built of a lawful command: a format with a limit, of a store that this run formatted, or of a disk whose
--- start or length isn't 0; an opening where this run formatted no store, or the disk, which tells nothing, gives another
--- log than its; a second transaction beside an open one; a
--- transaction of more than 4,000 puts.
+-- What isn't built of a lawful command: a format that names a limit, or where this run has formatted a store, or of a
+-- disk whose start or length isn't 0; an opening where this run has formatted none (a disk that tells nothing may also
+-- give another log than the format's); a second transaction beside an open one; a put behind 4,000 of its transaction.
 abbrev pub IsNotBuilt : Type 0 → ℕ → ℕ → Stage → Command → Type 0
 IsNotBuilt tells start len s (commands.Format limit) = (limit ≢ None) ⊎ (s.kept ≢ None) ⊎ (start ≢ 0) ⊎ (len ≢ 0)
 IsNotBuilt tells start len s commands.Open = tells → s.kept ≡ None

@@ -1,3 +1,5 @@
+ghost use Rattle.std.specs.Prelude.{◌<◌};
+
 use super::*;
 use media::Devices;
 use media_mem::{MemDisk, MemSink, MemSource};
