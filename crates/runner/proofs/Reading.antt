@@ -10,10 +10,10 @@ use Rattle.runner.specs.declared.input.Next.TheVariants as nexts
 
 -- the input ends behind these bytes of a line
 pub at_end : (old mid new : Reader) (lo lm ln : Option (List ℕ)) (line : List ℕ) → Consumes (to_come old lo) (to_come mid lm) line → Consumes (to_come mid lm) (to_come new ln) [] × IsAtEnd (to_come new ln)
-    → has_end line ≡ false → TakesNext old new lo ln (ended line)
-at_end old mid new lo lm ln [] took last one = (Consumes-trans _ _ _ [] [] took last.0, last.1)
-at_end old mid new lo lm ln (b ∷ bs) took last one =
-    (b ∷ bs, subst (Consumes (to_come old lo) (to_come new ln)) (append-nil (b ∷ bs)) (Consumes-trans _ _ _ (b ∷ bs) [] took last.0), inl (one, inr (omega arith, last.1)))
+    → has_end line ≡ false → new.taken ≡ old.taken + length line → TakesNext old new lo ln (ended line)
+at_end old mid new lo lm ln [] took last one size = (Consumes-trans _ _ _ [] [] took last.0, last.1, omega (arith, size))
+at_end old mid new lo lm ln (b ∷ bs) took last one size =
+    (b ∷ bs, subst (Consumes (to_come old lo) (to_come new ln)) (append-nil (b ∷ bs)) (Consumes-trans _ _ _ (b ∷ bs) [] took last.0), inl (one, inr (omega arith, last.1)), size)
 
 -- the line's end is taken
 pub at_line : (old mid got new : Reader) (lo lm ln : Option (List ℕ)) (line : Vec ℕ) (b : ℕ) → Consumes (to_come old lo) (to_come mid lm) line.items → Consumes (to_come mid lm) (to_come got ln) (b ∷ []) → b ≡ 10
@@ -29,4 +29,4 @@ at_line old mid got new lo lm ln line b took last is one short taken pending sam
 
     by : (c : Bool) → nat_le got.taken longest_script ≡ c → new.lines ≡ (if c then old.lines + 1 else old.lines) → TakesNext old new lo ln (if c then nexts.Line line else nexts.Bad)
     by true e lines = (whole, record { one = one; short = short }, same ∙ taken, omega (arith, leb-true _ _ e, same), lines)
-    by false e lines = (line.items ++ 10 ∷ [], whole, inr (omega (arith, leb-false _ _ e, taken, length-append line.items (10 ∷ []))))
+    by false e lines = (line.items ++ 10 ∷ [], whole, inr (omega (arith, leb-false _ _ e, taken, length-append line.items (10 ∷ []))), omega (arith, same, taken, length-append line.items (10 ∷ [])))

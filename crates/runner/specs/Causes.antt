@@ -37,8 +37,14 @@ IsOpenRefusal line (statuses.NotBuilt n) = n ≡ line
 IsOpenRefusal line _ = ⊥
 
 -- why a log isn't made
-abbrev pub IsFormatRefusal : ℕ → Status → Type 0
-IsFormatRefusal line statuses.Memory = Unit {0}
-IsFormatRefusal line statuses.LogFault = Unit {0}
-IsFormatRefusal line (statuses.NotBuilt n) = n ≡ line
-IsFormatRefusal line _ = ⊥
+abbrev pub IsFormatRefusal : Status → Type 0
+IsFormatRefusal statuses.Memory = Unit {0}
+IsFormatRefusal statuses.LogFault = Unit {0}
+IsFormatRefusal _ = ⊥
+
+-- what an opening may meet though the disk keeps the log that a format made: want of memory, a fault, a block that is bad
+abbrev pub IsDiskFault : Status → Type 0
+IsDiskFault statuses.Memory = Unit {0}
+IsDiskFault statuses.LogFault = Unit {0}
+IsDiskFault (statuses.LogBad block byte) = Unit {0}
+IsDiskFault _ = ⊥

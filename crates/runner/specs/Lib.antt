@@ -4,9 +4,11 @@ pub mod Causes
 pub mod Clause
 pub mod Leaf
 pub mod Lines
+pub mod LogDisk
 pub mod Machine
 pub mod Printing
 pub mod Refusals
+pub mod Replaying
 pub mod Session
 pub mod Status
 pub mod Text

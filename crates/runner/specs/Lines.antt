@@ -35,6 +35,10 @@ first_reader = record { pending = []; taken = 0; lines = 0 }
 abbrev pub to_come : Reader → Option (List ℕ) → Option (List ℕ)
 to_come r left = prepend_known r.pending left
 
+-- at most the longest script was read, and one byte more
+abbrev pub IsBounded : Reader → Type 0
+IsBounded r = r.taken + length r.pending ≤ longest_script + 1
+
 -- a reader is filled: nothing is taken, and a byte is pending, or none is left, or too many were read
 abbrev pub Fills : {E : Type 0} → Reader → Reader → Option (List ℕ) → Option (List ℕ) → Result Filled E → Type 0
 Fills old new left_old left_new (Ok fills.Some) = Consumes (to_come old left_old) (to_come new left_new) [] × (0 < length new.pending)
@@ -74,12 +78,12 @@ ended (b ∷ bs) = nexts.Bad
 abbrev pub TakesNext : Reader → Reader → Option (List ℕ) → Option (List ℕ) → Next → Type 0
 TakesNext old new left_old left_new (nexts.Line line) =
     Consumes (to_come old left_old) (to_come new left_new) (line.items ++ 10 ∷ []) × IsLine line.items × (new.taken ≡ old.taken + length line.items + 1) × (new.taken ≤ longest_script) × (new.lines ≡ old.lines + 1)
-TakesNext old new left_old left_new nexts.End = Consumes (to_come old left_old) (to_come new left_new) [] × IsAtEnd (to_come new left_new)
-TakesNext old new left_old left_new nexts.Bad = (rest : List ℕ) × Consumes (to_come old left_old) (to_come new left_new) rest × IsNoLine old.taken rest (to_come new left_new)
+TakesNext old new left_old left_new nexts.End = Consumes (to_come old left_old) (to_come new left_new) [] × IsAtEnd (to_come new left_new) × (new.taken ≡ old.taken)
+TakesNext old new left_old left_new nexts.Bad = (rest : List ℕ) × Consumes (to_come old left_old) (to_come new left_new) rest × IsNoLine old.taken rest (to_come new left_new) × (new.taken ≡ old.taken + length rest)
 
 abbrev pub TakesLine : {E : Type 0} → Reader → Reader → Option (List ℕ) → Option (List ℕ) → Result Next E → Type 0
 TakesLine old new left_old left_new (Ok next) = TakesNext old new left_old left_new next
-TakesLine old new left_old left_new (Err e) = (rest : List ℕ) × Consumes (to_come old left_old) (to_come new left_new) rest
+TakesLine old new left_old left_new (Err e) = (rest : List ℕ) × Consumes (to_come old left_old) (to_come new left_new) rest × (new.taken ≡ old.taken + length rest)
 
 -- a line isn't read for want of memory, or since the source failed
 abbrev pub IsReadFault : ℕ → ℕ → Status → Type 0

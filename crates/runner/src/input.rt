@@ -4,7 +4,7 @@ ghost use Rattle.runner.specs.declared.input.Next.TheVariants as nexts;
 ghost use Rattle.std.specs.Io.{ReadsAtMost};
 ghost use Rattle.std.specs.Io.KnownBytes.{ReadConsumes};
 ghost use Rattle.media.specs.Cause.{HasCause, Rose};
-ghost use Rattle.runner.specs.Lines.{Fills, TakesByte, CountsByte, TakesLine, IsReadFault, ended, first_reader, longest_script};
+ghost use Rattle.runner.specs.Lines.{Fills, TakesByte, CountsByte, TakesLine, IsBounded, IsReadFault, ended, first_reader, longest_script};
 
 use crate::status::Status;
 use media::{Failed, Source};
@@ -90,6 +90,7 @@ impl Input {
     pub fn lines(&self) -> u64
         ensures value { result ≡ self.now.lines }
         ensures few { result ≤ 16777217 }
+        ensures most { IsBounded self.now }
     {
         self.lines
     }
@@ -98,6 +99,7 @@ impl Input {
     fn fill<S: Source>(&mut self, source: &mut S) -> Result<Filled, Failed>
         ensures bytes { Fills self.old self.new (S.left source.old) (S.left source.new) result }
         ensures counts { (self.new.taken ≡ self.old.taken) × (self.new.lines ≡ self.old.lines) }
+        ensures most { IsBounded self.new }
         ensures cause { HasCause S.faults source.old source.new result }
     {
         if self.from < self.upto {
@@ -123,6 +125,7 @@ impl Input {
         ensures byte { self.old.pending ≡ result ∷ self.new.pending }
         ensures counts { (self.new.taken ≡ self.old.taken + 1) × (self.new.lines ≡ self.old.lines) }
         ensures fewer { self.new.lines < self.new.taken }
+        ensures most { IsBounded self.new }
     {
         let byte = self.piece[self.from];
         self.from += 1;
@@ -133,6 +136,7 @@ impl Input {
     fn next_byte<S: Source>(&mut self, source: &mut S) -> Result<Byte, Failed>
         ensures bytes { TakesByte self.old self.new (S.left source.old) (S.left source.new) result }
         ensures counts { CountsByte self.old self.new result }
+        ensures most { IsBounded self.new }
         ensures cause { HasCause S.faults source.old source.new result }
     {
         let filled = match self.fill(source) {
@@ -148,7 +152,9 @@ impl Input {
 
     /// The next line, without its end.
     pub fn next_line<S: Source>(&mut self, alloc: Global, source: &mut S) -> Result<Next, Status>
+        requires { IsBounded self.old }
         ensures bytes { TakesLine self.old self.new (S.left source.old) (S.left source.new) result }
+        ensures most { IsBounded self.new }
         ensures later { S.faults source.old ≤ S.faults source.new }
         ensures cause { IfErr result (λ status. IsReadFault (S.faults source.old) (S.faults source.new) status) }
     {
@@ -178,6 +184,7 @@ impl Input {
         requires { self.old.lines < self.old.taken }
         ensures next { result ≡ (if nat_le self.old.taken longest_script then nexts.Line line else nexts.Bad) }
         ensures same { (self.new.pending ≡ self.old.pending) × (self.new.taken ≡ self.old.taken) }
+        ensures most { IsBounded self.new }
         ensures lines { self.new.lines ≡ (if nat_le self.old.taken longest_script then self.old.lines + 1 else self.old.lines) }
     {
         let taken = self.read - (self.upto - self.from) as u64;

@@ -63,7 +63,7 @@ impl Leaf {
 
     /// Whether there are no rows.
     pub fn is_empty(&self) -> bool
-        ensures { (result ≡ true) → self.now ≡ [] }
+        ensures { (result ≡ true) ↔ (self.now ≡ []) }
     {
         self.rows.as_slice().is_empty()
     }

@@ -8,8 +8,8 @@
 //! entries that it adds to the history of its life. Their commands are those of the lines read, each fits behind those
 //! before it, and their text (`specs/Text`) is what was written, all of it where the run is done (`specs/Clause`). Each
 //! life of theirs is legal, has the replies of a serial run, and whatever a stop may leave of it has its first
-//! transactions. Each status comes for its own cause (`specs/Refusals`, `specs/Causes`). What the devices hold at the end
-//! isn't part of the clause yet.
+//! transactions. The log disk that is handed back holds such a rest, also after a crash (`specs/LogDisk`). Each status
+//! comes for its own cause (`specs/Refusals`, `specs/Causes`).
 //!
 //! Only the loops in `run` speak of turns; the commands in `outside` and `life` are universal over the `Stage` that turns
 //! leave, and see neither source nor sink.

@@ -1,15 +1,16 @@
 //! A life: what happens from an opening to its end.
-ghost use Rattle.std.specs.Prelude.{◌≡◌, ◌≤◌, ◌<◌, ◌+◌, ◌^◌, ℕ, true, IfErr, IfOk, OnOk};
+ghost use Rattle.std.specs.Prelude.{◌≡◌, ◌≢◌, ◌≤◌, ◌<◌, ◌+◌, ◌^◌, ℕ, true, IfErr, IfOk, OnOk};
 ghost use Rattle.runner.specs.Causes.{LogCause};
 ghost use Rattle.runner.specs.Active.{is_active, MayWrite, MayNotWrite};
 ghost use Rattle.runner.specs.Turns.{Stage};
 ghost use Rattle.runner.specs.Refusals.{RefusesAt};
-ghost use Rattle.runner.specs.Machine.{HoldsLife, Inside, Adds, HasWritten, records_by};
+ghost use Rattle.runner.specs.Machine.{Inside, Adds, HasWritten, records_by};
 ghost use Rattle.script.specs.declared.command.Command.{Command};
 ghost use Rattle.script.specs.declared.command.Command.TheVariants as commands;
 ghost use Rattle.store_model.specs.declared.request.Request.TheVariants as requests;
 ghost use Rattle.runner.specs.Session.{IsNumbered};
 ghost use Rattle.runner.specs.declared.status.Status.{Status};
+ghost use Rattle.runner.specs.declared.status.Status.TheVariants as statuses;
 
 use crate::leaf::{Leaf, PutRefused};
 use crate::print;
@@ -46,8 +47,9 @@ pub struct Life<L: Disk> {
 impl<L: Disk> Life<L> {
     /// Carries a command out, and gives the lines that answer it.
     pub fn step(&mut self, alloc: Global, command: &Command, line: u64) -> Result<Vec<u8>, Status>
-        ensures ok { IfOk result (λ lines. (s : Stage) → HoldsLife s self.old.leaf self.old.head self.old.session self.old.next self.old.commits self.old.log.next → Adds (Inside self.new.leaf self.new.head self.new.session self.new.next self.new.commits self.new.log.next) s command.now lines.items) }
-        ensures err { IfErr result (λ status. (s : Stage) → HoldsLife s self.old.leaf self.old.head self.old.session self.old.next self.old.commits self.old.log.next → RefusesAt s command.now line status) }
+        ensures ok { IfOk result (λ lines. (disk0 : L) (s : Stage) → Inside L.tells L.told L.may_leave L.start L.len disk0 self.old.leaf self.old.head self.old.session self.old.next self.old.commits self.old.log s → Adds (Inside L.tells L.told L.may_leave L.start L.len disk0 self.new.leaf self.new.head self.new.session self.new.next self.new.commits self.new.log) s command.now lines.items) }
+        ensures err { IfErr result (λ status. (disk0 : L) (s : Stage) → Inside L.tells L.told L.may_leave L.start L.len disk0 self.old.leaf self.old.head self.old.session self.old.next self.old.commits self.old.log s → RefusesAt L.tells L.may_leave L.start L.len disk0 self.new.log.device s command.now line status) }
+        ensures same { IfErr result (λ status. status ≢ statuses.LogFault → self.new.log.device ≡ self.old.log.device) }
         ensures cause { IfErr result (LogCause (L.faults self.old.log.device) (L.faults self.new.log.device)) }
         ensures later { L.faults self.old.log.device ≤ L.faults self.new.log.device }
     {
@@ -70,8 +72,9 @@ impl<L: Disk> Life<L> {
     }
 
     fn begin(&mut self, alloc: Global, name: &Name, line: u64) -> Result<Vec<u8>, Status>
-        ensures ok { IfOk result (λ lines. (s : Stage) → HoldsLife s self.old.leaf self.old.head self.old.session self.old.next self.old.commits self.old.log.next → Adds (Inside self.new.leaf self.new.head self.new.session self.new.next self.new.commits self.new.log.next) s (commands.Begin name.now) lines.items) }
-        ensures err { IfErr result (λ status. (s : Stage) → HoldsLife s self.old.leaf self.old.head self.old.session self.old.next self.old.commits self.old.log.next → RefusesAt s (commands.Begin name.now) line status) }
+        ensures ok { IfOk result (λ lines. (disk0 : L) (s : Stage) → Inside L.tells L.told L.may_leave L.start L.len disk0 self.old.leaf self.old.head self.old.session self.old.next self.old.commits self.old.log s → Adds (Inside L.tells L.told L.may_leave L.start L.len disk0 self.new.leaf self.new.head self.new.session self.new.next self.new.commits self.new.log) s (commands.Begin name.now) lines.items) }
+        ensures err { IfErr result (λ status. (disk0 : L) (s : Stage) → Inside L.tells L.told L.may_leave L.start L.len disk0 self.old.leaf self.old.head self.old.session self.old.next self.old.commits self.old.log s → RefusesAt L.tells L.may_leave L.start L.len disk0 self.new.log.device s (commands.Begin name.now) line status) }
+        ensures same { IfErr result (λ status. status ≢ statuses.LogFault → self.new.log.device ≡ self.old.log.device) }
         ensures cause { IfErr result (LogCause (L.faults self.old.log.device) (L.faults self.new.log.device)) }
         ensures later { L.faults self.old.log.device ≤ L.faults self.new.log.device }
     {
@@ -103,8 +106,9 @@ impl<L: Disk> Life<L> {
         request: &Request,
         line: u64,
     ) -> Result<Vec<u8>, Status>
-        ensures ok { IfOk result (λ lines. (s : Stage) → HoldsLife s self.old.leaf self.old.head self.old.session self.old.next self.old.commits self.old.log.next → Adds (Inside self.new.leaf self.new.head self.new.session self.new.next self.new.commits self.new.log.next) s (commands.Ask name.now request.now) lines.items) }
-        ensures err { IfErr result (λ status. (s : Stage) → HoldsLife s self.old.leaf self.old.head self.old.session self.old.next self.old.commits self.old.log.next → RefusesAt s (commands.Ask name.now request.now) line status) }
+        ensures ok { IfOk result (λ lines. (disk0 : L) (s : Stage) → Inside L.tells L.told L.may_leave L.start L.len disk0 self.old.leaf self.old.head self.old.session self.old.next self.old.commits self.old.log s → Adds (Inside L.tells L.told L.may_leave L.start L.len disk0 self.new.leaf self.new.head self.new.session self.new.next self.new.commits self.new.log) s (commands.Ask name.now request.now) lines.items) }
+        ensures err { IfErr result (λ status. (disk0 : L) (s : Stage) → Inside L.tells L.told L.may_leave L.start L.len disk0 self.old.leaf self.old.head self.old.session self.old.next self.old.commits self.old.log s → RefusesAt L.tells L.may_leave L.start L.len disk0 self.new.log.device s (commands.Ask name.now request.now) line status) }
+        ensures same { IfErr result (λ status. status ≢ statuses.LogFault → self.new.log.device ≡ self.old.log.device) }
         ensures cause { IfErr result (LogCause (L.faults self.old.log.device) (L.faults self.new.log.device)) }
         ensures later { L.faults self.old.log.device ≤ L.faults self.new.log.device }
     {
@@ -122,8 +126,8 @@ impl<L: Disk> Life<L> {
 
     fn get(&self, alloc: Global, name: &Name, key: &Key) -> Result<Vec<u8>, Status>
         requires { is_active self.now.session name.now ≡ true }
-        ensures ok { IfOk result (λ lines. (s : Stage) → HoldsLife s self.now.leaf self.now.head self.now.session self.now.next self.now.commits self.now.log.next → Adds (Inside self.now.leaf self.now.head self.now.session self.now.next self.now.commits self.now.log.next) s (commands.Ask name.now (requests.Get key.now)) lines.items) }
-        ensures err { IfErr result (λ status. (s : Stage) (c : Command) (line : ℕ) → RefusesAt s c line status) }
+        ensures ok { IfOk result (λ lines. (disk0 : L) (s : Stage) → Inside L.tells L.told L.may_leave L.start L.len disk0 self.now.leaf self.now.head self.now.session self.now.next self.now.commits self.now.log s → Adds (Inside L.tells L.told L.may_leave L.start L.len disk0 self.now.leaf self.now.head self.now.session self.now.next self.now.commits self.now.log) s (commands.Ask name.now (requests.Get key.now)) lines.items) }
+        ensures err { IfErr result (λ status. (disk0 : L) (s : Stage) (c : Command) (line : ℕ) → RefusesAt L.tells L.may_leave L.start L.len disk0 self.now.log.device s c line status) }
         ensures memory { IfErr result (λ status. status ≡ Status.Memory) }
     {
         let found = self.leaf.live(key);
@@ -142,8 +146,9 @@ impl<L: Disk> Life<L> {
         line: u64,
     ) -> Result<Vec<u8>, Status>
         requires { is_active self.old.session name.now ≡ true }
-        ensures ok { IfOk result (λ lines. (s : Stage) → HoldsLife s self.old.leaf self.old.head self.old.session self.old.next self.old.commits self.old.log.next → Adds (Inside self.new.leaf self.new.head self.new.session self.new.next self.new.commits self.new.log.next) s (commands.Ask name.now (requests.Put key.now value.now)) lines.items) }
-        ensures err { IfErr result (λ status. (s : Stage) → HoldsLife s self.old.leaf self.old.head self.old.session self.old.next self.old.commits self.old.log.next → RefusesAt s (commands.Ask name.now (requests.Put key.now value.now)) line status) }
+        ensures ok { IfOk result (λ lines. (disk0 : L) (s : Stage) → Inside L.tells L.told L.may_leave L.start L.len disk0 self.old.leaf self.old.head self.old.session self.old.next self.old.commits self.old.log s → Adds (Inside L.tells L.told L.may_leave L.start L.len disk0 self.new.leaf self.new.head self.new.session self.new.next self.new.commits self.new.log) s (commands.Ask name.now (requests.Put key.now value.now)) lines.items) }
+        ensures err { IfErr result (λ status. (disk0 : L) (s : Stage) → Inside L.tells L.told L.may_leave L.start L.len disk0 self.old.leaf self.old.head self.old.session self.old.next self.old.commits self.old.log s → RefusesAt L.tells L.may_leave L.start L.len disk0 self.new.log.device s (commands.Ask name.now (requests.Put key.now value.now)) line status) }
+        ensures same { IfErr result (λ status. status ≢ statuses.LogFault → self.new.log.device ≡ self.old.log.device) }
         ensures cause { IfErr result (LogCause (L.faults self.old.log.device) (L.faults self.new.log.device)) }
         ensures later { L.faults self.old.log.device ≤ L.faults self.new.log.device }
     {
@@ -176,8 +181,9 @@ impl<L: Disk> Life<L> {
     }
 
     fn commit(&mut self, alloc: Global, name: &Name, line: u64) -> Result<Vec<u8>, Status>
-        ensures ok { IfOk result (λ lines. (s : Stage) → HoldsLife s self.old.leaf self.old.head self.old.session self.old.next self.old.commits self.old.log.next → Adds (Inside self.new.leaf self.new.head self.new.session self.new.next self.new.commits self.new.log.next) s (commands.Commit name.now) lines.items) }
-        ensures err { IfErr result (λ status. (s : Stage) → HoldsLife s self.old.leaf self.old.head self.old.session self.old.next self.old.commits self.old.log.next → RefusesAt s (commands.Commit name.now) line status) }
+        ensures ok { IfOk result (λ lines. (disk0 : L) (s : Stage) → Inside L.tells L.told L.may_leave L.start L.len disk0 self.old.leaf self.old.head self.old.session self.old.next self.old.commits self.old.log s → Adds (Inside L.tells L.told L.may_leave L.start L.len disk0 self.new.leaf self.new.head self.new.session self.new.next self.new.commits self.new.log) s (commands.Commit name.now) lines.items) }
+        ensures err { IfErr result (λ status. (disk0 : L) (s : Stage) → Inside L.tells L.told L.may_leave L.start L.len disk0 self.old.leaf self.old.head self.old.session self.old.next self.old.commits self.old.log s → RefusesAt L.tells L.may_leave L.start L.len disk0 self.new.log.device s (commands.Commit name.now) line status) }
+        ensures same { IfErr result (λ status. status ≢ statuses.LogFault → self.new.log.device ≡ self.old.log.device) }
         ensures cause { IfErr result (LogCause (L.faults self.old.log.device) (L.faults self.new.log.device)) }
         ensures later { L.faults self.old.log.device ≤ L.faults self.new.log.device }
     {
@@ -244,7 +250,7 @@ fn enter_write(
 ) -> Result<(), Status>
     requires may { MayWrite session.old }
     requires places { (lsn < 2 ^ 62) × (head < 2 ^ 62) }
-    ensures written { OnOk result (HasWritten lsn session.old session.new) }
+    ensures written { OnOk result (HasWritten lsn head key.now old.now value.now session.old session.new) }
     ensures err { IfErr result (λ status. status ≡ Status.Memory) }
 {
     match session {

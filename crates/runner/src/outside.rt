@@ -1,16 +1,17 @@
 //! Commands where no life is open.
-ghost use Rattle.std.specs.Prelude.{◌≡◌, ◌≤◌, ℕ, None, true, false, IfErr, IfOk, codes};
+ghost use Rattle.std.specs.Prelude.{◌≡◌, ◌≤◌, ◌∷◌, [], ℕ, None, true, false, IfErr, IfOk, MatchResult, codes};
 ghost use Rattle.log_blocks.specs.Opening.{RoseFor};
 ghost use Rattle.runner.specs.Causes.{LogCause, IsFormatRefusal};
 ghost use Rattle.runner.specs.Turns.{Stage};
 ghost use Rattle.runner.specs.Machine.{Out, Inside, StepsOut};
+ghost use Rattle.runner.specs.LogDisk.{IsBlank, KeepsFirst, LeavesBlank, first_block};
 ghost use Rattle.script.specs.declared.command.Command.TheVariants as commands;
 ghost use Rattle.runner.specs.Turning.{OutsideCause};
 ghost use Rattle.runner.specs.Session.{IsPlain};
 ghost use Rattle.runner.specs.declared.status.Status.{Status};
 
 use crate::life::Life;
-use crate::opening::open;
+use crate::opening::{NotOpened, open};
 use crate::print;
 use crate::status::Status;
 use log_blocks::{Batch, open_log};
@@ -53,7 +54,7 @@ pub fn step<L: Disk>(
     command: &Command,
     line: u64,
 ) -> Outside<L, Life<L>>
-    ensures turns { (s : Stage) → Out formatted s → StepsOut (λ life. Inside life.leaf life.head life.session life.next life.commits life.log.next) s command.now line result }
+    ensures turns { (disk0 : L) (s : Stage) → Out L.tells L.told L.may_leave L.start L.len disk0 disk formatted s → StepsOut L.tells L.told L.may_leave L.start L.len disk0 (λ life. Inside L.tells L.told L.may_leave L.start L.len disk0 life.leaf life.head life.session life.next life.commits life.log) s command.now line result }
     ensures cause { OutsideCause L.faults (λ life. life.log.device) disk result }
 {
     match command {
@@ -79,7 +80,7 @@ pub fn step<L: Disk>(
 
 /// Makes the log of a blank disk, with its first record.
 fn format<L: Disk>(alloc: Global, disk: L, formatted: bool, line: u64) -> Outside<L, Life<L>>
-    ensures turns { (s : Stage) → Out formatted s → StepsOut (λ life. Inside life.leaf life.head life.session life.next life.commits life.log.next) s (commands.Format None) line result }
+    ensures turns { (disk0 : L) (s : Stage) → Out L.tells L.told L.may_leave L.start L.len disk0 disk formatted s → StepsOut L.tells L.told L.may_leave L.start L.len disk0 (λ life. Inside L.tells L.told L.may_leave L.start L.len disk0 life.leaf life.head life.session life.next life.commits life.log) s (commands.Format None) line result }
     ensures cause { OutsideCause L.faults (λ life. life.log.device) disk result }
 {
     if formatted || disk.start() != 0 || disk.len() != 0 {
@@ -88,49 +89,66 @@ fn format<L: Disk>(alloc: Global, disk: L, formatted: bool, line: u64) -> Outsid
             disk,
         };
     }
-    let (lines, mut batch) = match first_batch(alloc) {
+    let (lines, batch) = match first_batch(alloc) {
         Ok(made) => made,
         Err(status) => return Outside::Ends { status, disk },
     };
-    let mut log = match open_log(alloc, disk) {
-        Ok(log) => log,
-        Err(refused) => return Outside::Ends {
-            status: not_made(&refused.fault, line),
-            disk: refused.disk,
-        },
-    };
-    if log.next() >= MOST || log.end() >= MOST {
-        return Outside::Ends {
-            status: Status::Memory,
-            disk: log.into_device(),
-        };
-    }
-    log.append_batch(&mut batch);
-    match log.flush() {
-        Ok(()) => Outside::Stays {
+    match make_log(alloc, disk, batch) {
+        Ok(disk) => Outside::Stays {
             lines,
-            disk: log.into_device(),
+            disk,
             formatted: true,
         },
-        Err(Fault::LogFault) => Outside::Ends {
-            status: Status::LogFault,
-            disk: log.into_device(),
-        },
-        Err(_) => Outside::Ends {
-            status: Status::Memory,
-            disk: log.into_device(),
+        Err(refused) => Outside::Ends {
+            status: refused.status,
+            disk: refused.disk,
         },
     }
 }
 
-/// The status of a log that isn't made. A disk that has other bytes than a log's isn't blank.
-fn not_made(fault: &Fault, line: u64) -> Status
+/// Writes the first block to a blank disk.
+fn make_log<L: Disk>(alloc: Global, disk: L, batch: Batch) -> Result<L, NotOpened<L>>
+    requires blank { IsBlank L.start L.len disk }
+    requires first { batch.blocks ≡ first_block 0 ∷ [] }
+    requires plain { IsPlain 1 batch.blocks }
+    ensures made { L.tells → IfOk result (KeepsFirst L.told L.may_leave) }
+    ensures kept { L.tells → IfErr result (λ refused. LeavesBlank L.told L.may_leave disk refused.disk refused.status) }
+    ensures kind { IfErr result (λ refused. IsFormatRefusal refused.status) }
+    ensures later { MatchResult result (λ left. L.faults disk ≤ L.faults left) (λ refused. L.faults disk ≤ L.faults refused.disk) }
+    ensures cause { IfErr result (λ refused. LogCause (L.faults disk) (L.faults refused.disk) refused.status) }
+{
+    let mut log = match open_log(alloc, disk) {
+        Ok(log) => log,
+        Err(refused) => return Err(NotOpened {
+            disk: refused.disk,
+            status: not_made(&refused.fault),
+        }),
+    };
+    if log.next() >= MOST || log.end() >= MOST {
+        return Err(NotOpened {
+            disk: log.into_device(),
+            status: Status::Memory,
+        });
+    }
+    let mut batch = batch;
+    log.append_batch(&mut batch);
+    match log.flush() {
+        Ok(()) => Ok(log.into_device()),
+        // A flush takes no memory, and this log is open.
+        Err(_) => Err(NotOpened {
+            disk: log.into_device(),
+            status: Status::LogFault,
+        }),
+    }
+}
+
+/// The status of a log that isn't made. A blank disk has no block that could be bad.
+fn not_made(fault: &Fault) -> Status
     ensures cause { (before now : ℕ) → RoseFor before now fault.now → LogCause before now result }
-    ensures kind { IsFormatRefusal line result }
+    ensures kind { IsFormatRefusal result }
 {
     match fault {
         Fault::LogFault => Status::LogFault,
-        Fault::LogBad { block: _, byte: _ } => Status::NotBuilt { line },
         _ => Status::Memory,
     }
 }
@@ -138,6 +156,7 @@ fn not_made(fault: &Fault, line: u64) -> Status
 /// The line that answers a format, and the block with its record.
 fn first_batch(alloc: Global) -> Result<(Vec<u8>, Batch), Status>
     ensures lines { IfOk result (λ r. r.0.items ≡ codes "format ok\n") }
+    ensures first { IfOk result (λ r. r.1.blocks ≡ first_block 0 ∷ []) }
     ensures plain { IfOk result (λ r. IsPlain 1 r.1.blocks) }
     ensures memory { IfErr result (λ status. status ≡ Status.Memory) }
 {
@@ -160,7 +179,7 @@ fn first_batch(alloc: Global) -> Result<(Vec<u8>, Batch), Status>
 
 /// Opens a life, where this run has made the disk's log.
 fn opens<L: Disk>(alloc: Global, disk: L, formatted: bool, line: u64) -> Outside<L, Life<L>>
-    ensures turns { (s : Stage) → Out formatted s → StepsOut (λ life. Inside life.leaf life.head life.session life.next life.commits life.log.next) s commands.Open line result }
+    ensures turns { (disk0 : L) (s : Stage) → Out L.tells L.told L.may_leave L.start L.len disk0 disk formatted s → StepsOut L.tells L.told L.may_leave L.start L.len disk0 (λ life. Inside L.tells L.told L.may_leave L.start L.len disk0 life.leaf life.head life.session life.next life.commits life.log) s commands.Open line result }
     ensures cause { OutsideCause L.faults (λ life. life.log.device) disk result }
 {
     if !formatted {
@@ -169,18 +188,17 @@ fn opens<L: Disk>(alloc: Global, disk: L, formatted: bool, line: u64) -> Outside
             disk,
         };
     }
-    let life = match open(alloc, disk, line) {
-        Ok(life) => life,
-        Err(refused) => return Outside::Ends {
+    match open(alloc, disk, line) {
+        Ok(life) => match print::open_line(alloc, life.commits) {
+            Ok(lines) => Outside::Opens { lines, life },
+            Err(_) => Outside::Ends {
+                status: Status::Memory,
+                disk: life.log.into_device(),
+            },
+        },
+        Err(refused) => Outside::Ends {
             status: refused.status,
             disk: refused.disk,
-        },
-    };
-    match print::open_line(alloc, life.commits) {
-        Ok(lines) => Outside::Opens { lines, life },
-        Err(_) => Outside::Ends {
-            status: Status::Memory,
-            disk: life.log.into_device(),
         },
     }
 }

@@ -1,9 +1,8 @@
 //! A whole run.
 ghost use Rattle.std.specs.Prelude.{◌≡◌, ◌≢◌, ◌≤◌, ◌↔◌, ℕ, List, Option, map, false, IfErr};
-ghost use Rattle.std.specs.Io.KnownBytes.{prepend_known};
 ghost use Rattle.media.specs.Cause.{Rose};
 ghost use Rattle.runner.specs.Built.{is_built, is_built_word};
-ghost use Rattle.runner.specs.Lines.{to_come, first_reader};
+ghost use Rattle.runner.specs.Lines.{to_come, first_reader, IsBounded};
 ghost use Rattle.runner.specs.Turns.{Turn};
 ghost use Rattle.runner.specs.Machine.{Out, Inside};
 ghost use Rattle.runner.specs.Clause.{Between, Headline, TakesCommand, TurnedTo, TurnedIn};
@@ -32,8 +31,9 @@ pub fn run_words<S: Source, K: Sink, L: Disk, P, V>(
 ) -> (Status, Devices<L, P, V>)
     // There are turns whose commands are those of the lines read; each fits behind those before it, their text is
     // what was written, and each life of theirs is legal, has the replies of a serial run, and whatever a stop may leave
-    // of it has its first transactions. What the reader has read and given to no line yet is still pending.
-    ensures headline { (pending : List ℕ) × Headline (S.left source.old) (prepend_known pending (S.left source.new)) (K.told sink.old) (K.told sink.new) result.0 }
+    // of it has its first transactions. The log disk has such a member, also after any crash. What the reader has read
+    // and given to no line yet is still pending; at most the longest script is read, and one byte more.
+    ensures headline { (pending : List ℕ) × Headline L.tells L.told L.may_leave L.start L.len devices.log result.1.log (S.left source.old) pending (S.left source.new) (K.told sink.old) (K.told sink.new) result.0 }
 
     // The words decide alone whether they are a call.
     ensures usage { (result.0 ≡ statuses.Usage) ↔ (is_call (map (λ word. word.bytes.items) words.now) ≡ false) }
@@ -65,8 +65,8 @@ fn run<S: Source, K: Sink, L: Disk>(
     sink: &mut K,
     disk: L,
 ) -> (Status, L)
-    requires { (input.old.lines ≡ 0) × (input.old.taken ≡ 0) }
-    ensures headline { Headline (to_come input.old (S.left source.old)) (to_come input.new (S.left source.new)) (K.told sink.old) (K.told sink.new) result.0 }
+    requires { (input.old.lines ≡ 0) × (input.old.taken ≡ 0) × IsBounded input.old }
+    ensures headline { Headline L.tells L.told L.may_leave L.start L.len disk result.1 (to_come input.old (S.left source.old)) input.new.pending (S.left source.new) (K.told sink.old) (K.told sink.new) result.0 }
     ensures later { (S.faults source.old ≤ S.faults source.new) × (K.faults sink.old ≤ K.faults sink.new) × (L.faults disk ≤ L.faults result.1) }
     ensures cause { RunCause (S.faults source.old) (S.faults source.new) (K.faults sink.old) (K.faults sink.new) (L.faults disk) (L.faults result.1) result.0 }
     ensures called { result.0 ≢ statuses.Usage }
@@ -105,8 +105,8 @@ fn turn_outside<S: Source, K: Sink, L: Disk>(
     disk: L,
     formatted: bool,
 ) -> Turned<L, Life<L>>
-    ensures turns { (left told : Option (List ℕ)) (turns : List Turn) → Between (Out formatted) left told input.old turns (S.left source.old) (K.told sink.old)
-        → TurnedTo (λ life. Inside life.leaf life.head life.session life.next life.commits life.log.next) left told input.new turns (S.left source.new) (K.told sink.new) result }
+    ensures turns { (left told : Option (List ℕ)) (disk0 : L) (turns : List Turn) → Between (Out L.tells L.told L.may_leave L.start L.len disk0 disk formatted) left told input.old turns (S.left source.old) (K.told sink.old)
+        → TurnedTo L.tells L.told L.may_leave L.start L.len disk0 (λ life. Inside L.tells L.told L.may_leave L.start L.len disk0 life.leaf life.head life.session life.next life.commits life.log) left told input.new turns (S.left source.new) (K.told sink.new) result }
     ensures later { (S.faults source.old ≤ S.faults source.new) × (K.faults sink.old ≤ K.faults sink.new) }
     ensures cause { TurnedCause L.faults (λ life. life.log.device) disk (S.faults source.old) (S.faults source.new) (K.faults sink.old) (K.faults sink.new) result }
 {
@@ -152,8 +152,8 @@ fn run_life<S: Source, K: Sink, L: Disk>(
     sink: &mut K,
     life: Life<L>,
 ) -> (Status, L)
-    ensures turns { (left told : Option (List ℕ)) (turns : List Turn) → Between (Inside life.leaf life.head life.session life.next life.commits life.log.next) left told input.old turns (S.left source.old) (K.told sink.old)
-        → Headline left (to_come input.new (S.left source.new)) told (K.told sink.new) result.0 }
+    ensures turns { (left told : Option (List ℕ)) (disk0 : L) (turns : List Turn) → Between (Inside L.tells L.told L.may_leave L.start L.len disk0 life.leaf life.head life.session life.next life.commits life.log) left told input.old turns (S.left source.old) (K.told sink.old)
+        → Headline L.tells L.told L.may_leave L.start L.len disk0 result.1 left input.new.pending (S.left source.new) told (K.told sink.new) result.0 }
     ensures later { (S.faults source.old ≤ S.faults source.new) × (K.faults sink.old ≤ K.faults sink.new) × (L.faults life.log.device ≤ L.faults result.1) }
     ensures cause { RunCause (S.faults source.old) (S.faults source.new) (K.faults sink.old) (K.faults sink.new) (L.faults life.log.device) (L.faults result.1) result.0 }
     ensures called { result.0 ≢ statuses.Usage }
@@ -176,8 +176,8 @@ fn turn_inside<S: Source, K: Sink, L: Disk>(
     sink: &mut K,
     life: &mut Life<L>,
 ) -> Result<(), Status>
-    ensures turns { (left told : Option (List ℕ)) (turns : List Turn) → Between (Inside life.old.leaf life.old.head life.old.session life.old.next life.old.commits life.old.log.next) left told input.old turns (S.left source.old) (K.told sink.old)
-        → TurnedIn (Inside life.new.leaf life.new.head life.new.session life.new.next life.new.commits life.new.log.next) left told input.new turns (S.left source.new) (K.told sink.new) result }
+    ensures turns { (left told : Option (List ℕ)) (disk0 : L) (turns : List Turn) → Between (Inside L.tells L.told L.may_leave L.start L.len disk0 life.old.leaf life.old.head life.old.session life.old.next life.old.commits life.old.log) left told input.old turns (S.left source.old) (K.told sink.old)
+        → TurnedIn L.tells L.told L.may_leave L.start L.len disk0 life.new.log.device (Inside L.tells L.told L.may_leave L.start L.len disk0 life.new.leaf life.new.head life.new.session life.new.next life.new.commits life.new.log) left told input.new turns (S.left source.new) (K.told sink.new) result }
     ensures later { (S.faults source.old ≤ S.faults source.new) × (K.faults sink.old ≤ K.faults sink.new) × (L.faults life.old.log.device ≤ L.faults life.new.log.device) }
     ensures cause { IfErr result (λ status. RunCause (S.faults source.old) (S.faults source.new) (K.faults sink.old) (K.faults sink.new) (L.faults life.old.log.device) (L.faults life.new.log.device) status × (status ≢ statuses.Usage)) }
 {
@@ -205,6 +205,7 @@ fn next_command<S: Source>(
     input: &mut Input,
     source: &mut S,
 ) -> Result<Option<(Command, u64)>, Status>
+    ensures most { IsBounded input.new }
     ensures command { TakesCommand input.old input.new (S.left source.old) (S.left source.new) result }
     ensures later { S.faults source.old ≤ S.faults source.new }
     ensures cause { IfErr result (LineCause (S.faults source.old) (S.faults source.new)) }

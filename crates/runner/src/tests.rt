@@ -1,6 +1,10 @@
+ghost use Rattle.std.specs.Prelude.{◌<◌};
+
 use super::*;
 use media::Devices;
 use media_mem::{MemDisk, MemSink, MemSource};
+use std::alloc::Global;
+use std::collections::BTreeMap;
 use std::test::Fail;
 
 /// A script with one transaction, and its transcript.
@@ -166,5 +170,84 @@ fn a_fault_ends_a_run_where_it_comes(rt: HostRuntime) -> Result<(), Fail> {
         assert!(rt; APPLE_PRINTED.starts_with(&ran.printed));
     }
     assert_eq!(rt; run_failing(&rt, APPLE, 0, 0, 30)?.status, Status::Done);
+    Ok(())
+}
+
+/// A script, and the transcript that an ordered map says it has.
+#[derive(Drop)]
+struct Expected {
+    map: BTreeMap<u64, u64>,
+    script: String,
+    printed: String,
+    /// What draws keys and values: a linear congruential generator with the constants of MMIX (Knuth, 1997).
+    state: u64,
+}
+
+impl Expected {
+    fn draw(&mut self, below: u64) -> u64
+        requires { 0 < below }
+    {
+        self.state = self
+            .state
+            .wrapping_mul(6364136223846793005)
+            .wrapping_add(1442695040888963407);
+        (self.state >> 33) % below
+    }
+
+    /// A get or a put of a key among 40.
+    fn ask(&mut self, alloc: Global, number: u64) -> Result<(), Fail> {
+        let key = self.draw(40);
+        let old = match self.map.get(&key) {
+            Some(value) => format!(in alloc; " = v{value}")?,
+            None => format!(in alloc; " none")?,
+        };
+        if self.draw(2) == 0 {
+            self.script
+                .push_str(&format!(in alloc; "get T{number} k{key}\n")?)?;
+            self.printed
+                .push_str(&format!(in alloc; "T{number} get k{key}{old}\n")?)?;
+        } else {
+            let value = self.draw(100_000);
+            self.map.insert(key, value)?;
+            self.script
+                .push_str(&format!(in alloc; "put T{number} k{key} v{value}\n")?)?;
+            self.printed
+                .push_str(&format!(in alloc; "T{number} put k{key} was{old}\n")?)?;
+        }
+        Ok(())
+    }
+
+    /// A transaction of six requests.
+    fn transaction(&mut self, alloc: Global, number: u64) -> Result<(), Fail> {
+        self.script
+            .push_str(&format!(in alloc; "begin T{number}\n")?)?;
+        self.printed
+            .push_str(&format!(in alloc; "T{number} begin\n")?)?;
+        for _ in 0..6 {
+            self.ask(alloc, number)?;
+        }
+        self.script
+            .push_str(&format!(in alloc; "commit T{number}\n")?)?;
+        self.printed
+            .push_str(&format!(in alloc; "T{number} commit {number}\n")?)?;
+        Ok(())
+    }
+}
+
+#[test]
+fn two_hundred_transactions_are_those_of_an_ordered_map(rt: HostRuntime) -> Result<(), Fail> {
+    let alloc = rt.alloc();
+    let mut expected = Expected {
+        map: BTreeMap::new(alloc),
+        script: String::from_str(alloc, "format\nopen\n")?,
+        printed: String::from_str(alloc, "format ok\nopen commits=0 losers=0\n")?,
+        state: 1,
+    };
+    for number in 1..=200 {
+        expected.transaction(alloc, number)?;
+    }
+    let ran = run(&rt, expected.script.as_bytes())?;
+    assert_eq!(rt; ran.status, Status::Done);
+    assert_eq!(rt; ran.printed.as_slice(), expected.printed.as_bytes());
     Ok(())
 }

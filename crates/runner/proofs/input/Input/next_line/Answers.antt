@@ -1,4 +1,4 @@
-use Rattle.std.proofs.Common.{◌≡◌, ◌++◌, ◌∷◌, [], subst, sym, ap, ◌∙◌, Ok, ℕ, ◌+◌, arith, length, nat_le}
+use Rattle.std.proofs.Common.{◌≡◌, ◌++◌, ◌∷◌, [], subst, sym, ap, ◌∙◌, Ok, ℕ, ◌+◌, arith, length, length-append, nat_le}
 use Rattle.std.specs.Prelude.{if◌then◌else◌}
 use Rattle.std.proofs.KnownBytes.{Consumes-trans}
 use Rattle.media.specs.declared.fault.Failed.{Failed}
@@ -12,7 +12,8 @@ returns-in-End-clause-bytes g c = subst (TakesNext c.args.self.now c.next_byte.n
     (ap ended (sym c.deref.ensures.value) ∙ sym c.ended.ensures)
     (at_end _ c.loop.self _ _ (g.S.Source.left c.loop.source) _ c.loop.line.items c.loop.invariant.bytes
     (subst (λ (b : Byte). TakesByte {E = Failed} c.loop.self c.next_byte.new.self (g.S.Source.left c.loop.source) (g.S.Source.left c.next_byte.new.source) (Ok b)) c.in-End.is c.in-Ok.ensures.bytes)
-    c.loop.invariant.one)
+    c.loop.invariant.one
+    (omega (arith, (subst (λ (b : Byte). CountsByte {E = Failed} c.loop.self c.next_byte.new.self (Ok b)) c.in-End.is c.in-Ok.ensures.counts).0, c.loop.invariant.taken, c.loop.invariant.count)))
 
 pub finish-requires : goal.finish-requires
 finish-requires g c = (subst (λ (b : Byte). CountsByte {E = Failed} c.loop.self c.next_byte.new.self (Ok b)) c.in-One.is c.in-Ok.ensures.counts).2
@@ -30,4 +31,8 @@ returns-then-byte-eq10-clause-bytes g c =
 
 pub returns-then-is_err-clause-bytes : goal.returns-then-is_err-clause-bytes
 returns-then-is_err-clause-bytes g c =
-    (c.loop.line.items ++ c.in-One.byte ∷ [], Consumes-trans _ _ _ c.loop.line.items (c.in-One.byte ∷ []) c.loop.invariant.bytes (subst (λ (b : Byte). TakesByte {E = Failed} c.loop.self c.next_byte.new.self (g.S.Source.left c.loop.source) (g.S.Source.left c.next_byte.new.source) (Ok b)) c.in-One.is c.in-Ok.ensures.bytes))
+    let counts = subst (λ (b : Byte). CountsByte {E = Failed} c.loop.self c.next_byte.new.self (Ok b)) c.in-One.is c.in-Ok.ensures.counts in (
+      c.loop.line.items ++ c.in-One.byte ∷ [],
+      Consumes-trans _ _ _ c.loop.line.items (c.in-One.byte ∷ []) c.loop.invariant.bytes (subst (λ (b : Byte). TakesByte {E = Failed} c.loop.self c.next_byte.new.self (g.S.Source.left c.loop.source) (g.S.Source.left c.next_byte.new.source) (Ok b)) c.in-One.is c.in-Ok.ensures.bytes),
+      omega (arith, counts.0, c.loop.invariant.taken, c.loop.invariant.count, length-append c.loop.line.items (c.in-One.byte ∷ [])),
+    )

@@ -1,6 +1,6 @@
 use Rattle.std.proofs.Common.{◌≡◌, ◌≤◌, ◌+◌, false, length}
 use Rattle.std.specs.Io.KnownBytes.{Consumes}
-use Rattle.runner.specs.Lines.{to_come, has_end}
+use Rattle.runner.specs.Lines.{to_come, has_end, IsBounded}
 use Rattle.runner.proofs.input.Input.next_line.Given as goal
 
 abbrev pub invariant-loop : goal.invariant-loop
@@ -9,6 +9,7 @@ invariant-loop g l = record {
   one : has_end l.line.items ≡ false;
   count : length l.line.items ≡ l.counter;
   taken : l.self.taken ≡ l.fn.self.taken + l.counter;
+  most : IsBounded l.self;
   lines : l.self.lines ≡ l.fn.self.lines;
   faults : g.S.Source.faults l.fn.source ≤ g.S.Source.faults l.source;
 }
