@@ -1,0 +1,3 @@
+pub mod Spots
+pub mod Splitting
+pub mod Puts

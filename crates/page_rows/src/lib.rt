@@ -1,0 +1,18 @@
+//! The rows of a page: where a key stands among them, what changes them, how many bytes they have and where a page is
+//! split.
+//!
+//! The model is `wal_record`'s: a page is its state, the rows of a leaf or branch by rising key (`specs/State` there).
+//! `specs/Rows` names places among rows and what a change of one row makes of them.
+//!
+//! What is promised: [`search`] gives the one spot of a key among rows that rise, in as many steps as their number has
+//! binary digits. The changes give exactly the rows that the definitions say, or leave the state as it was where memory
+//! runs out. [`free_bytes`] and [`split_point`] are the definitions of `wal_record`.
+#![tactic(auto)]
+
+mod change;
+mod sizes;
+mod spot;
+
+pub use change::{insert_at, replace_at, set_tombstone};
+pub use sizes::{free_bytes, split_point};
+pub use spot::{Spot, search};
