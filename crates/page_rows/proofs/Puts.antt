@@ -12,7 +12,7 @@ use Rattle.store_model.proofs.Bools.{not_both}
 use Rattle.wal_record.specs.State.{same_key, live, live_value, put_row, put_branch_row, child_at, or_child, separates, rises, leaf_below, branch_below}
 use Rattle.wal_record.specs.declared.page.LeafRow.{LeafRow}
 use Rattle.wal_record.specs.declared.page.BranchRow.{BranchRow}
-use Rattle.page_rows.specs.Rows.{leaf_at, branch_at}
+use Rattle.page_rows.specs.Rows.{leaf_at, branch_at, BranchGap}
 use Rattle.page_rows.proofs.Spots.{below_trans, below_itself, above_is, below_is, all_at}
 
 -- ---- a partition without its first row
@@ -94,10 +94,7 @@ module _ (key : List ℕ) where
 
   -- ---- branches
 
-  abbrev pub BranchGap : List BranchRow → ℕ → Type 0
-  BranchGap rows i = IsPartitionPoint (λ row. IsBelow (branch_at row) (Some key)) (λ row. IsBelow (Some key) (branch_at row)) rows i
-
-  branch_shorter : (row : BranchRow) (rows : List BranchRow) (i : ℕ) → BranchGap (row ∷ rows) (suc i) → BranchGap rows i
+  branch_shorter : (row : BranchRow) (rows : List BranchRow) (i : ℕ) → BranchGap key (row ∷ rows) (suc i) → BranchGap key rows i
   branch_shorter row rows i h = parts_shorter (λ x. IsBelow (branch_at x) (Some key)) (λ x. IsBelow (Some key) (branch_at x)) row rows i h
 
   -- what is below a bound isn't above it
@@ -107,7 +104,7 @@ module _ (key : List ℕ) where
   one_way (Some a) (Some b) e = ap is_lt (above_is a b e)
 
   -- no row has the key as its separator
-  pub fresh_in_gap : (rows : List BranchRow) (i : ℕ) → BranchGap rows i → i ≤ length rows → list_any (separates key) rows ≡ false
+  pub fresh_in_gap : (rows : List BranchRow) (i : ℕ) → BranchGap key rows i → i ≤ length rows → list_any (separates key) rows ≡ false
   fresh_in_gap [] i h le = refl
   fresh_in_gap (row ∷ rows) zero h le =
       let first = h.1 0 row (omega arith) (omega arith) in
@@ -127,7 +124,7 @@ module _ (key : List ℕ) where
       by false e = e
 
   -- a row covers the key exactly where one stands before the gap
-  pub covered_in_gap : (rows : List BranchRow) (i : ℕ) → BranchGap rows i → i ≤ length rows → is_some (child_at key rows) ≡ not_zero i
+  pub covered_in_gap : (rows : List BranchRow) (i : ℕ) → BranchGap key rows i → i ≤ length rows → is_some (child_at key rows) ≡ not_zero i
   covered_in_gap [] zero h le = refl
   covered_in_gap [] (suc i) h le = absurd (omega (arith, le))
   covered_in_gap (row ∷ rows) zero h le = ap (λ (b : Bool). is_some (cond b None (or_child (child_at key rows) row.child))) (h.1 0 row (omega arith) (omega arith))
@@ -138,7 +135,7 @@ module _ (key : List ℕ) where
       there (Some d) c = refl
 
   -- a row of the key goes into the gap
-  pub put_branch_in_gap : (r : BranchRow) (rows : List BranchRow) (i : ℕ) → r.low ≡ Some key → BranchGap rows i → i ≤ length rows → put_branch_row r rows ≡ insert rows i r
+  pub put_branch_in_gap : (r : BranchRow) (rows : List BranchRow) (i : ℕ) → r.low ≡ Some key → BranchGap key rows i → i ≤ length rows → put_branch_row r rows ≡ insert rows i r
   put_branch_in_gap r [] zero same h le = refl
   put_branch_in_gap r [] (suc i) same h le = absurd (omega (arith, le))
   put_branch_in_gap r (row ∷ rows) zero same h le =

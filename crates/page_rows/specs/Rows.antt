@@ -1,5 +1,5 @@
 -- The rows of a page by their places, counted from 0.
-use Rattle.std.specs.Prelude.{◌≡◌, ℕ, ◌≤◌, List, [], length, insert, slice_set, slice_get, Option, Some, None, true, false, suc, IsTrue}
+use Rattle.std.specs.Prelude.{◌≡◌, ℕ, ◌<◌, ◌≤◌, List, [], length, insert, slice_set, slice_get, Option, Some, None, true, false, suc, IsTrue}
 use Rattle.std.specs.Ordering.{nat_cmp}
 use Rattle.std.specs.declared.cmp.Ordering.{Ordering}
 use Rattle.std.specs.declared.cmp.Ordering.TheVariants.{Greater}
@@ -22,6 +22,10 @@ row_count (Branch rows) = length rows
 abbrev pub IsLeaf : Rows → Type 0
 IsLeaf (Leaf rows) = Unit {0}
 IsLeaf (Branch rows) = ⊥
+
+abbrev pub IsBranch : Rows → Type 0
+IsBranch (Leaf rows) = ⊥
+IsBranch (Branch rows) = Unit {0}
 
 -- each row is below all that follow it
 abbrev pub Rise : Rows → Type 0
@@ -50,6 +54,15 @@ IsSpotIn begin key rows (Gap i) = (i ≤ length rows) × IsPartitionPoint (λ ro
 abbrev pub IsSpot : List ℕ → Rows → Spot → Type 0
 IsSpot key (Leaf rows) spot = IsSpotIn leaf_at key rows spot
 IsSpot key (Branch rows) spot = IsSpotIn branch_at key rows spot
+
+-- the first i rows of a branch begin below the key, the others above it
+abbrev pub BranchGap : List ℕ → List BranchRow → ℕ → Type 0
+BranchGap key rows i = IsPartitionPoint (λ row. IsBelow (branch_at row) (Some key)) (λ row. IsBelow (Some key) (branch_at row)) rows i
+
+-- a place that a row has, or a gap between rows
+abbrev pub IsWithin : Spot → ℕ → Type 0
+IsWithin (Here i) n = i < n
+IsWithin (Gap i) n = i ≤ n
 
 -- ---- changed rows
 

@@ -9,10 +9,17 @@
 //! runs out. [`free_bytes`] and [`split_point`] are the definitions of `wal_record`.
 #![tactic(auto)]
 
+mod adopt_redo;
 mod change;
+mod copied;
+mod leaf_redo;
+mod records;
+mod same;
 mod sizes;
+mod split_redo;
 mod spot;
 
 pub use change::{insert_at, replace_at, set_tombstone};
+pub use records::{names, redo};
 pub use sizes::{free_bytes, split_point};
 pub use spot::{Spot, search};

@@ -28,7 +28,7 @@ pub(crate) fn state_bytes(state: &PageState) -> usize
         + rows_bytes(&state.rows)
 }
 
-fn high_bytes(high: &Bound) -> usize
+pub(crate) fn high_bytes(high: &Bound) -> usize
     ensures size { result ≡ high_size high.now }
     ensures small { result ≤ 67 }
 {
