@@ -21,3 +21,6 @@ pub use fault::PageFault;
 pub use opening::open_page;
 pub use sealed::Sealed;
 pub use sealing::seal;
+
+#[cfg(test)]
+mod tests;
