@@ -5,3 +5,5 @@ pub mod Cuts
 pub mod Lifts
 pub mod Changes
 pub mod Halves
+pub mod Keeping
+pub mod Rules

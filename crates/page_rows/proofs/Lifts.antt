@@ -87,10 +87,10 @@ pub purge_applied : (x : Purge) (p : ℕ) (old new : Option PageState) (b : Bool
 unfolding applied CanApply
 purge_applied x p old new b h = applied_on (kinds.Purge x) p old new CanPurge purged (λ c. c) (λ c. c) refl b h
 
-eq_true : (m n : ℕ) → m ≡ n → eqb m n ≡ true
+pub eq_true : (m n : ℕ) → m ≡ n → eqb m n ≡ true
 eq_true m n e = grind (arith, nat_tests)
 
-eq_false : (m n : ℕ) → (m ≡ n → ⊥) → eqb m n ≡ false
+pub eq_false : (m n : ℕ) → (m ≡ n → ⊥) → eqb m n ≡ false
 eq_false m n h = by (eqb m n) refl
   where
     true_eq : (m n : ℕ) → eqb m n ≡ true → m ≡ n
@@ -100,7 +100,7 @@ eq_false m n h = by (eqb m n) refl
     by true e = absurd (h (true_eq m n e))
     by false e = refl
 
-or_second : (m n k : ℕ) → (m ≡ n → ⊥) → IsTrue (eqb m n || eqb m k) → m ≡ k
+pub or_second : (m n k : ℕ) → (m ≡ n → ⊥) → IsTrue (eqb m n || eqb m k) → m ≡ k
 or_second m n k h e = grind (arith, nat_tests)
 
 module _ (x : Split) (p : ℕ) (old new : Option PageState) (b : Bool) where

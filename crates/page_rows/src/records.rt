@@ -17,9 +17,25 @@ use wal_record::{Adopt, Apply, Grow, PageState, Record, Rows, Split, Undo, Write
 
 /// Redoes a record on a page: true where the record names the page and is applicable to its state, which is then what
 /// the record makes of it; else false, and nothing changes. `None` stands for a page that has no image yet. After
-/// `Memory` nothing has changed. A write, an operator and an undo look for their row in as many steps as the number of
-/// rows has binary digits, and change no other row.
+/// `Memory` nothing has changed. A state that keeps its rules keeps them. A write, an operator and an undo look for
+/// their row in as many steps as the number of rows has binary digits, and change no other row.
 pub fn redo(
+    alloc: Global,
+    state: &mut Option<PageState>,
+    page: PageNo,
+    entry: &Record,
+    operators: &Operators,
+) -> Result<bool, Memory>
+    requires spelling { HasSpelling entry.now }
+    requires rules { IfSome state.old KeepsState }
+    ensures done { IfOk result (Redone entry.now page state.old state.new) }
+    ensures err { OnErr result (state.new ≡ state.old) }
+    ensures rules { IfSome state.new KeepsState }
+{
+    redo_kind(alloc, state, page, entry, operators)
+}
+
+fn redo_kind(
     alloc: Global,
     state: &mut Option<PageState>,
     page: PageNo,
