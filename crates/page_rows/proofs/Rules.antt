@@ -7,12 +7,15 @@ use Rattle.store_model.specs.declared.fault.Memory.{Memory}
 use Rattle.store_model.specs.Operator.{meaning}
 use Rattle.wal_record.specs.Chains.{names}
 use Rattle.wal_record.specs.Rules.{HasSpelling}
-use Rattle.wal_record.specs.State.{KeepsState}
+use Rattle.wal_record.specs.State.{own_part, KeepsRows, KeepsState}
 use Rattle.wal_record.specs.Images.{applied, CanApply, IsApplicable, Fits, with_value, purged, lower_half, with_child, without_foster, grown, CanWrite, CanUndo, CanSplit, CanTakeChild, CanGiveChild, CanGrow, CanPurge}
 use Rattle.wal_record.specs.declared.page.PageState.{PageState}
 use Rattle.wal_record.specs.declared.record.Record.{Record}
 use Rattle.wal_record.specs.declared.record.Record.TheVariants as kinds
-use Rattle.page_rows.specs.Redo.{IsRedoable, Redone}
+use Rattle.wal_record.specs.declared.page.Rows.{Rows}
+use Rattle.wal_record.specs.declared.page.Rows.TheVariants.{Leaf, Branch}
+use Rattle.page_rows.specs.Rows.{Rise}
+use Rattle.page_rows.specs.Redo.{Redone}
 use Rattle.page_rows.proofs.Lifts.{eq_true, eq_false, or_second}
 use Rattle.page_rows.proofs.Keeping.{first_keeps, value_keeps, meaning_fits, purge_keeps, half_keeps, take_keeps, give_keeps, grow_keeps, image_keeps}
 
@@ -64,3 +67,11 @@ module _ (r : Record) (p : ℕ) (old new : Option PageState) (h : HasSpelling r)
   pub result_keeps : (x : Result Bool Memory) → IfOk x (Redone r p old new) → OnErr x (new ≡ old) → IfSome new KeepsState
   result_keeps (Ok b) d e = redone_keeps b d
   result_keeps (Err m) d e = subst (λ (o : Option PageState). IfSome o KeepsState) (sym e) k
+
+-- the rows of a state that keeps its rules rise
+pub rows_rise : (s : PageState) → KeepsState s → Rise s.rows
+rows_rise s k = by s.rows k.rows
+  where
+    by : (rows : Rows) → KeepsRows s.level (own_part s) rows → Rise rows
+    by (Leaf rows) h = h.1
+    by (Branch rows) h = h.2

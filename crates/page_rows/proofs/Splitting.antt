@@ -46,10 +46,3 @@ module _ {A : Type 0} (size : A → ℕ) (rows : List A) where
   split_past n e none =
       let len : length (map size rows) ≡ n = length-map rows size ∙ sym e in
       sym len ∙ sym (least_past half_test (length (map size rows)) (λ k h. same_test k ∙ none k (omega (arith, len))))
-
-  pub none_more : (i kept : ℕ) → kept ≡ sum_by size (take i rows) → 2 * kept < sum_by size rows → NoneBelow i → NoneBelow (i + 1)
-  none_more i kept e more none k lt = by (leb (k + 1) i) refl
-    where
-      by : (b : Bool) → leb (k + 1) i ≡ b → has_half k ≡ false
-      by true p = none k (grind (arith, nat_tests))
-      by false p = let same : k ≡ i = grind (arith, nat_tests) in ap has_half same ∙ grind (arith, nat_tests)

@@ -192,7 +192,7 @@ fn keep_first_items<X: Drop>(alloc: Global, items: &mut List<X>, n: usize)
     *items = List::from_vec(kept);
 }
 
-/// Redoes the growth of the root, whose content went to its new child. It takes no memory that it keeps.
+/// Redoes the growth of the root, whose content went to its new child.
 pub(crate) fn grow(alloc: Global, state: &mut PageState, grow: &Grow) -> Result<bool, Memory>
     requires { KeepsState state.old }
     ensures done { IfOk result (Changed (CanGrow grow.now) (grown grow.now.child) state.old state.new) }
