@@ -1,14 +1,13 @@
 -- Changes of the rows of a state, each as the definition of its record says.
-use Rattle.std.proofs.Common.{◌≡◌, ℕ, ◌+◌, ◌<◌, ◌≤◌, zero, suc, Bool, true, false, cond, List, [], ◌∷◌, length, get_or, Option, Some, None, Result, Ok, Err, IfOk, refl, sym, ap, subst, ◌∙◌, arith}
-use Rattle.std.specs.Prelude.{IsTrue, is_some, ◌||◌, filter, slice_get, option_and_then, not}
+use Rattle.std.proofs.Common.{◌≡◌, ℕ, ◌<◌, ◌≤◌, zero, suc, Bool, true, false, cond, List, [], ◌∷◌, length, Option, Some, None, Result, Ok, Err, IfOk, refl, sym, ap, subst, ◌∙◌, arith}
+use Rattle.std.specs.Prelude.{IsTrue, ◌||◌, filter, option_and_then, not}
 use Rattle.std.specs.List.{sum_by, list_any}
-use Rattle.std.proofs.lemmas.Bool.{and_parts}
 use Rattle.std.proofs.lemmas.List.Sums.{sum_by-cons}
 use Rattle.std.proofs.lemmas.Option.{slice_get-get_or}
 use Rattle.store_model.specs.declared.fault.Memory.{Memory}
 use Rattle.store_model.proofs.Bools.{not_both}
-use Rattle.wal_record.specs.State.{leaf_rows, branch_rows, live, live_value, row_of, put_row, put_branch_row, separates, child_at, rises, leaf_below, leaf_row_size, has_own, own_part, KeepsRows, KeepsState, state_size, page_room}
-use Rattle.wal_record.specs.Images.{is_live_row, with_value, with_child, purged, IsLeafOf, CanWrite, CanUndo, CanTakeChild, CanPurge}
+use Rattle.wal_record.specs.State.{leaf_rows, branch_rows, live, live_value, row_of, rises, leaf_below, leaf_row_size, has_own, own_part, KeepsRows, KeepsState, state_size, page_room}
+use Rattle.wal_record.specs.Images.{is_live_row, with_value, with_child, purged, IsLeafOf, CanTakeChild, CanPurge}
 use Rattle.wal_record.specs.declared.page.PageState.{PageState}
 use Rattle.wal_record.specs.declared.page.LeafRow.{LeafRow}
 use Rattle.wal_record.specs.declared.page.BranchRow.{BranchRow}

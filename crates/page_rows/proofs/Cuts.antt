@@ -1,16 +1,13 @@
 -- Rows that rise, cut in two at a bound.
-use Rattle.std.proofs.Common.{◌≡◌, ◌≢◌, ℕ, zero, suc, ◌<◌, ◌≤◌, Bool, true, false, cond, List, [], ◌∷◌, length, get_or, take, drop, Option, Some, None, refl, sym, ap, subst, ◌∙◌, arith, inl, inr}
+use Rattle.std.proofs.Common.{◌≡◌, ℕ, zero, suc, ◌<◌, ◌≤◌, Bool, true, false, cond, List, [], ◌∷◌, length, get_or, take, drop, Option, Some, None, refl, sym, ap, subst, ◌∙◌, arith, inl, inr}
 use Rattle.std.specs.Prelude.{IsTrue, filter, not}
-use Rattle.std.specs.List.{AllWithin}
 use Rattle.std.specs.List.Sorted.{IsPartitionPoint, IsPartitionedBy}
-use Rattle.std.specs.Ordering.{nat_cmp, is_lt, ordering_reverse}
-use Rattle.std.specs.Cmp.Lexicographic.{slice_cmp, nat_list_cmp_total}
 use Rattle.std.proofs.lemmas.Bool.{cases_lt}
 use Rattle.std.proofs.lemmas.List.{length-take, length-drop}
 use Rattle.store_model.specs.Range.{is_below}
-use Rattle.store_model.proofs.Bools.{not_both, not_from}
-use Rattle.wal_record.specs.State.{rises, leaf_below, branch_below}
-use Rattle.wal_record.specs.Images.{leaf_under, branch_under, lower_rows, upper_rows, has_rows}
+use Rattle.store_model.proofs.Bools.{not_both}
+use Rattle.wal_record.specs.State.{rises}
+use Rattle.wal_record.specs.Images.{leaf_under, branch_under, lower_rows, has_rows}
 use Rattle.wal_record.specs.declared.page.LeafRow.{LeafRow}
 use Rattle.wal_record.specs.declared.page.BranchRow.{BranchRow}
 use Rattle.wal_record.specs.declared.page.Rows.{Rows}

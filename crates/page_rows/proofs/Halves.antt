@@ -1,13 +1,12 @@
 -- A page that is split: its lower half, and how long that is.
-use Rattle.std.proofs.Common.{◌≡◌, ℕ, ◌+◌, ◌<◌, ◌≤◌, Bool, true, false, leb, List, length, Option, Some, None, refl, sym, ap, subst, ◌∙◌, arith}
+use Rattle.std.proofs.Common.{◌≡◌, ℕ, ◌+◌, ◌<◌, ◌≤◌, true, false, leb, List, length, Option, Some, None, refl, sym, ap, subst, ◌∙◌, arith}
 use Rattle.std.specs.Prelude.{IsTrue}
 use Rattle.std.proofs.lemmas.Bool.Decides.{nat_tests}
 use Rattle.store_model.specs.Range.{is_below}
 use Rattle.store_model.proofs.Bools.{both_true}
-use Rattle.wal_record.specs.State.{text_of, is_text, high_size, foster_size, rows_size, state_size, page_room, KeepsState}
-use Rattle.wal_record.specs.Images.{CanSplit, lower_half, lower_rows, upper_rows, has_rows}
+use Rattle.wal_record.specs.State.{text_of, is_text, high_size, rows_size, state_size, page_room, KeepsState}
+use Rattle.wal_record.specs.Images.{CanSplit, lower_half, lower_rows, has_rows}
 use Rattle.wal_record.specs.declared.page.PageState.{PageState}
-use Rattle.wal_record.specs.declared.page.Foster.{Foster}
 use Rattle.wal_record.specs.declared.page.Rows.{Rows}
 use Rattle.wal_record.specs.declared.record.Split.{Split}
 use Rattle.page_rows.specs.Redo.{Changed, IsCut, CanCut, IsSameFrame, first_rows}

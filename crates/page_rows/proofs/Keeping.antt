@@ -1,6 +1,6 @@
 -- A record that is applicable leaves a state that keeps the rules.
-use Rattle.std.proofs.Common.{◌≡◌, ℕ, ◌+◌, ◌<◌, ◌≤◌, ◌^◌, zero, suc, Bool, true, false, cond, leb, ltb, List, [], ◌∷◌, ◌++◌, length, Option, Some, None, refl, sym, ap, subst, ◌∙◌, arith, nat_eq, nat_lt, nat_le, ltb-true, Ordering, Less, Equal, Greater}
-use Rattle.std.specs.Prelude.{IsTrue, IfSome, not, filter, is_some, ◌&&◌, ◌||◌, max, option_and_then, unwrap_or}
+use Rattle.std.proofs.Common.{◌≡◌, ℕ, ◌+◌, ◌<◌, ◌≤◌, ◌^◌, zero, suc, Bool, true, false, cond, leb, List, [], ◌∷◌, ◌++◌, length, Option, Some, None, refl, sym, ap, subst, ◌∙◌, arith, nat_eq, nat_lt, nat_le, ltb-true, Ordering, Less, Equal, Greater}
+use Rattle.std.specs.Prelude.{IfSome, not, filter, is_some, ◌&&◌, ◌||◌, max, option_and_then, unwrap_or}
 use Rattle.std.specs.List.{list_all, list_any}
 use Rattle.std.specs.Option.{option_map}
 use Rattle.std.specs.Ordering.{nat_cmp, is_lt, ordering_reverse, match_ordering}
@@ -13,11 +13,11 @@ use Rattle.std.proofs.lemmas.Fmt.{length-decimal-le}
 use Rattle.std.proofs.lemmas.Map.Lookups.{exact_bytes}
 use Rattle.store_model.specs.Range.{Interval, has_key, is_below}
 use Rattle.store_model.specs.Operator.{number_of, sum_of, meaning}
-use Rattle.store_model.proofs.Bools.{not_both, not_true, not_from, both_true}
+use Rattle.store_model.proofs.Bools.{not_both, not_true, both_true}
 use Rattle.store_model.proofs.Ranges.{between}
 use Rattle.wal_record.specs.Rules.{is_maybe_value}
-use Rattle.wal_record.specs.State.{is_text, is_key, is_value, is_child, text_of, rises, leaf_below, branch_below, leaf_row_fits, branch_row_fits, IsFirst, KeepsRows, KeepsState, foster_fits, has_own, own_part, own_end, end_by, leaf_rows, branch_rows, put_row, put_branch_row, row_of, child_at, or_child, separates, state_size, page_room}
-use Rattle.wal_record.specs.Images.{OnPage, Fits, first_page, with_value, is_live_row, purged, leaf_under, branch_under, lower_rows, lower_half, has_rows, with_child, without_foster, grown, IsLeafOf, CanWrite, CanUndo, CanSplit, CanTakeChild, CanGiveChild, CanGrow, CanPurge}
+use Rattle.wal_record.specs.State.{is_text, is_key, is_value, is_child, text_of, rises, leaf_below, branch_below, leaf_row_fits, branch_row_fits, IsFirst, KeepsRows, KeepsState, foster_fits, own_part, own_end, end_by, leaf_rows, branch_rows, put_row, put_branch_row, row_of, child_at, or_child, separates, state_size, page_room}
+use Rattle.wal_record.specs.Images.{OnPage, Fits, first_page, with_value, is_live_row, purged, leaf_under, branch_under, lower_rows, lower_half, has_rows, with_child, without_foster, grown, IsLeafOf, CanSplit, CanTakeChild, CanGiveChild, CanPurge}
 use Rattle.wal_record.specs.declared.page.PageState.{PageState}
 use Rattle.wal_record.specs.declared.page.LeafRow.{LeafRow}
 use Rattle.wal_record.specs.declared.page.BranchRow.{BranchRow}
@@ -26,7 +26,7 @@ use Rattle.wal_record.specs.declared.page.Rows.{Rows}
 use Rattle.wal_record.specs.declared.page.Rows.TheVariants.{Leaf, Branch}
 use Rattle.wal_record.specs.declared.record.Split.{Split}
 use Rattle.wal_record.specs.declared.record.Adopt.{Adopt}
-use Rattle.page_rows.proofs.Spots.{below_trans, below_itself}
+use Rattle.page_rows.proofs.Spots.{below_trans}
 
 -- ---- lists
 

@@ -1,6 +1,6 @@
 -- From a change of a state to a record redone on a page.
-use Rattle.std.proofs.Common.{◌≡◌, ◌≢◌, ℕ, ◌<◌, ◌≤◌, Bool, true, false, cond, eqb, List, Option, Some, None, Result, Ok, Err, IfOk, refl, sym, ap, subst, ◌∙◌, arith}
-use Rattle.std.specs.Prelude.{IsTrue, is_some, ◌||◌, not}
+use Rattle.std.proofs.Common.{◌≡◌, ℕ, ◌≤◌, Bool, true, false, cond, eqb, Option, Some, None, Result, Ok, Err, IfOk, refl, sym, ap, subst, ◌∙◌, arith}
+use Rattle.std.specs.Prelude.{IsTrue, ◌||◌, not}
 use Rattle.std.specs.Option.{option_map}
 use Rattle.std.proofs.lemmas.Bool.Decides.{nat_tests}
 use Rattle.store_model.specs.declared.fault.Memory.{Memory}
@@ -9,7 +9,7 @@ use Rattle.store_model.specs.Operator.{meaning}
 use Rattle.store_model.proofs.Bools.{not_both, both_true}
 use Rattle.wal_record.specs.Chains.{names}
 use Rattle.wal_record.specs.State.{state_size, page_room, end_by}
-use Rattle.wal_record.specs.Images.{applied, CanApply, IsApplicable, OnPage, Fits, first_page, with_value, purged, lower_half, with_child, without_foster, grown, CanWrite, CanUndo, CanSplit, CanTakeChild, CanGiveChild, CanGrow, CanPurge}
+use Rattle.wal_record.specs.Images.{applied, CanApply, OnPage, Fits, first_page, with_value, purged, lower_half, with_child, without_foster, grown, CanWrite, CanUndo, CanSplit, CanTakeChild, CanGiveChild, CanGrow, CanPurge}
 use Rattle.wal_record.specs.declared.page.PageState.{PageState}
 use Rattle.wal_record.specs.declared.page.Foster.{Foster}
 use Rattle.wal_record.specs.declared.record.Format.{Format}
@@ -22,7 +22,7 @@ use Rattle.wal_record.specs.declared.record.Grow.{Grow}
 use Rattle.wal_record.specs.declared.record.Purge.{Purge}
 use Rattle.wal_record.specs.declared.record.Record.{Record}
 use Rattle.wal_record.specs.declared.record.Record.TheVariants as kinds
-use Rattle.page_rows.specs.Redo.{IsRedoable, Redone, Applied, Changed, OnImage, CanApplyTo, Made}
+use Rattle.page_rows.specs.Redo.{Redone, Applied, Changed, OnImage, CanApplyTo, Made}
 use Rattle.page_rows.proofs.Spots.{below_itself}
 
 -- ---- a page that may have no image

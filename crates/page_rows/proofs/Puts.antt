@@ -1,19 +1,18 @@
 -- A row put at the spot of its key, and what the rows say of the key there.
-use Rattle.std.proofs.Common.{◌≡◌, ℕ, zero, suc, ◌<◌, ◌≤◌, Bool, true, false, cond, List, [], ◌∷◌, length, get_or, set, Option, Some, None, refl, sym, ap, subst, ◌∙◌, arith, Ordering, Less, Equal, Greater}
-use Rattle.std.specs.Prelude.{IsTrue, insert, slice_get, is_some, not, ◌||◌}
-use Rattle.std.specs.List.{HoldsAt, AllWithin, list_all, list_any}
+use Rattle.std.proofs.Common.{◌≡◌, ℕ, zero, suc, ◌<◌, ◌≤◌, Bool, true, false, cond, List, [], ◌∷◌, length, get_or, set, Option, Some, None, refl, ap, subst, ◌∙◌, arith, Ordering, Less, Equal, Greater}
+use Rattle.std.specs.Prelude.{insert, is_some, not, ◌||◌}
+use Rattle.std.specs.List.{HoldsAt, list_any}
 use Rattle.std.specs.List.Sorted.{IsPartitionPoint}
-use Rattle.std.specs.Ordering.{nat_cmp, is_lt, is_eq, ordering_reverse, match_ordering}
+use Rattle.std.specs.Ordering.{nat_cmp, is_lt, is_eq, match_ordering}
 use Rattle.std.specs.Cmp.Lexicographic.{slice_cmp, nat_list_cmp_total}
 use Rattle.std.proofs.lemmas.Bool.{and_parts}
 use Rattle.std.proofs.lemmas.Cmp.{tied_itself}
 use Rattle.store_model.specs.Range.{is_below, IsBelow}
-use Rattle.store_model.proofs.Bools.{not_both}
-use Rattle.wal_record.specs.State.{same_key, live, live_value, put_row, put_branch_row, child_at, or_child, separates, rises, leaf_below, branch_below}
+use Rattle.wal_record.specs.State.{same_key, live, live_value, put_row, put_branch_row, child_at, or_child, separates, rises, leaf_below}
 use Rattle.wal_record.specs.declared.page.LeafRow.{LeafRow}
 use Rattle.wal_record.specs.declared.page.BranchRow.{BranchRow}
 use Rattle.page_rows.specs.Rows.{leaf_at, branch_at, BranchGap}
-use Rattle.page_rows.proofs.Spots.{below_trans, below_itself, above_is, below_is, all_at}
+use Rattle.page_rows.proofs.Spots.{below_itself, above_is, below_is, all_at}
 
 -- ---- a partition without its first row
 

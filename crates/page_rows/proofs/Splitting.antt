@@ -1,9 +1,9 @@
 -- The least number that passes a test, found by trying one after the other.
-use Rattle.std.proofs.Common.{◌≡◌, ℕ, zero, suc, ◌+◌, ◌*◌, ◌<◌, ◌≤◌, Bool, true, false, leb, List, take, map, length, get_or, refl, sym, ap, ◌∙◌, arith}
+use Rattle.std.proofs.Common.{◌≡◌, ℕ, zero, suc, ◌*◌, ◌<◌, ◌≤◌, Bool, true, false, leb, List, take, map, length, refl, sym, ap, ◌∙◌, arith}
 use Rattle.std.specs.List.{sum, sum_by}
 use Rattle.std.proofs.lemmas.Bool.Decides.{nat_tests}
 use Rattle.std.proofs.lemmas.List.{take-map, length-map}
-use Rattle.std.proofs.lemmas.List.Sums.{sum-map, sum_by_more, sum_by_more_le}
+use Rattle.std.proofs.lemmas.List.Sums.{sum-map}
 use Rattle.wal_record.specs.State.{least, split_point}
 
 pub least_at : (passes : ℕ → Bool) (bound i : ℕ) → i < bound → ((k : ℕ) → k < i → passes k ≡ false) → passes i ≡ true → least passes bound ≡ i

@@ -1,5 +1,5 @@
 -- What redoing a record on a page answers.
-use Rattle.std.specs.Prelude.{◌≡◌, ℕ, ◌+◌, ◌<◌, ◌≤◌, List, [], take, Option, Some, None, is_some, Bool, true, false, IsTrue, insert, slice_set, slice_get, option_and_then}
+use Rattle.std.specs.Prelude.{◌≡◌, ℕ, ◌+◌, ◌<◌, ◌≤◌, List, take, Option, Some, None, is_some, Bool, true, false, IsTrue, insert, slice_set, slice_get, option_and_then}
 use Rattle.std.specs.List.{sum_by}
 use Rattle.std.specs.Option.{option_map}
 use Rattle.store_model.specs.Operator.{meaning}

@@ -1,4 +1,3 @@
-use Rattle.std.proofs.Common.{sym, ◌∙◌}
 use Rattle.page_rows.proofs.Changes.{purge_changed}
 use Rattle.page_rows.proofs.leaf_redo.purge.Goals as goal
 

@@ -1,4 +1,4 @@
-use Rattle.std.proofs.Common.{false, Option, Some, Bool, sym, subst}
+use Rattle.std.proofs.Common.{false, Option, Some, sym, subst}
 use Rattle.wal_record.specs.declared.page.PageState.{PageState}
 use Rattle.page_rows.specs.Redo.{OnImage}
 use Rattle.page_rows.proofs.Lifts.{on_some, on_none}

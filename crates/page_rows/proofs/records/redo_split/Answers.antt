@@ -1,4 +1,4 @@
-use Rattle.std.proofs.Common.{false, Option, Some, IfOk, sym, subst}
+use Rattle.std.proofs.Common.{false, Option, Some, sym, subst}
 use Rattle.wal_record.specs.declared.page.PageState.{PageState}
 use Rattle.wal_record.specs.declared.record.Record.TheVariants as kinds
 use Rattle.page_rows.specs.Redo.{Applied}

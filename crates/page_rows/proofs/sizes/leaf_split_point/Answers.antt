@@ -1,4 +1,4 @@
-use Rattle.std.proofs.Common.{ℕ, ◌≡◌, refl, subst, length, arith}
+use Rattle.std.proofs.Common.{◌≡◌, refl, subst, length, arith}
 use Rattle.wal_record.specs.State.{leaf_row_size}
 use Rattle.page_rows.proofs.Splitting.{NoneBelow, half_is, split_here, split_past}
 use Rattle.page_rows.proofs.sizes.leaf_split_point.Goals as goal
