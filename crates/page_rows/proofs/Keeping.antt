@@ -1,5 +1,5 @@
 -- A record that is applicable leaves a state that keeps the rules.
-use Rattle.std.proofs.Common.{◌≡◌, ℕ, ◌+◌, ◌<◌, ◌≤◌, ◌^◌, zero, suc, Bool, true, false, cond, leb, List, [], ◌∷◌, ◌++◌, length, Option, Some, None, refl, sym, ap, subst, ◌∙◌, arith, nat_eq, nat_lt, nat_le, ltb-true, Ordering, Less, Equal, Greater}
+use Rattle.std.proofs.Common.{◌≡◌, ℕ, ◌+◌, ◌<◌, ◌≤◌, ◌^◌, zero, suc, Bool, true, false, cond, List, [], ◌∷◌, ◌++◌, length, Option, Some, None, refl, sym, ap, subst, ◌∙◌, arith, nat_eq, nat_lt, nat_le, ltb-true, Ordering, Less, Equal, Greater}
 use Rattle.std.specs.Prelude.{IfSome, not, filter, is_some, ◌&&◌, ◌||◌, max, option_and_then, unwrap_or}
 use Rattle.std.specs.List.{list_all, list_any}
 use Rattle.std.specs.Option.{option_map}
@@ -263,9 +263,6 @@ half_keeps x rules child s can k size =
     }
 
 -- ---- an adoption
-
-le_true : (m n : ℕ) → leb m n ≡ true → m ≤ n
-le_true m n h = grind (arith, nat_tests)
 
 key_text : (key : List ℕ) → is_key key ≡ true → is_text key ≡ true
 key_text key h = (and_parts _ _ h).1
