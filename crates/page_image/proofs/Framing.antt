@@ -1,7 +1,7 @@
 -- A page that is written in two pieces: what follows the digest, and the digest.
-use Rattle.std.proofs.Common.{◌≡◌, ℕ, ◌+◌, ◌-◌, ◌≤◌, List, ◌++◌, length, take, drop, refl, sym, ap, ◌∙◌, append_assoc, arith}
+use Rattle.std.proofs.Common.{◌≡◌, ℕ, ◌+◌, ◌-◌, List, ◌++◌, length, take, drop, ap, ◌∙◌, append_assoc, arith}
 use Rattle.std.specs.Prelude.{replicate}
-use Rattle.std.proofs.lemmas.List.{drop-replicate, take-replicate, drop_at, length-append, length-replicate}
+use Rattle.std.proofs.lemmas.List.{drop-replicate, take-replicate, drop_at, length-replicate}
 use Rattle.sha2.specs.Sha256.{sha256}
 use Rattle.page_image.specs.Image.{digest_of, padded, sealed_body}
 

@@ -1,5 +1,5 @@
 -- The image of a page: the bytes that stand for its state, its number and its LSN.
-use Rattle.std.specs.Prelude.{◌≡◌, ℕ, ◌-◌, List, ◌++◌, length, take, drop, replicate}
+use Rattle.std.specs.Prelude.{ℕ, ◌-◌, List, ◌++◌, length, drop, replicate}
 use Rattle.std.specs.Int.{w8, w32, w64}
 use Rattle.sha2.specs.Sha256.{sha256}
 use Rattle.wal_record.specs.Spelling.{number_bytes, state_bytes}

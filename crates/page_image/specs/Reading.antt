@@ -1,13 +1,11 @@
 -- Reading a page's image from left to right. A fault is the number of bytes left where the first field begins that
 -- breaks its rule.
-use Rattle.std.specs.Prelude.{◌≡◌, ◌≢◌, ◌+◌, ℕ, List, length, take, drop, Result, Ok, Err, ◌==◌, Bool, true, IsTrue, if◌then◌else◌}
+use Rattle.std.specs.Prelude.{◌≡◌, ◌≢◌, ◌+◌, ℕ, List, length, take, drop, Result, Ok, Err, ◌==◌, Bool, if◌then◌else◌}
 use Rattle.std.specs.List.{list_all}
 use Rattle.std.specs.Int.{w8, w32, w64, from_be_bytes}
-use Rattle.sha2.specs.Sha256.{sha256}
 use Rattle.wal_record.specs.Rules.{is_number}
-use Rattle.wal_record.specs.State.{KeepsState}
-use Rattle.wal_record.specs.Reading.{Read, ◌>>=◌, number_at, state_at}
-use Rattle.page_image.specs.Image.{digest_of, image_bytes}
+use Rattle.wal_record.specs.Reading.{◌>>=◌, number_at, state_at}
+use Rattle.page_image.specs.Image.{digest_of}
 use Rattle.page_image.specs.declared.sealed.Sealed.{Sealed}
 use Rattle.page_image.specs.declared.fault.PageFault.{PageFault}
 use Rattle.page_image.specs.declared.fault.PageFault.TheVariants.{Digest, Number, Format, Memory}

@@ -1,4 +1,4 @@
-use Rattle.std.proofs.Common.{◌≡◌, ℕ, ◌≤◌, Ok, Err, Result, drop, sym, ap, ◌∙◌, arith, refl}
+use Rattle.std.proofs.Common.{◌≡◌, ℕ, ◌≤◌, Ok, Err, Result, drop, sym, ap, ◌∙◌, arith}
 use Rattle.store_model.proofs.Bools.{not_both}
 use Rattle.std.proofs.lemmas.List.{length-drop}
 use Rattle.state_codec.proofs.Fields.{IsBytes-drop}
