@@ -76,6 +76,11 @@ pub record IsDurable {D : Type 0} (told : D → Kept) (may_leave : D → Kept �
   pub places_are : log.places ≡ places (told log.device).start bs
   pub gate_is : log.gate ≡ (told log.device).start + length (blocks bs)
 
+-- The pending records go on with the LSNs of the durable ones, without a gap, and the next one behind them.
+pub record AreNumbered {D : Type 0} (log : LogState D) : Type 0 where
+  pub run : IsRun (lsn_behind log.places) log.pending
+  pub next : log.next ≡ next_lsn (lsn_behind log.places) log.pending
+
 -- Why a call of an open log is refused: it had ended before, the disk failed in this call, and now it has ended, or
 -- memory is wanted and all is as before. A call that takes no memory has no such answer.
 abbrev pub Refused : {D : Type 0} → Type 0 → (D → ℕ) → LogState D → LogState D → Fault → Type 0

@@ -6,7 +6,7 @@ ghost use Rattle.media.specs.Kept.{Kept, bytes_at};
 ghost use Rattle.store_model.specs.declared.fault.Fault.TheVariants as faults;
 ghost use Rattle.log_blocks.specs.Batch.{IsChecked, numbered, records_in, AreSized};
 ghost use Rattle.log_blocks.specs.Log.{Block, IsRun, StandsFor, StandsForSome, blocks, laid, next_lsn};
-ghost use Rattle.log_blocks.specs.LogState.{LogState, IsDurable, Refused, checkpoint_of, durable_lsn, firsts, last_or, log_end, payload_at};
+ghost use Rattle.log_blocks.specs.LogState.{AreNumbered, LogState, IsDurable, Refused, checkpoint_of, durable_lsn, firsts, last_or, log_end, payload_at};
 ghost use Rattle.log_blocks.specs.Opening.{Progress, RoseFor, TellsFault};
 
 use crate::batch::{Batch, pass};
@@ -123,6 +123,14 @@ impl<L: Disk> BlockLog<L> {
         self.next
     }
 
+    /// The LSN of the last durable record, 0 where none is durable.
+    pub fn durable_lsn(&self) -> Lsn
+        ensures value { result ≡ durable_lsn self.now.places }
+        ensures numbered { AreNumbered self.now }
+    {
+        lsn_before(&self.pending, self.next)
+    }
+
     /// The offset where the gate of the next block will stand.
     pub fn end(&self) -> u64
         ensures { result ≡ log_end self.now }
@@ -178,6 +186,7 @@ impl<L: Disk> BlockLog<L> {
         ensures all { OnOk result ((self.new.pending ≡ []) × (self.new.ended ≡ None)) }
         ensures progress { Progress self.old.gate self.old.places self.old.pending self.new.gate self.new.places self.new.pending }
         ensures next { self.new.next ≡ self.old.next }
+        ensures numbered { OnOk result (AreNumbered self.new) }
         ensures durable { L.tells → (bs : List Block) → IsDurable L.told L.may_leave self.old bs
             → OnOk result (IsDurable L.told L.may_leave self.new (bs ++ self.old.pending)) }
         // A crash at any moment leaves the blocks that were durable before, then some of the pending ones in order, none

@@ -5,7 +5,7 @@ use Rattle.media.specs.Cause.{Rose}
 use Rattle.media.specs.Crash.{LeavesOnly}
 use Rattle.log_blocks.specs.declared.header.Place.{Place}
 use Rattle.log_blocks.specs.Log.{StandsForSome, IsRun, IsSequence, blocks}
-use Rattle.log_blocks.specs.LogState.{LogState, IsDurable, lsn_behind}
+use Rattle.log_blocks.specs.LogState.{AreNumbered, LogState, IsDurable, lsn_behind}
 use Rattle.log_blocks.specs.Opening.{IsChain}
 use Rattle.log_blocks.proofs.Durable.{chain_progress, durable_more}
 use Rattle.log_blocks.proofs.Walking.{next_above}
@@ -84,3 +84,9 @@ returns-in-Err-clause-refused g c =
       subst (λ (s : LogState _). Rose (g.L.Disk.faults s.device) (g.L.Disk.faults c.flush_all.new.device)) c.self.view_is c.in-Err.ensures.cause.failed,
       ap Some (c.lsn_before.ensures _ w.run w.next_is (omega arith)),
     )
+
+pub returns-in-Ok-clause-numbered : goal.returns-in-Ok-clause-numbered
+returns-in-Ok-clause-numbered g c =
+    let p = progress_behind c.self.inside.places.items _ _ _ _ _ _ c.flush_all.ensures.progress in
+    let w = whole_progress _ _ _ _ _ _ _ _ c.self.invariant.whole p in
+    record { run = w.run; next = w.next_is }
