@@ -1,18 +1,20 @@
 -- The record of an LSN, in the block that has it.
 use Rattle.std.proofs.Common.{◌≡◌, ℕ, zero, suc, ◌+◌, ◌-◌, ◌<◌, ◌≤◌, Bool, true, false, List, [], ◌∷◌, ◌++◌, length, get_or, drop, refl, sym, ◌∙◌, ap, subst, arith, append_assoc, length-append}
-use Rattle.std.specs.Prelude.{map, nat_le, if◌then◌else◌}
+use Rattle.std.specs.Prelude.{map, nat_le, if◌then◌else◌, ⊤}
 use Rattle.std.proofs.lemmas.Bool.{le-leb, lt-leb}
 use Rattle.log_blocks.specs.Batch.{numbered, records_in}
 use Rattle.std.specs.List.{All}
 use Rattle.log_blocks.specs.Log.{Block, body, open_gate, IsRun, IsSequence, first_lsn, next_lsn}
-use Rattle.log_blocks.specs.LogState.{LogState, lsn_behind, payload_at}
+use Rattle.log_blocks.specs.LogState.{LogState, Refused, firsts, lsn_behind, payload_at}
 use Rattle.log_blocks.specs.Opening.{places}
 use Rattle.log_blocks.specs.declared.header.Place.{Place}
 use Rattle.log_blocks.proofs.Whole.{behind_first, next_lsn-append}
+use Rattle.store_model.specs.declared.fault.Fault.{Fault}
+use Rattle.store_model.specs.declared.fault.Fault.TheVariants as faults
 use Rattle.wal_record.specs.Rules.{HasSpelling}
 use Rattle.wal_record.specs.declared.record.Record.{Record}
-use Rattle.log_manager.specs.Records.{AreIn, Holds, bytes_of}
-use Rattle.log_manager.specs.Managed.{HasLsn, IsAt, before_lsn, first_kept, with_batch}
+use Rattle.log_manager.specs.Records.{AreIn, bytes_of}
+use Rattle.log_manager.specs.Managed.{HasLsn, IsAt, IsBadIn, IsBadRecord, NotRead, before_lsn, first_kept, with_batch}
 
 abbrev pub first_of : Block → ℕ
 first_of b = b.first
@@ -163,3 +165,33 @@ first_same log bs = by log.places log.pending bs
     by [] [] (b ∷ bs) = refl
     by [] (q ∷ qs) bs = refl
     by (p ∷ ps) qs bs = refl
+
+-- ---- a bad block
+
+pub payload-before : (xs ys : List Block) (i : ℕ) → i < length xs → payload_at (xs ++ ys) i ≡ payload_at xs i
+payload-before [] ys i lt = absurd (omega (arith, lt))
+payload-before (x ∷ xs) ys zero lt = refl
+payload-before (x ∷ xs) ys (suc i) lt = payload-before xs ys i (omega (arith, lt))
+
+-- what isn't read from a payload is bad in its block
+pub bad_in : (bs : List Block) (payload : List ℕ) (i : ℕ) (fault : Fault) → i < length bs → payload ≡ payload_at bs i → NotRead i payload fault → IsBadIn bs fault
+bad_in bs payload i faults.Memory lt is bad = tt
+bad_in bs payload i (faults.LogBad block byte) lt is bad =
+    subst (λ n. (n < length bs) × IsBadRecord (payload_at bs n) byte) (sym bad.0) (lt, subst (λ p. IsBadRecord p byte) is bad.1)
+bad_in bs payload i fault lt is bad = absurd bad
+
+-- a block that isn't read is not bad
+pub never_in : {D : Type 0} (count : D → ℕ) (old new : LogState D) (bs : List Block) (fault : Fault) → Refused ⊤ count old new fault → IsBadIn bs fault
+never_in count old new bs (faults.LogBad block byte) refused = absurd refused
+never_in count old new bs fault refused = tt
+
+pub length-firsts : {D : Type 0} (log : LogState D) → length (firsts log) ≡ length log.places + length log.pending
+length-firsts log = omega (arith, length-append (map (λ (p : Place). p.first) log.places) (map first_of log.pending), of_places log.places, of_blocks log.pending)
+  where
+    of_places : (ps : List Place) → length (map (λ (p : Place). p.first) ps) ≡ length ps
+    of_places [] = refl
+    of_places (p ∷ ps) = omega (arith, of_places ps)
+
+    of_blocks : (bs : List Block) → length (map first_of bs) ≡ length bs
+    of_blocks [] = refl
+    of_blocks (b ∷ bs) = omega (arith, of_blocks bs)

@@ -1,5 +1,5 @@
 -- What calls make of the records of a log.
-use Rattle.std.proofs.Common.{get_or, ◌≡◌, ◌⊎◌, inl, inr, ℕ, zero, suc, ◌+◌, ◌-◌, ◌<◌, ◌≤◌, List, [], ◌∷◌, ◌++◌, length, take, drop, max, min, refl, sym, ◌∙◌, ap, subst, arith, append-nil, append_assoc, take-append-drop}
+use Rattle.std.proofs.Common.{get_or, ◌≡◌, ◌⊎◌, inl, inr, ℕ, zero, suc, ◌+◌, ◌-◌, ◌<◌, ◌≤◌, List, [], ◌∷◌, ◌++◌, length, take, drop, max, refl, sym, ◌∙◌, ap, subst, arith, append-nil, append_assoc, take-append-drop}
 use Rattle.std.specs.Prelude.{map, Option}
 use Rattle.std.specs.List.{All}
 use Rattle.media.specs.Kept.{Kept}
@@ -8,7 +8,7 @@ use Rattle.log_blocks.specs.Log.{Block, IsRun, IsSequence, StandsFor, StandsForS
 use Rattle.log_blocks.specs.LogState.{AreNumbered, IsDurable, LogState, checkpoint_of, firsts, last_or, lsn_behind, payload_at}
 use Rattle.log_blocks.specs.Opening.{places}
 use Rattle.log_blocks.specs.declared.header.Place.{Place}
-use Rattle.log_blocks.proofs.Lasts.{last_or-append, map-append}
+use Rattle.log_blocks.proofs.Lasts.{map-append}
 use Rattle.log_blocks.proofs.Progressing.{length-places}
 use Rattle.log_blocks.proofs.Walking.{next_above}
 use Rattle.log_blocks.proofs.Whole.{behind_first, lsn_after-drop, next_lsn-append, numbered_next, run_append, run_rest, sequence_whole}

@@ -1,17 +1,16 @@
 -- Records of a payload, read one by one.
-use Rattle.std.proofs.Common.{◌≡◌, ℕ, zero, suc, ◌+◌, ◌-◌, ◌<◌, ◌≤◌, List, [], ◌∷◌, ◌++◌, length, take, drop, refl, sym, ◌∙◌, ap, subst, arith, append_assoc, append-nil, length-append, length-drop, length-take, take-append-drop}
+use Rattle.std.proofs.Common.{◌≡◌, ℕ, suc, ◌+◌, ◌<◌, ◌≤◌, List, [], ◌∷◌, ◌++◌, length, take, drop, refl, sym, ◌∙◌, ap, subst, arith, append_assoc, append-nil, length-append, length-drop, length-take, take-append-drop}
 use Rattle.std.specs.List.{All}
 use Rattle.std.proofs.lemmas.Grind.{flat_map-append}
 use Rattle.std.proofs.lemmas.List.{drop_at}
 use Rattle.std.proofs.Math.Seq.{drop-append-add}
 use Rattle.wal_record.specs.Rules.{HasSpelling}
-use Rattle.std.specs.Int.{w64}
+use Rattle.std.specs.Int.{w32, w64}
 use Rattle.std.specs.Prelude.{Result, Ok, Err, IfOk, IfErr}
 use Rattle.wal_record.specs.Spelling.{number_bytes, spelling}
 use Rattle.wal_record.specs.declared.record.Record.{Record}
 use Rattle.wal_record.specs.declared.record.Record.TheVariants as kinds
 use Rattle.log_manager.specs.Records.{bytes_of}
-use Rattle.log_manager.specs.Managed.{IsAt}
 
 -- these records stand before a byte of the payload
 pub record Reads (payload : List ℕ) (at : ℕ) (front : List Record) : Type 0 where
@@ -86,6 +85,10 @@ length-u64 : (n : ℕ) → length (number_bytes w64 n) ≡ 8
 unfolding number_bytes
 length-u64 n = refl
 
+pub length-u32 : (n : ℕ) → length (number_bytes w32 n) ≡ 4
+unfolding number_bytes
+length-u32 n = refl
+
 pub length-commit : (tx prev : ℕ) → length (spelling (kinds.Commit (record { tx = tx; prev = prev }))) ≡ 17
 length-commit tx prev = omega (arith, length-append (number_bytes w64 tx) (number_bytes w64 prev), length-u64 tx, length-u64 prev)
 
@@ -118,3 +121,7 @@ some_bytes (r ∷ rs) one = omega (arith, some_byte r, length-append (spelling r
 pub answer_map : {A E : Type 0} (x : Result A E) (P Q : A → Type 0) (F G : E → Type 0) → IfOk x P × IfErr x F → ((a : A) → P a → Q a) → ((e : E) → F e → G e) → IfOk x Q × IfErr x G
 answer_map (Ok a) P Q F G is p f = (p a is.0, tt)
 answer_map (Err e) P Q F G is p f = (tt, f e is.1)
+
+pub err_map : {A E : Type 0} (x : Result A E) (F G : E → Type 0) → IfErr x F → ((e : E) → F e → G e) → IfErr x G
+err_map (Ok a) F G is f = tt
+err_map (Err e) F G is f = f e is

@@ -1,10 +1,10 @@
 -- The log of records as contracts see it.
 use Rattle.std.specs.Prelude.{◌≡◌, ◌≤◌, ◌<◌, ◌+◌, ◌-◌, ◌*◌, ◌^◌, ℕ, suc, List, [], ◌∷◌, ◌++◌, length, min, None, Some, ⊤, nat_le, if◌then◌else◌, slice_index_or, Err}
 use Rattle.store_model.specs.declared.fault.Fault.{Fault}
-use Rattle.store_model.specs.declared.fault.Fault.TheVariants.{Memory, LogFault, LogBad, Ended}
+use Rattle.store_model.specs.declared.fault.Fault.TheVariants.{Memory, LogBad, Ended}
 use Rattle.log_blocks.specs.Batch.{numbered, records_in, IsChecked}
 use Rattle.log_blocks.specs.Log.{Block, blocks}
-use Rattle.log_blocks.specs.LogState.{LogState, Refused, checkpoint_of, firsts, log_end}
+use Rattle.log_blocks.specs.LogState.{LogState, Refused, checkpoint_of, firsts, log_end, payload_at}
 use Rattle.log_blocks.specs.declared.header.Place.{Place}
 use Rattle.wal_record.specs.Reading.{record_at}
 use Rattle.wal_record.specs.declared.record.Record.{Record}
@@ -77,6 +77,11 @@ abbrev pub NotRead : ℕ → List ℕ → Fault → Type 0
 NotRead number payload Memory = Unit {0}
 NotRead number payload (LogBad block byte) = (block ≡ number) × IsBadRecord payload byte
 NotRead number payload fault = ⊥
+
+-- where a block is named as bad, it is one of these, and its payload is bad there
+abbrev pub IsBadIn : List Block → Fault → Type 0
+IsBadIn bs (LogBad block byte) = (block < length bs) × IsBadRecord (payload_at bs block) byte
+IsBadIn bs fault = Unit {0}
 
 -- why a read is refused: the log had ended, its disk failed in this call and ended it, want of memory, or a block that
 -- holds no records there

@@ -9,7 +9,7 @@ ghost use Rattle.log_blocks.specs.LogState.{IsDurable, Refused, checkpoint_of, d
 ghost use Rattle.wal_record.specs.Rules.{HasSpelling};
 ghost use Rattle.wal_record.specs.declared.record.Record.{Record};
 ghost use Rattle.log_manager.specs.Records.{bytes_of, AreRecordsOf, IsLogOf, StandsForRecords};
-ghost use Rattle.log_manager.specs.Managed.{HasMore, HasLsn, IsAt, IsCounted, IsNoBadLog, NotAdded, ReadRefused, before_lsn, first_kept, with_batch};
+ghost use Rattle.log_manager.specs.Managed.{HasMore, HasLsn, IsAt, IsBadIn, IsCounted, IsNoBadLog, NotAdded, ReadRefused, before_lsn, first_kept, with_batch};
 
 use crate::counted::{COMMIT, Counted};
 use crate::reading::record_in;
@@ -153,6 +153,8 @@ impl<L: Disk> LogManager<L> {
         requires kept { (first_kept self.old.log ≤ lsn) × (lsn < self.old.log.next) }
         ensures found { L.tells → (stable waiting : List Record) → IsLogOf L.told L.may_leave self.old.log stable waiting
             → IfOk result (IsAt (stable ++ waiting) (lsn - first_kept self.old.log)) × IfErr result IsNoBadLog }
+        // A block is named as bad only at the first field of its payload, behind some records, that is cut or breaks its rule.
+        ensures bad { L.tells → (bs : List Block) → IsDurable L.told L.may_leave self.old.log bs → IfErr result (IsBadIn (bs ++ self.old.log.pending)) }
         ensures records { L.tells → (stable waiting : List Record) → IsLogOf L.told L.may_leave self.old.log stable waiting → IsLogOf L.told L.may_leave self.new.log stable waiting }
         ensures same { self.new ≡ record self.old { log = record self.old.log { device = self.new.log.device; ended = self.new.log.ended } } }
         ensures any_moment { LeavesOnly L.moment L.left_since self.old.log.device self.new.log.device (λ k. L.may_leave self.old.log.device k) }

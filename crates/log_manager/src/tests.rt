@@ -1,10 +1,11 @@
 use super::*;
 use log_blocks::open_log;
+use media::Disk;
 use media_mem::MemDisk;
 use std::alloc::Global;
 use std::test::Fail;
-use store_model::{Fault, Key, Value};
-use wal_record::{Format, Lost, Record, Write};
+use store_model::{Fault, Lsn};
+use wal_record::{Lost, Record};
 
 /// A log of records on a disk with these bytes.
 fn opened(alloc: Global, disk: MemDisk) -> Result<LogManager<MemDisk>, Fail> {
@@ -14,67 +15,91 @@ fn opened(alloc: Global, disk: MemDisk) -> Result<LogManager<MemDisk>, Fail> {
     }
 }
 
-fn write(tx: u64, prev: u64, page_prev: u64) -> Result<Record, Fail> {
-    let (key, value) = match (Key::new(b"apple"), Value::new(b"1")) {
-        (Some(key), Some(value)) => (key, value),
-        _ => return Err(Fail::new("another answer")),
-    };
-    Ok(Record::Write(Write {
-        tx,
-        prev,
-        page: 1,
-        page_prev,
-        key,
-        old: None,
-        new: Some(value),
-    }))
+/// The record of an LSN that the log keeps.
+fn found<D: Disk>(alloc: Global, log: &mut LogManager<D>, lsn: Lsn) -> Result<Record, Fault> {
+    if lsn == 0 || lsn < log.first_kept() || log.last() < lsn {
+        return Err(Fault::Memory);
+    }
+    log.read(alloc, lsn)
 }
 
-/// The bytes of a log with a Format, and with a Write and its Commit.
-const APPLE: &[u8] = &[
-    0xa5, 0, 0, 0, 0, 0, 0, 0, 1, 0, 0, 0, 0, 0, 0, 0, 0, 0, 1, 0, 0, 0, 5, 1, 0, 0, 0x40, 0, 0xa5,
-    0, 0, 0, 0, 0, 0, 0, 2, 0, 0, 0, 0, 0, 0, 0, 0, 0, 2, 0, 0, 0, 0x39, 2, 0, 0, 0, 0, 0, 0, 0, 1,
-    0, 0, 0, 0, 0, 0, 0, 0, 0, 0, 0, 1, 0, 0, 0, 0, 0, 0, 0, 1, 5, 0x61, 0x70, 0x70, 0x6c, 0x65, 0,
-    1, 0, 1, 0x31, 5, 0, 0, 0, 0, 0, 0, 0, 1, 0, 0, 0, 0, 0, 0, 0, 2, 0,
+/// Adds a Lost of so many pages at the end.
+fn add<D: Disk>(alloc: Global, log: &mut LogManager<D>, pages: u32) -> Option<Lsn> {
+    log.append_group(alloc, &[Record::Lost(Lost { pages })])
+        .ok()
+}
+
+/// Whether all records up to an LSN have become stable.
+fn flush<D: Disk>(log: &mut LogManager<D>, lsn: Lsn) -> bool {
+    lsn != 0 && lsn <= log.last() && log.flush_to(lsn).is_ok()
+}
+
+/// Adds the Commit of transaction 1, whose last record has the LSN 2, where there is room for it.
+fn commit<D: Disk>(log: &mut LogManager<D>) -> Option<Lsn> {
+    if log.spare() == 0 {
+        None
+    } else {
+        Some(log.append_commit(1, 2))
+    }
+}
+
+/// The pages that a Lost tells.
+fn pages_of(found: Result<Record, Fault>) -> Option<u32> {
+    match found {
+        Ok(record) => match record {
+            Record::Lost(lost) => Some(lost.pages),
+            _other => None,
+        },
+        Err(_fault) => None,
+    }
+}
+
+/// The block and the byte that are named as bad.
+fn bad_of(found: Result<Record, Fault>) -> Option<(u64, u64)> {
+    match found {
+        Ok(_record) => None,
+        Err(fault) => match fault {
+            Fault::LogBad { block, byte } => Some((block, byte)),
+            _other => None,
+        },
+    }
+}
+
+/// The bytes of a record, and of another with a Commit.
+const LAID: &[u8] = &[
+    0xa5, 0, 0, 0, 0, 0, 0, 0, 1, 0, 0, 0, 0, 0, 0, 0, 0, 0, 1, 0, 0, 0, 5, 15, 0, 0, 0, 7, 0xa5,
+    0, 0, 0, 0, 0, 0, 0, 2, 0, 0, 0, 0, 0, 0, 0, 0, 0, 2, 0, 0, 0, 22, 15, 0, 0, 0, 9, 5, 0, 0, 0,
+    0, 0, 0, 0, 1, 0, 0, 0, 0, 0, 0, 0, 2, 0,
 ];
 
 #[test]
 fn a_flush_makes_a_transaction_one_block(rt: HostRuntime) -> Result<(), Fail> {
     let alloc = rt.alloc();
     let mut log = opened(alloc, MemDisk::new(alloc))?;
-    let format = Record::Format(Format { limit: 16_384 });
-    assert_eq!(rt; log.append_group(alloc, &[format]).ok(), Some(1));
-    assert!(rt; log.flush_to(1).is_ok());
+    assert_eq!(rt; add(alloc, &mut log, 7), Some(1));
+    assert!(rt; flush(&mut log, 1));
     assert!(rt; log.reserve_commit().is_ok());
-    assert_eq!(rt; log.append_group(alloc, &[write(1, 0, 1)?]).ok(), Some(2));
-    assert_eq!(rt; log.append_commit(1, 2), 3);
+    assert_eq!(rt; add(alloc, &mut log, 9), Some(2));
+    assert_eq!(rt; commit(&mut log), Some(3));
     assert_eq!(rt; (log.durable(), log.last(), log.first_kept()), (1, 3, 1));
-    assert!(rt; log.flush_to(2).is_ok());
+    assert!(rt; flush(&mut log, 2));
     assert_eq!(rt; (log.durable(), log.last(), log.spare()), (3, 3, 0));
-    assert_eq!(rt; log.into_device().bytes(), APPLE);
+    assert_eq!(rt; log.into_device().bytes(), LAID);
     Ok(())
 }
 
 #[test]
 fn records_are_read_by_their_number(rt: HostRuntime) -> Result<(), Fail> {
     let alloc = rt.alloc();
-    let mut log = opened(alloc, MemDisk::with_bytes(alloc, APPLE)?)?;
-    for lsn in 0..12 {
-        assert_eq!(rt;
-            log.append_group(alloc, &[Record::Lost(Lost { pages: lsn })])
-                .ok(),
-            Some(4 + lsn as u64)
-        );
+    let mut log = opened(alloc, MemDisk::with_bytes(alloc, LAID)?)?;
+    for pages in 4..16 {
+        assert_eq!(rt; add(alloc, &mut log, pages), Some(pages as u64));
     }
-    match log.read(alloc, 2) {
-        Ok(Record::Write(found)) => assert_eq!(rt; (found.tx, found.page_prev), (1, 1)),
-        _ => return Err(Fail::new("another answer")),
-    }
-    for lsn in 0..12 {
-        match log.read(alloc, 4 + lsn as u64) {
-            Ok(Record::Lost(found)) => assert_eq!(rt; found.pages, lsn),
-            _ => return Err(Fail::new("another answer")),
-        }
+    assert_eq!(rt; pages_of(found(alloc, &mut log, 1)), Some(7));
+    assert_eq!(rt; pages_of(found(alloc, &mut log, 2)), Some(9));
+    assert_eq!(rt; pages_of(found(alloc, &mut log, 3)), None);
+    for pages in 4..16 {
+        assert_eq!(rt; pages_of(found(alloc, &mut log, pages as u64)), Some(pages));
     }
     Ok(())
 }
@@ -82,22 +107,19 @@ fn records_are_read_by_their_number(rt: HostRuntime) -> Result<(), Fail> {
 #[test]
 fn a_payload_that_is_no_record_is_named(rt: HostRuntime) -> Result<(), Fail> {
     let alloc = rt.alloc();
-    let mut bytes = APPLE.to_vec(alloc)?;
-    // The tag of the second block's second record.
-    bytes[91] = 17;
+    let mut bytes = LAID.to_vec(alloc)?;
+    // The kind of the second block's second record.
+    bytes[56] = 17;
     let mut log = opened(alloc, MemDisk::with_bytes(alloc, &bytes)?)?;
-    assert!(rt; log.read(alloc, 2).is_ok());
-    match log.read(alloc, 3) {
-        Err(Fault::LogBad { block, byte }) => assert_eq!(rt; (block, byte), (1, 63)),
-        _ => return Err(Fail::new("another answer")),
-    }
+    assert_eq!(rt; pages_of(found(alloc, &mut log, 2)), Some(9));
+    assert_eq!(rt; bad_of(found(alloc, &mut log, 3)), Some((1, 28)));
     Ok(())
 }
 
 #[test]
 fn whole_blocks_are_recycled_but_never_the_last(rt: HostRuntime) -> Result<(), Fail> {
     let alloc = rt.alloc();
-    let mut log = opened(alloc, MemDisk::with_bytes(alloc, APPLE)?)?;
+    let mut log = opened(alloc, MemDisk::with_bytes(alloc, LAID)?)?;
     assert!(rt; log.recycle_to(1).is_ok());
     assert_eq!(rt; log.first_kept(), 1);
     assert!(rt; log.recycle_to(2).is_ok());

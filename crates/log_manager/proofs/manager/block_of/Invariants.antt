@@ -1,4 +1,4 @@
-use Rattle.std.proofs.Common.{◌≡◌, ◌+◌, ◌-◌, ◌<◌, ◌≤◌, get_or, length}
+use Rattle.std.proofs.Common.{◌-◌, ◌<◌, ◌≤◌, get_or, length}
 use Rattle.log_blocks.specs.LogState.{firsts}
 use Rattle.log_manager.proofs.manager.block_of.Given as goal
 

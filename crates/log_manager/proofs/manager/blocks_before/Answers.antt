@@ -1,4 +1,4 @@
-use Rattle.std.proofs.Common.{◌+◌, ◌≡◌, suc, ap, ◌∙◌, sym, arith, length}
+use Rattle.std.proofs.Common.{◌+◌, arith}
 use Rattle.std.specs.Prelude.{map}
 use Rattle.log_blocks.specs.Log.{Block}
 use Rattle.log_manager.proofs.Finding.{before_last, before_more, before_none}

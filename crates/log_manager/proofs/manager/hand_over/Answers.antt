@@ -1,6 +1,5 @@
-use Rattle.std.proofs.Common.{◌*◌, ◌+◌, ℕ, List, [], subst, ap, ◌∙◌, sym, arith}
+use Rattle.std.proofs.Common.{◌*◌, ℕ, [], subst, ap, ◌∙◌, sym}
 use Rattle.log_blocks.specs.LogState.{LogState}
-use Rattle.log_manager.specs.declared.counted.Counted.{Counted}
 use Rattle.log_manager.specs.Managed.{IsCounted, with_batch}
 use Rattle.log_manager.proofs.Counting.{counted_over}
 use Rattle.log_manager.proofs.manager.hand_over.Goals as goal

@@ -1,4 +1,3 @@
-use Rattle.std.proofs.Common.{ap, sym, ◌∙◌}
 use Rattle.log_manager.proofs.Taking.{in_front}
 use Rattle.log_manager.proofs.reading.record_from.Goals as goal
 

@@ -1,4 +1,4 @@
-use Rattle.std.proofs.Common.{◌≡◌, ◌++◌, ◌∷◌, List, [], ap, sym, ◌∙◌, arith, length, length-append, append_assoc}
+use Rattle.std.proofs.Common.{◌≡◌, ◌++◌, ◌∷◌, [], ap, sym, ◌∙◌, arith, length, length-append, append_assoc}
 use Rattle.wal_record.specs.declared.record.Record.{Record}
 use Rattle.log_manager.specs.Records.{bytes_of}
 use Rattle.log_manager.proofs.Taking.{next_agrees, reads_more}

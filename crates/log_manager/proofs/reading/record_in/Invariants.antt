@@ -1,4 +1,4 @@
-use Rattle.std.proofs.Common.{◌≡◌, ◌≤◌, ℕ, List, length}
+use Rattle.std.proofs.Common.{◌≡◌, ◌≤◌, List, length}
 use Rattle.wal_record.specs.declared.record.Record.{Record}
 use Rattle.log_manager.proofs.Taking.{Agrees, Reads}
 use Rattle.log_manager.proofs.reading.record_in.Given as goal

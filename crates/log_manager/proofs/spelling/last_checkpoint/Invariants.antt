@@ -1,4 +1,4 @@
-use Rattle.std.proofs.Common.{◌≡◌, ◌+◌, ◌≤◌, drop, length}
+use Rattle.std.proofs.Common.{◌≡◌, ◌+◌, drop}
 use Rattle.log_manager.specs.Records.{checkpoint_after}
 use Rattle.log_manager.proofs.spelling.last_checkpoint.Given as goal
 

@@ -1,4 +1,4 @@
-use Rattle.std.proofs.Common.{◌≡◌, ◌+◌, ◌-◌, ◌++◌, ◌∷◌, ℕ, List, [], subst, ap, ◌∙◌, sym, refl, arith, append-nil, length}
+use Rattle.std.proofs.Common.{◌≡◌, ◌+◌, ◌++◌, ◌∷◌, [], subst, ap, ◌∙◌, sym, refl, arith, append-nil, length}
 use Rattle.std.proofs.lemmas.List.Elements.{All-cons, All-nil}
 use Rattle.log_blocks.specs.Batch.{Batched, with_group}
 use Rattle.log_blocks.specs.LogState.{LogState}
@@ -6,7 +6,6 @@ use Rattle.wal_record.specs.Rules.{HasSpelling}
 use Rattle.wal_record.specs.Spelling.{spelling}
 use Rattle.wal_record.specs.declared.record.Record.{Record}
 use Rattle.wal_record.specs.declared.record.Record.TheVariants as kinds
-use Rattle.log_manager.specs.declared.counted.Counted.{Counted}
 use Rattle.log_manager.specs.Managed.{HasMore, IsCounted, Managed, with_batch}
 use Rattle.log_manager.specs.Records.{IsLogOf, bytes_of}
 use Rattle.log_manager.proofs.Counting.{counted_short, has_more}

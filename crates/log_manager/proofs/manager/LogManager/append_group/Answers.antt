@@ -1,7 +1,6 @@
-use Rattle.std.proofs.Common.{◌≡◌, ◌≤◌, ◌+◌, ◌-◌, ◌++◌, ℕ, List, [], subst, ap, ◌∙◌, sym, refl, arith, length}
+use Rattle.std.proofs.Common.{◌≡◌, ◌≤◌, ◌+◌, ◌-◌, ◌++◌, subst, ap, ◌∙◌, sym, arith, length}
 use Rattle.log_blocks.specs.Batch.{Batched, with_group}
 use Rattle.log_blocks.specs.LogState.{LogState}
-use Rattle.log_manager.specs.declared.counted.Counted.{Counted}
 use Rattle.log_manager.specs.Managed.{HasMore, IsCounted, Managed, with_batch}
 use Rattle.log_manager.specs.Records.{IsLogOf, bytes_of, checkpoint_after}
 use Rattle.log_manager.proofs.Counting.{counted_more, has_more}

@@ -1,4 +1,4 @@
-use Rattle.std.proofs.Common.{ap, ◌∙◌, sym, arith}
+use Rattle.std.proofs.Common.{ap, ◌∙◌, arith}
 use Rattle.log_manager.specs.Managed.{Managed, first_kept}
 use Rattle.log_manager.proofs.Finding.{first_none}
 use Rattle.log_manager.proofs.manager.LogManager.first_kept.Goals as goal

@@ -1,4 +1,4 @@
-use Rattle.std.proofs.Common.{◌≡◌, ◌+◌, ◌++◌, ℕ, List, [], subst, ap, ◌∙◌, sym, inr, arith, take}
+use Rattle.std.proofs.Common.{◌++◌, ℕ, [], subst, ap, ◌∙◌, sym, inr, take}
 use Rattle.media.specs.Crash.{LeavesOnly}
 use Rattle.log_blocks.specs.Batch.{Batched}
 use Rattle.log_blocks.specs.LogState.{LogState}

@@ -1,12 +1,14 @@
-use Rattle.std.proofs.Common.{◌≡◌, ◌+◌, ◌-◌, ◌++◌, ℕ, List, [], subst, ap, ◌∙◌, sym, arith, get_or, length}
+use Rattle.std.proofs.Common.{◌≡◌, ◌<◌, ◌-◌, ◌++◌, ℕ, List, subst, ap, ◌∙◌, sym, arith, get_or, length, length-append, append_assoc}
 use Rattle.store_model.specs.declared.fault.Fault.TheVariants as faults
-use Rattle.log_blocks.specs.LogState.{LogState, firsts, payload_at}
-use Rattle.wal_record.specs.declared.record.Record.{Record}
-use Rattle.log_manager.specs.Managed.{IsAt, IsNoBadLog, Managed, first_kept}
+use Rattle.log_blocks.specs.Batch.{numbered}
+use Rattle.log_blocks.specs.Log.{Block}
+use Rattle.log_blocks.specs.LogState.{IsDurable, LogState, firsts, payload_at}
+use Rattle.log_blocks.proofs.Progressing.{length-places}
+use Rattle.log_manager.specs.Managed.{IsAt, IsBadIn, IsNoBadLog, Managed, NotRead, first_kept}
 use Rattle.log_manager.specs.Records.{IsLogOf, bytes_of}
-use Rattle.log_manager.proofs.Finding.{first_same}
+use Rattle.log_manager.proofs.Finding.{bad_in, first_same, length-firsts, payload-before}
 use Rattle.log_manager.proofs.Logs.{inner, kept_same, reached}
-use Rattle.log_manager.proofs.Taking.{answer_map}
+use Rattle.log_manager.proofs.Taking.{answer_map, err_map}
 use Rattle.log_manager.proofs.manager.LogManager.read.Goals as goal
 
 pub block_of-block-requires : goal.block_of-block-requires
@@ -44,3 +46,20 @@ returns-clause-found g c tells s w h =
     (c.record_in.ensures.found r.own r.spelled payload (omega (arith, r.place, begins)))
     (λ found at. subst (λ m. IsAt (s ++ w) (lsn - m) found) first (r.at found (subst (λ m. IsAt r.own (lsn - m) found) begins at)))
     (λ fault e. subst IsNoBadLog (sym e) tt)
+
+pub returns-clause-bad : goal.returns-clause-bad
+returns-clause-bad g c tells bs d =
+    let log = c.reach.new.log in
+    let more = numbered log.next c.reach.new.batch.blocks in
+    let whole = c.reach.ensures.same ∙ ap (λ (m : Managed _). m.log) c.self.view_is in
+    let i = c.block_of-block.result in
+    let here = inner g.L.Disk.told g.L.Disk.may_leave log c.reach.new.batch.blocks bs (subst (λ (l : LogState _). IsDurable g.L.Disk.told g.L.Disk.may_leave l bs) (sym whole) d) in
+    let pending : bs ++ c.args.self.now.log.pending ≡ (bs ++ log.pending) ++ more =
+    ap (λ (l : LogState _). bs ++ l.pending) (sym whole) ∙ sym (append_assoc bs log.pending more) in
+    let within : i < length (bs ++ log.pending) = omega (arith, c.block_of-block.ensures.within, length-firsts log, ap length here.places_are, length-places (g.L.Disk.told log.device).start bs, length-append bs log.pending) in
+    let payload : c.deref.result.now ≡ payload_at (bs ++ c.args.self.now.log.pending) i =
+    c.deref.ensures.value ∙ c.in_ok-read_block.ensures.payload tells bs here
+    ∙ ap (λ (l : List ℕ). l ++ payload_at (bs ++ log.pending) i) c.new-payload.ensures.items ∙ sym (payload-before (bs ++ log.pending) more i within)
+    ∙ ap (λ (l : List Block). payload_at l i) (sym pending) in
+    err_map c.record_in.result (NotRead i c.deref.result.now) (IsBadIn (bs ++ c.args.self.now.log.pending)) c.record_in.ensures.refused
+    (λ fault bad. bad_in (bs ++ c.args.self.now.log.pending) c.deref.result.now i fault (omega (arith, within, ap length pending, length-append (bs ++ log.pending) more)) payload bad)

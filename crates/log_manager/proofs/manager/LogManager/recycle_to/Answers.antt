@@ -1,10 +1,10 @@
-use Rattle.std.proofs.Common.{◌≡◌, ◌<◌, ◌++◌, ℕ, List, [], subst, ap, ◌∙◌, sym, refl, arith, drop, length}
+use Rattle.std.proofs.Common.{◌<◌, ℕ, subst, ap, sym, arith, drop, length}
 use Rattle.media.specs.Crash.{LeavesOnly}
 use Rattle.log_blocks.specs.LogState.{IsDurable, LogState}
 use Rattle.log_blocks.proofs.Moments.{started, weaker}
-use Rattle.log_manager.specs.Managed.{IsCounted, Managed, before_lsn, with_batch}
+use Rattle.log_manager.specs.Managed.{IsCounted, Managed, with_batch}
 use Rattle.log_manager.specs.Records.{IsLogOf, StandsForRecords}
-use Rattle.log_manager.proofs.Counting.{counted_dropped, counted_elsewhere, without_first}
+use Rattle.log_manager.proofs.Counting.{counted_dropped, counted_elsewhere}
 use Rattle.log_manager.proofs.Finding.{before_small}
 use Rattle.log_manager.proofs.Logs.{all_or_dropped, dropped, inner, none_dropped}
 use Rattle.log_manager.proofs.manager.LogManager.recycle_to.Goals as goal
