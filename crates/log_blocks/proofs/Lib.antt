@@ -1,17 +1,17 @@
-mod BlockLists
+pub mod BlockLists
 mod Durable
 mod Excludes
 mod FirstGate
 mod Flushing
 mod Gates
-mod Lasts
+pub mod Lasts
 mod Laying
 mod Looking
-mod Moments
+pub mod Moments
 mod Numbering
 mod Parsing
-mod Progressing
+pub mod Progressing
 mod Ready
 mod Unique
-mod Walking
-mod Whole
+pub mod Walking
+pub mod Whole

@@ -1,0 +1,197 @@
+-- The record of an LSN, in the block that has it.
+use Rattle.std.proofs.Common.{◌≡◌, ℕ, zero, suc, ◌+◌, ◌-◌, ◌<◌, ◌≤◌, Bool, true, false, List, [], ◌∷◌, ◌++◌, length, get_or, drop, refl, sym, ◌∙◌, ap, subst, arith, append_assoc, length-append}
+use Rattle.std.specs.Prelude.{map, nat_le, if◌then◌else◌, ⊤}
+use Rattle.std.proofs.lemmas.Bool.{le-leb, lt-leb}
+use Rattle.log_blocks.specs.Batch.{numbered, records_in}
+use Rattle.std.specs.List.{All}
+use Rattle.log_blocks.specs.Log.{Block, body, open_gate, IsRun, IsSequence, first_lsn, next_lsn}
+use Rattle.log_blocks.specs.LogState.{LogState, Refused, firsts, lsn_behind, payload_at}
+use Rattle.log_blocks.specs.Opening.{places}
+use Rattle.log_blocks.specs.declared.header.Place.{Place}
+use Rattle.log_blocks.proofs.Whole.{behind_first, next_lsn-append}
+use Rattle.store_model.specs.declared.fault.Fault.{Fault}
+use Rattle.store_model.specs.declared.fault.Fault.TheVariants as faults
+use Rattle.wal_record.specs.Rules.{HasSpelling}
+use Rattle.wal_record.specs.declared.record.Record.{Record}
+use Rattle.log_manager.specs.Records.{AreIn, bytes_of}
+use Rattle.log_manager.specs.Managed.{HasLsn, IsAt, IsBadIn, IsBadRecord, NotRead, before_lsn, first_kept, with_batch}
+
+abbrev pub first_of : Block → ℕ
+first_of b = b.first
+
+-- the block at place i has the record of an LSN, and what stands before and behind its records
+pub record Found (all : List Block) (rs : List Record) (n lsn i : ℕ) : Type 0 where
+  pub own : List Record
+  pub front : List Record
+  pub back : List Record
+  pub is : rs ≡ front ++ (own ++ back)
+  pub spelled : All HasSpelling own
+  pub payload : payload_at all i ≡ bytes_of own
+  pub first : get_or (map first_of all) i 0 ≡ n + length front
+  pub within : lsn < n + length front + length own
+
+pub found_in : (n c lsn i : ℕ) (all : List Block) (rs : List Record) → IsRun n all → AreIn c all rs → HasLsn (map first_of all) lsn i → lsn < next_lsn n all → Found all rs n lsn i
+found_in n c lsn i [] rs run a h lt = absurd (omega (arith, h.within))
+found_in n c lsn zero (b ∷ bs) rs run a h lt = record {
+  own = a.0;
+  front = [];
+  back = a.1;
+  is = a.2;
+  spelled = a.3.spelled;
+  payload = a.3.payload;
+  first = omega (arith, run.0);
+  within = before bs run.2 lt (λ more. h.upto more);
+}
+  where
+    before : (bs : List Block) → IsRun (n + b.count) bs → lsn < next_lsn (n + b.count) bs → (1 < length (b.first ∷ map first_of bs) → lsn < get_or (map first_of bs) 0 0) → lsn < n + 0 + length a.0
+    before [] r last upto = omega (arith, last, a.3.count)
+    before (d ∷ ds) r last upto = omega (arith, upto (omega arith), r.0, a.3.count)
+found_in n c lsn (suc i) (b ∷ bs) rs run a h lt =
+    let f = found_in (n + b.count) b.checkpoint lsn i bs a.1 run.2 a.4
+    (record { within = omega (arith, h.within); from = h.from; upto = λ more. subst (λ m. lsn < get_or (b.first ∷ map first_of bs) m 0) (far i) (h.upto (omega (arith, more))) }) lt in
+    record {
+      own = f.own;
+      front = a.0 ++ f.front;
+      back = f.back;
+      is = a.2 ∙ ap (λ (l : List Record). a.0 ++ l) f.is ∙ sym (append_assoc a.0 f.front (f.own ++ f.back));
+      spelled = f.spelled;
+      payload = f.payload;
+      first = f.first ∙ both f.front;
+      within = omega (arith, f.within, both f.front);
+    }
+  where
+    far : (i : ℕ) → suc i + 1 ≡ suc (i + 1)
+    far i = omega arith
+
+    both : (l : List Record) → n + b.count + length l ≡ n + length (a.0 ++ l)
+    both l = omega (arith, a.3.count, length-append a.0 l)
+
+-- the record at its place in the block is the record at its place in the log
+pub found_at : (all : List Block) (rs : List Record) (n lsn i : ℕ) (r : Record) (f : Found all rs n lsn i) → get_or (map first_of all) i 0 ≤ lsn
+    → IsAt f.own (lsn - get_or (map first_of all) i 0) r → IsAt rs (lsn - n) r
+found_at all rs n lsn i r f from at = record {
+  front = f.front ++ at.front;
+  back = at.back ++ f.back;
+  is = f.is ∙ ap (λ (l : List Record). f.front ++ (l ++ f.back)) at.is ∙ ap (λ (l : List Record). f.front ++ l) (append_assoc at.front (r ∷ at.back) f.back)
+      ∙ sym (append_assoc f.front at.front (r ∷ at.back ++ f.back));
+  place = omega (arith, length-append f.front at.front, at.place, f.first, from);
+}
+
+-- a record before the end stays where it is
+pub at_more : (rs ss : List Record) (i : ℕ) (r : Record) → IsAt rs i r → IsAt (rs ++ ss) i r
+at_more rs ss i r at = record {
+  front = at.front;
+  back = at.back ++ ss;
+  is = ap (λ (l : List Record). l ++ ss) at.is ∙ append_assoc at.front (r ∷ at.back) ss;
+  place = at.place;
+}
+
+-- ---- the LSNs of a whole log
+
+pub firsts-places : (at : ℕ) (bs : List Block) → map (λ (p : Place). p.first) (places at bs) ≡ map first_of bs
+firsts-places at [] = refl
+firsts-places at (b ∷ bs) = ap (λ (l : List ℕ). b.first ∷ l) (firsts-places (at + length (open_gate ∷ body b)) bs)
+
+-- the LSN behind all blocks, where the pending ones go on with the LSNs of the durable ones
+pub next_of_all : (start : ℕ) (bs pending : List Block) → IsSequence start bs → IsRun (lsn_behind (places start bs)) pending
+    → next_lsn (lsn_behind (places start bs)) pending ≡ next_lsn (first_lsn (bs ++ pending)) (bs ++ pending)
+next_of_all start [] [] s run = refl
+next_of_all start [] (b ∷ pending) s run = ap (λ m. next_lsn m (b ∷ pending)) (sym run.0)
+next_of_all start (b ∷ bs) pending s run =
+    ap (λ m. next_lsn m pending) (behind_first start b bs s.run) ∙ sym (next_lsn-append b.first (b ∷ bs) pending)
+
+-- where no block has joined the log, the first record is the next one
+pub first_none : {D : Type 0} (log : LogState D) (bs : List Block) → length log.places + length log.pending ≡ 0 → log.next ≡ first_kept (with_batch log bs)
+first_none log bs none = by log.places log.pending bs none
+  where
+    by : (ps : List Place) (qs bs : List Block) → length ps + length qs ≡ 0
+        → log.next ≡ get_or (map (λ (p : Place). p.first) ps ++ map (λ (b : Block). b.first) (qs ++ numbered log.next bs)) 0 (log.next + records_in bs)
+    by [] [] [] e = omega arith
+    by [] [] (b ∷ bs) e = refl
+    by [] (q ∷ qs) bs e = absurd (omega (arith, e))
+    by (p ∷ ps) qs bs e = absurd (omega (arith, e))
+
+-- ---- blocks that end before an LSN
+
+-- the next one does, where the one behind it begins at or before the LSN
+pub before_more : (upto n m : ℕ) (ps : List Place) (ys : List ℕ) → m ≡ suc n → m < length ps → get_or (map (λ (p : Place). p.first) ps ++ ys) m 0 ≤ upto
+    → before_lsn upto (drop n ps) ≡ suc (before_lsn upto (drop m ps))
+before_more upto n m [] ys is lt le = absurd (omega (arith, lt))
+before_more upto zero m (p ∷ []) ys is lt le = absurd (omega (arith, lt, is))
+before_more upto zero m (p ∷ q ∷ ps) ys is lt le =
+    let first : q.first ≤ upto = subst (λ i. get_or (p.first ∷ q.first ∷ (map (λ (p : Place). p.first) ps ++ ys)) i 0 ≤ upto) is le in
+    ap (λ b. if b then suc (before_lsn upto (q ∷ ps)) else 0) (le-leb q.first upto first) ∙ ap (λ i. suc (before_lsn upto (drop i (p ∷ q ∷ ps)))) (sym is)
+before_more upto (suc n) m (p ∷ ps) ys is lt le =
+    let one : get_or (map (λ (p : Place). p.first) ps ++ ys) (suc n) 0 ≤ upto = subst (λ i. get_or (p.first ∷ (map (λ (p : Place). p.first) ps ++ ys)) i 0 ≤ upto) is le in
+    before_more upto n (suc n) ps ys refl (omega (arith, lt, is)) one ∙ ap (λ i. suc (before_lsn upto (drop i (p ∷ ps)))) (sym is)
+
+-- none does, where the one behind the next begins above the LSN
+pub before_none : (upto n m : ℕ) (ps : List Place) (ys : List ℕ) → m ≡ suc n → m < length ps → upto < get_or (map (λ (p : Place). p.first) ps ++ ys) m 0
+    → before_lsn upto (drop n ps) ≡ 0
+before_none upto n m [] ys is lt le = absurd (omega (arith, lt))
+before_none upto zero m (p ∷ []) ys is lt le = absurd (omega (arith, lt, is))
+before_none upto zero m (p ∷ q ∷ ps) ys is lt le =
+    let first : upto < q.first = subst (λ i. upto < get_or (p.first ∷ q.first ∷ (map (λ (p : Place). p.first) ps ++ ys)) i 0) is le in
+    ap (λ b. if b then suc (before_lsn upto (q ∷ ps)) else 0) (lt-leb q.first upto first)
+before_none upto (suc n) m (p ∷ ps) ys is lt le =
+    before_none upto n (suc n) ps ys refl (omega (arith, lt, is)) (subst (λ i. upto < get_or (p.first ∷ (map (λ (p : Place). p.first) ps ++ ys)) i 0) is le)
+
+-- nor where it is the last
+pub before_last : (upto n : ℕ) (ps : List Place) → length ps ≤ suc n → before_lsn upto (drop n ps) ≡ 0
+before_last upto zero [] le = refl
+before_last upto (suc n) [] le = refl
+before_last upto zero (p ∷ []) le = refl
+before_last upto zero (p ∷ q ∷ ps) le = absurd (omega (arith, le))
+before_last upto (suc n) (p ∷ ps) le = before_last upto n ps (omega (arith, le))
+
+-- at least one block stays
+pub before_small : (upto : ℕ) (ps : List Place) → before_lsn upto ps ≤ length ps - 1
+before_small upto [] = omega arith
+before_small upto (p ∷ []) = omega arith
+before_small upto (p ∷ q ∷ ps) = by (nat_le q.first upto) (before_small upto (q ∷ ps))
+  where
+    by : (b : Bool) → before_lsn upto (q ∷ ps) ≤ length (q ∷ ps) - 1 → (if b then suc (before_lsn upto (q ∷ ps)) else 0) ≤ length (p ∷ q ∷ ps) - 1
+    by true le = omega (arith, le)
+    by false le = omega arith
+
+-- the first record doesn't depend on the blocks in memory
+pub first_same : {D : Type 0} (log : LogState D) (bs : List Block) → first_kept (with_batch log bs) ≡ first_kept log
+first_same log bs = by log.places log.pending bs
+  where
+    by : (ps : List Place) (qs bs : List Block)
+        → get_or (map (λ (p : Place). p.first) ps ++ map (λ (b : Block). b.first) (qs ++ numbered log.next bs)) 0 (log.next + records_in bs)
+        ≡ get_or (map (λ (p : Place). p.first) ps ++ map (λ (b : Block). b.first) qs) 0 log.next
+    by [] [] [] = omega arith
+    by [] [] (b ∷ bs) = refl
+    by [] (q ∷ qs) bs = refl
+    by (p ∷ ps) qs bs = refl
+
+-- ---- a bad block
+
+pub payload-before : (xs ys : List Block) (i : ℕ) → i < length xs → payload_at (xs ++ ys) i ≡ payload_at xs i
+payload-before [] ys i lt = absurd (omega (arith, lt))
+payload-before (x ∷ xs) ys zero lt = refl
+payload-before (x ∷ xs) ys (suc i) lt = payload-before xs ys i (omega (arith, lt))
+
+-- what isn't read from a payload is bad in its block
+pub bad_in : (bs : List Block) (payload : List ℕ) (i : ℕ) (fault : Fault) → i < length bs → payload ≡ payload_at bs i → NotRead i payload fault → IsBadIn bs fault
+bad_in bs payload i faults.Memory lt is bad = tt
+bad_in bs payload i (faults.LogBad block byte) lt is bad =
+    subst (λ n. (n < length bs) × IsBadRecord (payload_at bs n) byte) (sym bad.0) (lt, subst (λ p. IsBadRecord p byte) is bad.1)
+bad_in bs payload i fault lt is bad = absurd bad
+
+-- a block that isn't read is not bad
+pub never_in : {D : Type 0} (count : D → ℕ) (old new : LogState D) (bs : List Block) (fault : Fault) → Refused ⊤ count old new fault → IsBadIn bs fault
+never_in count old new bs (faults.LogBad block byte) refused = absurd refused
+never_in count old new bs fault refused = tt
+
+pub length-firsts : {D : Type 0} (log : LogState D) → length (firsts log) ≡ length log.places + length log.pending
+length-firsts log = omega (arith, length-append (map (λ (p : Place). p.first) log.places) (map first_of log.pending), of_places log.places, of_blocks log.pending)
+  where
+    of_places : (ps : List Place) → length (map (λ (p : Place). p.first) ps) ≡ length ps
+    of_places [] = refl
+    of_places (p ∷ ps) = omega (arith, of_places ps)
+
+    of_blocks : (bs : List Block) → length (map first_of bs) ≡ length bs
+    of_blocks [] = refl
+    of_blocks (b ∷ bs) = omega (arith, of_blocks bs)

@@ -1,0 +1,278 @@
+-- What calls make of the records of a log.
+use Rattle.std.proofs.Common.{get_or, ◌≡◌, ◌⊎◌, inl, inr, ℕ, zero, suc, ◌+◌, ◌-◌, ◌<◌, ◌≤◌, List, [], ◌∷◌, ◌++◌, length, take, drop, max, refl, sym, ◌∙◌, ap, subst, arith, append-nil, append_assoc, take-append-drop}
+use Rattle.std.specs.Prelude.{map, Option}
+use Rattle.std.specs.List.{All}
+use Rattle.media.specs.Kept.{Kept}
+use Rattle.log_blocks.specs.Batch.{numbered, records_in, with_group}
+use Rattle.log_blocks.specs.Log.{Block, IsRun, IsSequence, StandsFor, StandsForSome, first_lsn, next_lsn}
+use Rattle.log_blocks.specs.LogState.{AreNumbered, IsDurable, LogState, checkpoint_of, firsts, last_or, lsn_behind, payload_at}
+use Rattle.log_blocks.specs.Opening.{places}
+use Rattle.log_blocks.specs.declared.header.Place.{Place}
+use Rattle.log_blocks.proofs.Lasts.{map-append}
+use Rattle.log_blocks.proofs.Progressing.{length-places}
+use Rattle.log_blocks.proofs.Walking.{next_above}
+use Rattle.log_blocks.proofs.Whole.{behind_first, lsn_after-drop, next_lsn-append, numbered_next, run_append, run_rest, sequence_whole}
+use Rattle.log_blocks.proofs.BlockLists.{run_front}
+use Rattle.wal_record.specs.Rules.{HasSpelling}
+use Rattle.wal_record.specs.declared.record.Record.{Record}
+use Rattle.log_manager.specs.declared.counted.Counted.{Counted}
+use Rattle.log_manager.specs.Records.{AreIn, AreRecordsOf, IsLogOf, StandsForRecords, bytes_of, checkpoint_after, checkpoint_in}
+use Rattle.log_manager.specs.Managed.{HasLsn, IsAt, IsCounted, first_kept, with_batch}
+use Rattle.log_manager.proofs.Counting.{checkpoint_of_block, checkpoints-places, group_run, without_first}
+use Rattle.log_manager.proofs.Finding.{at_more, first_of, firsts-places, found_at, found_in, next_of_all}
+use Rattle.log_manager.proofs.Joining.{checkpoint_in-append, group_in, in_append, in_drop, in_split, in_take}
+
+-- ---- the last Checkpoint
+
+-- the Checkpoint of blocks in a run is a record of theirs, or stands before them
+last_below : (n c : ℕ) (bs : List Block) → IsRun n bs → c ≤ n - 1 → checkpoint_in c bs ≤ next_lsn n bs - 1
+last_below n c [] run le = le
+last_below n c (b ∷ bs) run le = last_below (n + b.count) b.checkpoint bs run.2 (omega (arith, run.0, run.1.checkpoint))
+
+durable_below : (start : ℕ) (bs : List Block) → IsSequence start bs → checkpoint_in 0 bs ≤ lsn_behind (places start bs) - 1
+durable_below start [] s = omega arith
+durable_below start (b ∷ bs) s = omega (arith, last_below b.first 0 (b ∷ bs) s.run (omega arith), behind_first start b bs s.run)
+
+none_before : (before : ℕ) (bs : List Block) → (bs ≡ [] → before ≡ 0) → checkpoint_in 0 bs ≡ checkpoint_in before bs
+none_before before [] none = sym (none refl)
+none_before before (b ∷ bs) none = refl
+
+some_left : (n : ℕ) (ds : List Block) → n < length ds → drop n ds ≡ [] → ⊥
+some_left n [] lt e = omega (arith, lt)
+some_left zero (d ∷ ds) lt e = absurd cc
+some_left (suc n) (d ∷ ds) lt e = some_left n ds (omega (arith, lt)) e
+
+module _ {D : Type 0} (told : D → Kept) (may_leave : D → Kept → Type 0) where
+  abbrev Stands : LogState D → List Block → Type 0
+  Stands log bs = IsDurable told may_leave log bs
+
+  -- the durable blocks don't depend on those in memory
+  pub inner : (log : LogState D) (bs ds : List Block) → Stands (with_batch log bs) ds → Stands log ds
+  inner log bs ds d = record { stands = d.stands; only = d.only; places_are = d.places_are; gate_is = d.gate_is }
+
+  pub outer : (log : LogState D) (bs ds : List Block) → Stands log ds → Stands (with_batch log bs) ds
+  outer log bs ds d = record { stands = d.stands; only = d.only; places_are = d.places_are; gate_is = d.gate_is }
+
+  -- the Checkpoint that the headers tell is that of the records
+  checkpoint_told : (log : LogState D) (s w : List Record) (h : IsLogOf told may_leave log s w) → checkpoint_of log ≡ checkpoint_in (checkpoint_in h.records.before h.bs) log.pending
+  checkpoint_told log s w h =
+      ap (λ (l : List Place). last_or (last_or 0 (map (λ p. p.checkpoint) l)) (map checkpoint_of_block log.pending)) h.durable.places_are
+      ∙ ap (λ (l : List ℕ). last_or (last_or 0 l) (map checkpoint_of_block log.pending)) (checkpoints-places (told log.device).start h.bs)
+      ∙ ap (λ n. checkpoint_in n log.pending) (none_before h.records.before h.bs h.records.none)
+
+  checkpoint_below_next : (log : LogState D) (s w : List Record) → IsLogOf told may_leave log s w → checkpoint_of log ≤ log.next - 1
+  checkpoint_below_next log s w h =
+      let behind = ap (λ (l : List Place). lsn_behind l) h.durable.places_are in
+      let first = durable_below (told log.device).start h.bs h.durable.stands.sequence in
+      let last = last_below (lsn_behind log.places) (checkpoint_in 0 h.bs) log.pending h.numbered.run (omega (arith, first, behind)) in
+      let is = checkpoint_told log s w h ∙ ap (λ n. checkpoint_in n log.pending) (sym (none_before h.records.before h.bs h.records.none)) in
+      omega (arith, last, is, h.numbered.next)
+
+  -- what is counted is the Checkpoint of the records
+  pub checkpoint_counted : (log : LogState D) (bs : List Block) (spare : ℕ) (c : Counted) (s w : List Record) → IsCounted log bs spare c → IsLogOf told may_leave (with_batch log bs) s w
+      → c.checkpoint ≡ checkpoint_of (with_batch log bs)
+  checkpoint_counted log bs spare c s w counted h = omega (arith, counted.checkpoint, counted.count, checkpoint_below_next (with_batch log bs) s w h)
+
+  -- the blocks that have joined the log are numbered by themselves
+  pub inner_numbered : (log : LogState D) (bs : List Block) → AreNumbered (with_batch log bs) → AreNumbered log
+  inner_numbered log bs num =
+      let behind = lsn_behind log.places in
+      let next_is : log.next + records_in bs ≡ next_lsn (next_lsn behind log.pending) (numbered log.next bs) = num.next ∙ next_lsn-append behind log.pending (numbered log.next bs) in
+      record {
+        run = run_front behind log.pending (numbered log.next bs) num.run;
+        next = sym (start_of log.next (next_lsn behind log.pending) bs (run_rest behind log.pending (numbered log.next bs) num.run) next_is);
+      }
+    where
+      -- blocks that are numbered from an LSN on begin a run there, where they end where it ends
+      start_of : (n m : ℕ) (bs : List Block) → IsRun m (numbered n bs) → n + records_in bs ≡ next_lsn m (numbered n bs) → m ≡ n
+      start_of n m [] run e = omega (arith, e)
+      start_of n m (b ∷ bs) run e = sym run.0
+
+  -- ---- records join
+
+  pub grown : (log : LogState D) (bs : List Block) (spare k : ℕ) (c : Counted) (s w recs : List Record) → IsCounted log bs spare c → All HasSpelling recs
+      → 1 ≤ length recs → length recs ≤ 3 → 1 ≤ length (bytes_of recs) → length (bytes_of recs) ≤ 4194304 → log.next + c.records + length recs ≤ 9223372036854775808
+      → k ≡ checkpoint_after c.checkpoint (log.next + c.records) recs → k ≤ log.next + c.records + length recs - 1
+      → IsLogOf told may_leave (with_batch log bs) s w → IsLogOf told may_leave (with_batch log (with_group bs (length recs) k (bytes_of recs))) s (w ++ recs)
+  grown log bs spare k c s w recs counted spelled one three byte most bound is below h =
+      let bs2 = with_group bs (length recs) k (bytes_of recs) in
+      let before = checkpoint_in h.records.before h.bs in
+      let known : c.checkpoint ≡ checkpoint_in before (log.pending ++ numbered log.next bs) = checkpoint_counted log bs spare c s w counted h ∙ checkpoint_told (with_batch log bs) s w h in
+      let at : log.next + c.records ≡ log.next + records_in bs = omega (arith, counted.count) in
+      let is2 = is ∙ ap (λ n. checkpoint_after n (log.next + c.records) recs) known ∙ ap (λ n. checkpoint_after (checkpoint_in before (log.pending ++ numbered log.next bs)) n recs) at in
+      let behind = lsn_behind log.places in
+      let run : IsRun behind (log.pending ++ numbered log.next bs) = h.numbered.run in
+      let from : next_lsn behind log.pending ≡ log.next = sym (inner_numbered log bs h.numbered).next in
+      let some : 1 ≤ log.next = omega (arith, from, next_above behind log.pending) in
+      let run2 = group_run log.next bs (length recs) k (bytes_of recs) (subst (λ n. IsRun n (numbered log.next bs)) from (run_rest behind log.pending (numbered log.next bs) run))
+      some one three byte most (omega (arith, below, counted.count, one)) (omega (arith, bound, counted.count)) in
+      record {
+        bs = h.bs;
+        durable = outer log bs2 h.bs (inner log bs h.bs h.durable);
+        records = h.records;
+        more = group_in before log.next log.pending bs w recs k h.more spelled is2;
+        numbered = record {
+          run = run_append behind log.pending (numbered log.next bs2) (run_front behind log.pending (numbered log.next bs) run) (subst (λ n. IsRun n (numbered log.next bs2)) (sym from) run2);
+          next = sym (next_lsn-append behind log.pending (numbered log.next bs2) ∙ ap (λ n. next_lsn n (numbered log.next bs2)) from ∙ numbered_next log.next bs2);
+        };
+      }
+
+  -- ---- the disk at hand
+
+  -- the same blocks, on a disk that keeps them
+  pub kept_same : (old new : LogState D) (bs : List Block) (s w : List Record) → new ≡ record old { device = new.device; ended = new.ended } → ((ds : List Block) → Stands old ds → Stands new ds)
+      → IsLogOf told may_leave (with_batch old bs) s w → IsLogOf told may_leave (with_batch new bs) s w
+  kept_same old new bs s w same durable h = record {
+    bs = h.bs;
+    durable = outer new bs h.bs (durable h.bs (inner old bs h.bs h.durable));
+    records = h.records;
+    more = subst (λ (x : LogState D). AreIn (checkpoint_in h.records.before h.bs) (x.pending ++ numbered x.next bs) w) (sym same) h.more;
+    numbered = record {
+      run = subst (λ (x : LogState D). IsRun (lsn_behind x.places) (x.pending ++ numbered x.next bs)) (sym same) h.numbered.run;
+      next = subst (λ (x : LogState D). x.next + records_in bs ≡ next_lsn (lsn_behind x.places) (x.pending ++ numbered x.next bs)) (sym same) h.numbered.next;
+    };
+  }
+
+  -- all has been flushed
+  pub flushed : (old new : LogState D) (s w : List Record) → new.pending ≡ [] → AreNumbered new → ((ds : List Block) → Stands old ds → Stands new (ds ++ old.pending))
+      → IsLogOf told may_leave old s w → IsLogOf told may_leave new (s ++ w) []
+  flushed old new s w none numbered durable h = record {
+    bs = h.bs ++ old.pending;
+    durable = durable h.bs h.durable;
+    records = record { before = h.records.before; none = λ e. h.records.none (front_none h.bs old.pending e); records = in_append h.records.before h.bs old.pending s w h.records.records h.more };
+    more = subst (λ (l : List Block). AreIn (checkpoint_in h.records.before (h.bs ++ old.pending)) l []) (sym none) refl;
+    numbered = numbered;
+  }
+    where
+      front_none : (xs ys : List Block) → xs ++ ys ≡ [] → xs ≡ []
+      front_none [] ys e = refl
+      front_none (x ∷ xs) ys e = absurd cc
+
+  -- what a crash within a flush leaves
+  pub some_flushed : (log : LogState D) (s w : List Record) (h : IsLogOf told may_leave log s w) (k : Kept) → StandsForSome h.bs log.pending k → (n : ℕ) × StandsForRecords (s ++ take n w) k
+  some_flushed log s w h k some =
+      let t = in_take (checkpoint_in h.records.before h.bs) some.whole log.pending w h.more in (
+        t.0,
+        record {
+          bs = h.bs ++ take some.whole log.pending;
+          stands = some.stands;
+          records = record { before = h.records.before; none = λ e. h.records.none (front_none h.bs (take some.whole log.pending) e); records = in_append h.records.before h.bs (take some.whole log.pending) s (take t.0 w) h.records.records t.1 };
+        },
+      )
+    where
+      front_none : (xs ys : List Block) → xs ++ ys ≡ [] → xs ≡ []
+      front_none [] ys e = refl
+      front_none (x ∷ xs) ys e = absurd cc
+
+  -- what the disk has now
+  pub none_flushed : (log : LogState D) (s w : List Record) → IsLogOf told may_leave log s w → (k : Kept) → may_leave log.device k → (n : ℕ) × StandsForRecords (s ++ take n w) k
+  none_flushed log s w h k left = (
+    0,
+    record {
+      bs = h.bs;
+      stands = subst (StandsFor h.bs) (sym (h.durable.only k left)) h.durable.stands;
+      records = record { before = h.records.before; none = h.records.none; records = subst (AreIn h.records.before h.bs) (sym (append-nil s)) h.records.records };
+    },
+  )
+
+  -- a log that has just been opened
+  pub opened : (log : LogState D) (bs : List Block) (rs : List Record) → log.pending ≡ [] → AreNumbered log → Stands log bs → AreRecordsOf bs rs → IsLogOf told may_leave log rs []
+  opened log bs rs none numbered durable records = record {
+    bs = bs;
+    durable = durable;
+    records = records;
+    more = subst (λ (l : List Block). AreIn (checkpoint_in records.before bs) l []) (sym none) refl;
+    numbered = numbered;
+  }
+
+  -- ---- blocks that go
+
+  -- the log without its first n durable blocks
+  pub dropped : (old : LogState D) (device : D) (ended : Option ℕ) (bs : List Block) (s w : List Record) (n : ℕ) → n < length old.places
+      → ((ds : List Block) → Stands old ds → Stands (without_first old device ended n) (drop n ds))
+      → IsLogOf told may_leave (with_batch old bs) s w → (m : ℕ) × IsLogOf told may_leave (with_batch (without_first old device ended n) bs) (drop m s) w
+  dropped old device ended bs s w n lt durable h =
+      let before = h.records.before in
+      let some : n < length h.bs = omega (arith, lt, ap length h.durable.places_are, length-places (told old.device).start h.bs) in
+      let t = in_drop before n h.bs s h.records.records in
+      let same : checkpoint_in before h.bs ≡ checkpoint_in (checkpoint_in before (take n h.bs)) (drop n h.bs) =
+      ap (checkpoint_in before) (sym (take-append-drop n h.bs)) ∙ checkpoint_in-append before (take n h.bs) (drop n h.bs) in
+      let behind : lsn_behind old.places ≡ lsn_behind (drop n old.places) = ap (λ m. max 1 m) (sym (lsn_after-drop old.places n lt)) in
+      let new = without_first old device ended n in (
+        t.0,
+        record {
+          bs = drop n h.bs;
+          durable = outer new bs (drop n h.bs) (durable h.bs (inner old bs h.bs h.durable));
+          records = record { before = checkpoint_in before (take n h.bs); none = λ e. absurd (some_left n h.bs some e); records = t.1 };
+          more = subst (λ c. AreIn c (old.pending ++ numbered old.next bs) w) same h.more;
+          numbered = record {
+            run = subst (λ m. IsRun m (old.pending ++ numbered old.next bs)) behind h.numbered.run;
+            next = h.numbered.next ∙ ap (λ m. next_lsn m (old.pending ++ numbered old.next bs)) behind;
+          };
+        },
+      )
+
+  -- what a crash then leaves
+  pub all_or_dropped : (log : LogState D) (s w : List Record) (n : ℕ) (h : IsLogOf told may_leave log s w) → n < length log.places → (k : Kept)
+      → StandsFor h.bs k ⊎ StandsFor (drop n h.bs) k → (m : ℕ) × StandsForRecords (drop m s) k
+  all_or_dropped log s w n h lt k (inl stands) = (0, record { bs = h.bs; stands = stands; records = h.records })
+  all_or_dropped log s w n h lt k (inr stands) =
+      let some : n < length h.bs = omega (arith, lt, ap length h.durable.places_are, length-places (told log.device).start h.bs) in
+      let t = in_drop h.records.before n h.bs s h.records.records in (
+        t.0,
+        record {
+          bs = drop n h.bs;
+          stands = stands;
+          records = record { before = checkpoint_in h.records.before (take n h.bs); none = λ e. absurd (some_left n h.bs some e); records = t.1 };
+        },
+      )
+
+  -- what it leaves where none goes
+  pub none_dropped : (log : LogState D) (s w : List Record) → IsLogOf told may_leave log s w → (k : Kept) → may_leave log.device k → (m : ℕ) × StandsForRecords (drop m s) k
+  none_dropped log s w h k left = (0, record { bs = h.bs; stands = subst (StandsFor h.bs) (sym (h.durable.only k left)) h.durable.stands; records = h.records })
+
+  -- ---- the record of an LSN
+
+  -- a block that has joined the log has the record
+  pub record Reached (log : LogState D) (bs : List Block) (s w : List Record) (lsn i : ℕ) : Type 0 where
+    pub own : List Record
+    pub spelled : All HasSpelling own
+    pub payload : payload_at (bs ++ log.pending) i ≡ bytes_of own
+    pub place : lsn - get_or (firsts log) i 0 < length own
+    pub at : (r : Record) → IsAt own (lsn - get_or (firsts log) i 0) r → IsAt (s ++ w) (lsn - first_kept log) r
+
+  pub reached : (log : LogState D) (bs : List Block) (s w : List Record) (lsn i : ℕ) (h : IsLogOf told may_leave (with_batch log bs) s w) → HasLsn (firsts log) lsn i → lsn < log.next
+      → Reached log h.bs s w lsn i
+  reached log bs s w lsn i h has lt =
+      let ds = h.bs in
+      let all = ds ++ log.pending in
+      let before = h.records.before in
+      let start = (told log.device).start in
+      let split = in_split (checkpoint_in before ds) log.pending (numbered log.next bs) w h.more in
+      let num = inner_numbered log bs h.numbered in
+      let run = subst (λ (l : List Place). IsRun (lsn_behind l) log.pending) h.durable.places_are num.run in
+      let sequence = sequence_whole start ds log.pending h.durable.stands.sequence run in
+      let n = first_lsn all in
+      let is : firsts log ≡ map first_of all =
+      ap (λ (l : List Place). map (λ (p : Place). p.first) l ++ map first_of log.pending) h.durable.places_are
+      ∙ ap (λ (l : List ℕ). l ++ map first_of log.pending) (firsts-places start ds) ∙ sym (map-append first_of ds log.pending) in
+      let next : log.next ≡ next_lsn n all = num.next ∙ ap (λ (l : List Place). next_lsn (lsn_behind l) log.pending) h.durable.places_are
+      ∙ next_of_all start ds log.pending h.durable.stands.sequence run in
+      let has2 = subst (λ (l : List ℕ). HasLsn l lsn i) is has in
+      let f = found_in n before lsn i all (s ++ split.0) sequence.run (in_append before ds log.pending s split.0 h.records.records split.3) has2 (omega (arith, lt, next)) in
+      let first : get_or (firsts log) i 0 ≡ get_or (map first_of all) i 0 = ap (λ (l : List ℕ). get_or l i 0) is in
+      let kept : first_kept log ≡ n = ap (λ (l : List ℕ). get_or l 0 log.next) is ∙ head_first all log.next i has2.within in
+      let whole : (s ++ split.0) ++ split.1 ≡ s ++ w = append_assoc s split.0 split.1 ∙ ap (λ (l : List Record). s ++ l) (sym split.2) in
+      record {
+        own = f.own;
+        spelled = f.spelled;
+        payload = f.payload;
+        place = omega (arith, first, f.first, f.within, has2.from);
+        at = λ r at. subst (λ m. IsAt (s ++ w) (lsn - m) r) (sym kept)
+            (subst (λ (l : List Record). IsAt l (lsn - n) r) whole
+            (at_more (s ++ split.0) split.1 (lsn - n) r (found_at all (s ++ split.0) n lsn i r f has2.from (subst (λ m. IsAt f.own (lsn - m) r) first at))));
+      }
+    where
+      head_first : (all : List Block) (d i : ℕ) → i < length (map first_of all) → get_or (map first_of all) 0 d ≡ first_lsn all
+      head_first [] d i lt = absurd (omega (arith, lt))
+      head_first (b ∷ bs) d i lt = refl

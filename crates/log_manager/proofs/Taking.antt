@@ -1,0 +1,127 @@
+-- Records of a payload, read one by one.
+use Rattle.std.proofs.Common.{◌≡◌, ℕ, suc, ◌+◌, ◌<◌, ◌≤◌, List, [], ◌∷◌, ◌++◌, length, take, drop, refl, sym, ◌∙◌, ap, subst, arith, append_assoc, append-nil, length-append, length-drop, length-take, take-append-drop}
+use Rattle.std.specs.List.{All}
+use Rattle.std.proofs.lemmas.Grind.{flat_map-append}
+use Rattle.std.proofs.lemmas.List.{drop_at}
+use Rattle.std.proofs.Math.Seq.{drop-append-add}
+use Rattle.wal_record.specs.Rules.{HasSpelling}
+use Rattle.std.specs.Int.{w32, w64}
+use Rattle.std.specs.Prelude.{Result, Ok, Err, IfOk, IfErr}
+use Rattle.wal_record.specs.Spelling.{number_bytes, spelling}
+use Rattle.wal_record.specs.declared.record.Record.{Record}
+use Rattle.wal_record.specs.declared.record.Record.TheVariants as kinds
+use Rattle.log_manager.specs.Records.{bytes_of}
+
+-- these records stand before a byte of the payload
+pub record Reads (payload : List ℕ) (at : ℕ) (front : List Record) : Type 0 where
+  pub at_is : at ≡ length (bytes_of front)
+  pub bytes : payload ≡ bytes_of front ++ drop at payload
+
+pub bytes_of-push : (rs : List Record) (r : Record) → bytes_of (rs ++ r ∷ []) ≡ bytes_of rs ++ spelling r
+bytes_of-push rs r = flat_map-append spelling rs (r ∷ []) ∙ ap (λ (l : List ℕ). bytes_of rs ++ l) (append-nil (spelling r))
+
+pub reads_none : (payload : List ℕ) → Reads payload 0 []
+reads_none payload = record { at_is = refl; bytes = refl }
+
+-- one record more is read
+pub reads_more : (payload : List ℕ) (at next : ℕ) (front : List Record) (r : Record) → Reads payload at front → drop at payload ≡ spelling r ++ drop next payload
+    → at ≤ length payload → next ≤ length payload → Reads payload next (front ++ r ∷ [])
+reads_more payload at next front r reads is le le2 = record {
+  at_is = omega (
+    arith,
+    reads.at_is,
+    ap length is,
+    length-append (spelling r) (drop next payload),
+    length-drop at payload,
+    length-drop next payload,
+    le,
+    le2,
+    ap length (bytes_of-push front r),
+    length-append (bytes_of front) (spelling r),
+  );
+  bytes = reads.bytes ∙ ap (λ (l : List ℕ). bytes_of front ++ l) is ∙ sym (append_assoc (bytes_of front) (spelling r) (drop next payload))
+      ∙ ap (λ (l : List ℕ). l ++ drop next payload) (sym (bytes_of-push front r));
+}
+
+-- what is left of the payload of these records
+pub left_over : (payload : List ℕ) (at : ℕ) (front back : List Record) → Reads payload at front → payload ≡ bytes_of (front ++ back) → drop at payload ≡ bytes_of back
+left_over payload at front back reads is =
+    ap (drop at) (is ∙ flat_map-append spelling front back) ∙ drop_at (bytes_of front) (bytes_of back) at (sym reads.at_is)
+
+-- the records that were read are the first of those that the payload has
+abbrev pub Agrees : List ℕ → ℕ → List Record → Type 0
+Agrees payload place front = (rs : List Record) → All HasSpelling rs → payload ≡ bytes_of rs → place < length rs → (back : List Record) × (rs ≡ front ++ back)
+
+all_at : (front back : List Record) (r : Record) → All HasSpelling (front ++ r ∷ back) → HasSpelling r
+all_at [] back r all = all 0 r (omega arith)
+all_at (x ∷ front) back r all = all_at front back r (λ k d lt. all (suc k) d (omega (arith, lt)))
+
+-- the record that is read next is the next one that the payload has
+pub next_agrees : (payload : List ℕ) (at place : ℕ) (front : List Record) → Reads payload at front → Agrees payload place front → (rs : List Record) → All HasSpelling rs
+    → payload ≡ bytes_of rs → place < length rs → length front ≤ place
+    → (r : Record) × (back : List Record) × (rs ≡ front ++ r ∷ back) × HasSpelling r × (drop at payload ≡ spelling r ++ bytes_of back)
+next_agrees payload at place front reads agrees rs spelled is lt le =
+    let a = agrees rs spelled is lt in
+    by a.0 a.1
+  where
+    by : (back : List Record) → rs ≡ front ++ back → (r : Record) × (back : List Record) × (rs ≡ front ++ r ∷ back) × HasSpelling r × (drop at payload ≡ spelling r ++ bytes_of back)
+    by [] e = absurd (omega (arith, ap length (e ∙ append-nil front), lt, le))
+    by (r ∷ back) e = (r, back, e, all_at front back r (subst (All HasSpelling) e spelled), left_over payload at front (r ∷ back) reads (is ∙ ap bytes_of e))
+
+pub drop_twice : (m n : ℕ) (l : List ℕ) → m ≤ length l → drop n (drop m l) ≡ drop (m + n) l
+drop_twice m n l le =
+    let at : length (take m l) ≡ m = omega (arith, length-take m l, le) in
+    sym (drop-append-add (take m l) (drop m l) n) ∙ ap (drop (length (take m l) + n)) (take-append-drop m l) ∙ ap (λ k. drop (k + n) l) at
+
+-- a spelling in front, and what is behind it
+pub in_front : (payload rest spelled : List ℕ) (at len : ℕ) → rest ≡ drop at payload → at ≤ length payload → take len rest ≡ spelled → drop at payload ≡ spelled ++ drop (at + len) payload
+in_front payload rest spelled at len is le front =
+    sym is ∙ sym (take-append-drop len rest) ∙ ap (λ (l : List ℕ). l ++ drop len rest) front ∙ ap (λ (l : List ℕ). spelled ++ drop len l) is
+    ∙ ap (λ (l : List ℕ). spelled ++ l) (drop_twice at len payload le)
+
+-- ---- a Commit
+
+length-u64 : (n : ℕ) → length (number_bytes w64 n) ≡ 8
+unfolding number_bytes
+length-u64 n = refl
+
+pub length-u32 : (n : ℕ) → length (number_bytes w32 n) ≡ 4
+unfolding number_bytes
+length-u32 n = refl
+
+pub length-commit : (tx prev : ℕ) → length (spelling (kinds.Commit (record { tx = tx; prev = prev }))) ≡ 17
+length-commit tx prev = omega (arith, length-append (number_bytes w64 tx) (number_bytes w64 prev), length-u64 tx, length-u64 prev)
+
+-- ---- a spelling has a byte
+
+some_byte : (r : Record) → 1 ≤ length (spelling r)
+some_byte (kinds.Format x) = omega arith
+some_byte (kinds.Write x) = omega arith
+some_byte (kinds.Apply x) = omega arith
+some_byte (kinds.Undo x) = omega arith
+some_byte (kinds.Commit x) = omega arith
+some_byte (kinds.End x) = omega arith
+some_byte (kinds.Split x) = omega arith
+some_byte (kinds.Adopt x) = omega arith
+some_byte (kinds.Grow x) = omega arith
+some_byte (kinds.Purge x) = omega arith
+some_byte (kinds.Written x) = omega arith
+some_byte (kinds.Checkpoint x) = omega arith
+some_byte (kinds.BackupDone x) = omega arith
+some_byte (kinds.RunDone x) = omega arith
+some_byte (kinds.Lost x) = omega arith
+some_byte (kinds.Restored x) = omega arith
+
+pub some_bytes : (rs : List Record) → 1 ≤ length rs → 1 ≤ length (bytes_of rs)
+some_bytes [] one = absurd (omega (arith, one))
+some_bytes (r ∷ rs) one = omega (arith, some_byte r, length-append (spelling r) (bytes_of rs))
+
+-- ---- an answer that is a fault or a record
+
+pub answer_map : {A E : Type 0} (x : Result A E) (P Q : A → Type 0) (F G : E → Type 0) → IfOk x P × IfErr x F → ((a : A) → P a → Q a) → ((e : E) → F e → G e) → IfOk x Q × IfErr x G
+answer_map (Ok a) P Q F G is p f = (p a is.0, tt)
+answer_map (Err e) P Q F G is p f = (tt, f e is.1)
+
+pub err_map : {A E : Type 0} (x : Result A E) (F G : E → Type 0) → IfErr x F → ((e : E) → F e → G e) → IfErr x G
+err_map (Ok a) F G is f = tt
+err_map (Err e) F G is f = f e is

@@ -1,0 +1,107 @@
+-- The log of records as contracts see it.
+use Rattle.std.specs.Prelude.{◌≡◌, ◌≤◌, ◌<◌, ◌+◌, ◌-◌, ◌*◌, ◌^◌, ℕ, suc, List, [], ◌∷◌, ◌++◌, length, min, None, Some, ⊤, nat_le, if◌then◌else◌, slice_index_or, Err}
+use Rattle.store_model.specs.declared.fault.Fault.{Fault}
+use Rattle.store_model.specs.declared.fault.Fault.TheVariants.{Memory, LogBad, Ended}
+use Rattle.log_blocks.specs.Batch.{numbered, records_in, IsChecked}
+use Rattle.log_blocks.specs.Log.{Block, blocks}
+use Rattle.log_blocks.specs.LogState.{LogState, Refused, checkpoint_of, firsts, log_end, payload_at}
+use Rattle.log_blocks.specs.declared.header.Place.{Place}
+use Rattle.wal_record.specs.Reading.{record_at}
+use Rattle.wal_record.specs.declared.record.Record.{Record}
+use Rattle.log_manager.specs.Records.{bytes_of}
+use Rattle.log_manager.specs.declared.counted.Counted.{Counted}
+
+-- the block log, with the blocks in memory among its pending ones, and for how many commits there is room
+pub record Managed (D : Type 0) : Type 0 where
+  pub log : LogState D
+  pub spare : ℕ
+
+-- the log once these blocks have joined its pending ones
+abbrev pub with_batch : {D : Type 0} → LogState D → List Block → LogState D
+with_batch log bs = record log { pending = log.pending ++ numbered log.next bs; next = log.next + records_in bs }
+
+-- the LSN of the first record that the log keeps, or will have
+abbrev pub first_kept : {D : Type 0} → LogState D → ℕ
+first_kept log = slice_index_or (firsts log) 0 log.next
+
+-- these records stand together at the end of one block
+pub record InOneBlock (recs : List Record) (pending : List Block) : Type 0 where
+  pub front : List Block
+  pub block : Block
+  pub own : List ℕ
+  pub is : pending ≡ front ++ block ∷ []
+  pub payload : block.payload ≡ own ++ bytes_of recs
+
+-- these records joined the pending ones, all in one block
+pub record HasMore {D : Type 0} (recs : List Record) (old new : LogState D) : Type 0 where
+  pub pending : List Block
+  pub is : new ≡ record old { pending = pending; next = old.next + length recs }
+  pub group : InOneBlock recs pending
+
+-- What is counted of the blocks in memory. Records, and commits to come, have their places in the log.
+pub record IsCounted {D : Type 0} (log : LogState D) (bs : List Block) (spare : ℕ) (c : Counted) : Type 0 where
+  pub checked : IsChecked log.next bs
+  pub count : c.records ≡ records_in bs
+  pub none : c.records ≡ 0 → bs ≡ []
+  pub size : length (blocks bs) + 40 * spare ≤ c.bytes
+  pub few : c.records + spare ≤ 2 ^ 62
+  pub short : c.bytes ≤ 2 ^ 62
+  pub places : 0 < c.records + spare → log.next + c.records + spare ≤ 2 ^ 62
+  pub room : 0 < c.records + spare → log_end log + c.bytes < 2 ^ 62
+  pub checkpoint : c.checkpoint ≡ min (checkpoint_of (with_batch log bs)) (log.next + c.records - 1)
+
+-- why a group isn't added
+abbrev pub NotAdded : {D : Type 0} → LogState D → Fault → Type 0
+NotAdded log Memory = log.ended ≡ None
+NotAdded log (Ended at) = log.ended ≡ Some at
+NotAdded log fault = ⊥
+
+-- how many of these durable blocks end before an LSN and aren't the last
+abbrev pub before_lsn : ℕ → List Place → ℕ
+before_lsn upto [] = 0
+before_lsn upto (p ∷ []) = 0
+before_lsn upto (p ∷ q ∷ ps) = if nat_le q.first upto then suc (before_lsn upto (q ∷ ps)) else 0
+
+-- Behind some records, the payload of a block has a field that is cut or breaks its rule; in the block it begins at
+-- this byte.
+pub record IsBadRecord (payload : List ℕ) (byte : ℕ) : Type 0 where
+  pub front : List Record
+  pub rest : List ℕ
+  pub left : ℕ
+  pub bytes : payload ≡ bytes_of front ++ rest
+  pub fault : record_at rest ≡ Err left
+  pub is : byte + left ≡ 23 + length payload
+
+-- why no record is read from a block with this number and payload
+abbrev pub NotRead : ℕ → List ℕ → Fault → Type 0
+NotRead number payload Memory = Unit {0}
+NotRead number payload (LogBad block byte) = (block ≡ number) × IsBadRecord payload byte
+NotRead number payload fault = ⊥
+
+-- where a block is named as bad, it is one of these, and its payload is bad there
+abbrev pub IsBadIn : List Block → Fault → Type 0
+IsBadIn bs (LogBad block byte) = (block < length bs) × IsBadRecord (payload_at bs block) byte
+IsBadIn bs fault = Unit {0}
+
+-- why a read is refused: the log had ended, its disk failed in this call and ended it, want of memory, or a block that
+-- holds no records there
+abbrev pub ReadRefused : {D : Type 0} → (D → ℕ) → LogState D → LogState D → Fault → Type 0
+ReadRefused faults old new (LogBad block byte) = (old.ended ≡ None) × (new.ended ≡ None)
+ReadRefused faults old new fault = Refused ⊤ faults old new fault
+
+abbrev pub IsNoBadLog : Fault → Type 0
+IsNoBadLog (LogBad block byte) = ⊥
+IsNoBadLog _ = Unit {0}
+
+-- of blocks with these first LSNs, the one at this place begins at or before an LSN, and the next one behind it
+pub record HasLsn (first : List ℕ) (lsn place : ℕ) : Type 0 where
+  pub within : place < length first
+  pub from : slice_index_or first place 0 ≤ lsn
+  pub upto : place + 1 < length first → lsn < slice_index_or first (place + 1) 0
+
+-- the record at this place
+pub record IsAt (rs : List Record) (i : ℕ) (r : Record) : Type 0 where
+  pub front : List Record
+  pub back : List Record
+  pub is : rs ≡ front ++ r ∷ back
+  pub place : length front ≡ i

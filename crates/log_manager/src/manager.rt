@@ -1,0 +1,343 @@
+//! The list of records, over blocks.
+ghost use Rattle.std.specs.Prelude.{◌≡◌, ◌⊎◌, ◌+◌, ◌-◌, ◌<◌, ◌≤◌, ◌^◌, ◌++◌, ◌∷◌, [], ℕ, List, length, drop, take, min, None, Some, OnOk, OnErr, IfOk, IfErr, slice_index_or};
+ghost use Rattle.std.specs.List.{All};
+ghost use Rattle.media.specs.Crash.{LeavesOnly};
+ghost use Rattle.store_model.specs.declared.fault.Fault.TheVariants as faults;
+ghost use Rattle.log_blocks.specs.Batch.{records_in};
+ghost use Rattle.log_blocks.specs.Log.{Block};
+ghost use Rattle.log_blocks.specs.LogState.{IsDurable, Refused, checkpoint_of, durable_lsn, firsts};
+ghost use Rattle.wal_record.specs.Rules.{HasSpelling};
+ghost use Rattle.wal_record.specs.declared.record.Record.{Record};
+ghost use Rattle.log_manager.specs.Records.{bytes_of, AreRecordsOf, IsLogOf, StandsForRecords};
+ghost use Rattle.log_manager.specs.Managed.{HasMore, HasLsn, IsAt, IsBadIn, IsCounted, IsNoBadLog, NotAdded, ReadRefused, before_lsn, first_kept, with_batch};
+
+use crate::counted::{COMMIT, Counted};
+use crate::reading::record_in;
+use crate::spelling::{last_checkpoint, spelled};
+use log_blocks::{Batch, BlockLog};
+use media::Disk;
+use record_codec::commit_bytes;
+use std::alloc::Global;
+use std::marker::Model;
+use store_model::{Fault, Lsn, Memory, TxId};
+use wal_record::{Commit, Record};
+
+/// The records of a log, from the first one that it keeps.
+#[derive(Drop)]
+pub struct LogManager<L: Disk> {
+    log: BlockLog<L>,
+    /// Blocks that haven't joined the log yet, and room for commits to come.
+    batch: Batch,
+    counted: Counted,
+}
+
+impl<L: Disk> Model for LogManager<L> {
+    ghost use Rattle.log_manager.specs.Managed.{Managed, IsCounted, with_batch};
+
+    ghost Value = { Managed L };
+
+    ghost view = { λ m. record { log = with_batch m.log m.batch.blocks; spare = m.batch.spare } };
+
+    ghost invariant = { λ m. IsCounted m.log m.batch.blocks m.batch.spare m.counted };
+}
+
+impl<L: Disk> LogManager<L> {
+    /// The list of records that the blocks of a log hold that has just been opened.
+    pub fn start(alloc: Global, log: BlockLog<L>) -> LogManager<L>
+        requires fresh { log.pending ≡ [] }
+        ensures same { result ≡ record { log = log; spare = 0 } }
+        ensures records { L.tells → (bs : List Block) (rs : List Record) → IsDurable L.told L.may_leave log bs → AreRecordsOf bs rs → IsLogOf L.told L.may_leave result.log rs [] }
+    {
+        let checkpoint = log.checkpoint().min(log.durable_lsn());
+        LogManager {
+            log,
+            batch: Batch::new(alloc),
+            counted: Counted {
+                records: 0,
+                bytes: 0,
+                checkpoint,
+            },
+        }
+    }
+
+    /// Adds one to three records at the end, all in one block. Gives the LSN of the first.
+    pub fn append_group(&mut self, alloc: Global, recs: &[Record]) -> Result<Lsn, Fault>
+        requires few { (1 ≤ length recs.now) × (length recs.now ≤ 3) }
+        requires spelled { All HasSpelling recs.now }
+        requires size { length (bytes_of recs.now) ≤ 4194304 }
+        ensures first { IfOk result (λ lsn. lsn ≡ self.old.log.next) }
+        ensures added { OnOk result (HasMore recs.now self.old.log self.new.log × (self.new.spare ≡ self.old.spare)) }
+        ensures records { L.tells → (stable waiting : List Record) → IsLogOf L.told L.may_leave self.old.log stable waiting
+            → OnOk result (IsLogOf L.told L.may_leave self.new.log stable (waiting ++ recs.now)) }
+        ensures live { OnOk result (self.old.log.ended ≡ None) }
+        ensures same { OnErr result (self.new ≡ self.old) }
+        ensures refused { IfErr result (NotAdded self.old.log) }
+    {
+        self.live()?;
+        let bytes = spelled(alloc, recs)?;
+        let count = count_of(recs);
+        let size = bytes.len() as u64;
+        let (next, end) = (self.log.next(), self.log.end());
+        if !self
+            .counted
+            .has_room(next, end, self.batch.spare(), count as u64, size)
+        {
+            return Err(Fault::Memory);
+        }
+        let first = self.log.next() + self.counted.records;
+        let checkpoint = last_checkpoint(self.counted.checkpoint, first, recs);
+        self.batch.push(count, checkpoint, &bytes)?;
+        self.counted.add(count as u64, size, checkpoint);
+        Ok(first)
+    }
+
+    /// Makes room for one more Commit.
+    pub fn reserve_commit(&mut self) -> Result<(), Memory>
+        ensures ok { OnOk result (self.new ≡ record self.old { spare = self.old.spare + 1 }) }
+        ensures same { OnErr result (self.new ≡ self.old) }
+    {
+        let (next, end) = (self.log.next(), self.log.end());
+        if !self
+            .counted
+            .has_room(next, end, self.batch.spare(), 1, COMMIT)
+        {
+            return Err(Memory);
+        }
+        self.batch.reserve_short()?;
+        self.counted.bytes += COMMIT;
+        Ok(())
+    }
+
+    /// Adds a Commit at the end, without memory. Gives its LSN.
+    pub fn append_commit(&mut self, tx: TxId, prev: Lsn) -> Lsn
+        requires spare { 1 ≤ self.old.spare }
+        requires spelled { HasSpelling (Record.Commit (record { tx = tx; prev = prev })) }
+        ensures lsn { result ≡ self.old.log.next }
+        ensures added { HasMore (Record.Commit (record { tx = tx; prev = prev }) ∷ []) self.old.log self.new.log × (self.new.spare + 1 ≡ self.old.spare) }
+        ensures records { L.tells → (stable waiting : List Record) → IsLogOf L.told L.may_leave self.old.log stable waiting
+            → IsLogOf L.told L.may_leave self.new.log stable (waiting ++ Record.Commit (record { tx = tx; prev = prev }) ∷ []) }
+    {
+        let lsn = self.log.next() + self.counted.records;
+        let commit = Commit { tx, prev };
+        self.batch
+            .push_short(self.counted.checkpoint, commit_bytes(&commit).as_slice());
+        self.counted.records += 1;
+        lsn
+    }
+
+    /// Makes all records up to this LSN stable.
+    pub fn flush_to(&mut self, lsn: Lsn) -> Result<(), Fault>
+        requires { lsn < self.old.log.next }
+        ensures records { L.tells → (stable waiting : List Record) → IsLogOf L.told L.may_leave self.old.log stable waiting
+            → OnOk result ((self.new ≡ self.old) ⊎ IsLogOf L.told L.may_leave self.new.log (stable ++ waiting) []) }
+        ensures durable { OnOk result (lsn ≤ durable_lsn self.new.log.places) }
+        ensures next { (self.new.log.next ≡ self.old.log.next) × (self.new.spare ≡ self.old.spare) }
+        // A crash at any moment leaves the stable records, then some of the waiting ones in order.
+        ensures any_moment { L.tells → (stable waiting : List Record) → IsLogOf L.told L.may_leave self.old.log stable waiting
+            → LeavesOnly L.moment L.left_since self.old.log.device self.new.log.device (λ k. (n : ℕ) × StandsForRecords (stable ++ take n waiting) k) }
+        ensures live { OnOk result ((self.old.log.ended ≡ None) × (self.new.log.ended ≡ None)) }
+        ensures refused { IfErr result (Refused ⊥ L.faults self.old.log self.new.log) }
+        ensures later { L.faults self.old.log.device ≤ L.faults self.new.log.device }
+    {
+        self.live()?;
+        if lsn <= self.durable() {
+            return Ok(());
+        }
+        hand_over(&mut self.log, &mut self.batch, &mut self.counted);
+        self.log.flush()?;
+        Ok(())
+    }
+
+    /// The record of an LSN that the log keeps.
+    pub fn read(&mut self, alloc: Global, lsn: Lsn) -> Result<Record, Fault>
+        requires kept { (first_kept self.old.log ≤ lsn) × (lsn < self.old.log.next) }
+        ensures found { L.tells → (stable waiting : List Record) → IsLogOf L.told L.may_leave self.old.log stable waiting
+            → IfOk result (IsAt (stable ++ waiting) (lsn - first_kept self.old.log)) × IfErr result IsNoBadLog }
+        // A block is named as bad only at the first field of its payload, behind some records, that is cut or breaks its rule.
+        ensures bad { L.tells → (bs : List Block) → IsDurable L.told L.may_leave self.old.log bs → IfErr result (IsBadIn (bs ++ self.old.log.pending)) }
+        ensures records { L.tells → (stable waiting : List Record) → IsLogOf L.told L.may_leave self.old.log stable waiting → IsLogOf L.told L.may_leave self.new.log stable waiting }
+        ensures same { self.new ≡ record self.old { log = record self.old.log { device = self.new.log.device; ended = self.new.log.ended } } }
+        ensures any_moment { LeavesOnly L.moment L.left_since self.old.log.device self.new.log.device (λ k. L.may_leave self.old.log.device k) }
+        ensures live { OnOk result ((self.old.log.ended ≡ None) × (self.new.log.ended ≡ None)) }
+        ensures refused { IfErr result (ReadRefused L.faults self.old.log self.new.log) }
+        ensures later { L.faults self.old.log.device ≤ L.faults self.new.log.device }
+    {
+        self.live()?;
+        reach(&mut self.log, &mut self.batch, &mut self.counted, lsn);
+        let block = block_of(&self.log, lsn);
+        let mut payload = Vec::new(alloc);
+        self.log.read_block(block, &mut payload)?;
+        record_in(alloc, block, &payload, lsn - self.log.first_of(block))
+    }
+
+    /// Forgets the durable blocks that end before an LSN, but never the last one.
+    pub fn recycle_to(&mut self, upto: Lsn) -> Result<(), Fault>
+        ensures dropped { OnOk result (self.new ≡ record self.old { log = record self.old.log { device = self.new.log.device; places = drop (before_lsn upto self.old.log.places) self.old.log.places } }) }
+        ensures same { OnErr result (self.new ≡ record self.old { log = record self.old.log { device = self.new.log.device; ended = self.new.log.ended } }) }
+        ensures records { L.tells → (stable waiting : List Record) → IsLogOf L.told L.may_leave self.old.log stable waiting
+            → OnOk result ((n : ℕ) × IsLogOf L.told L.may_leave self.new.log (drop n stable) waiting) }
+        // A crash at any moment leaves all stable records, or all but those.
+        ensures any_moment { L.tells → (stable waiting : List Record) → IsLogOf L.told L.may_leave self.old.log stable waiting
+            → LeavesOnly L.moment L.left_since self.old.log.device self.new.log.device (λ k. (n : ℕ) × StandsForRecords (drop n stable) k) }
+        ensures live { OnOk result ((self.old.log.ended ≡ None) × (self.new.log.ended ≡ None)) }
+        ensures refused { IfErr result (Refused ⊥ L.faults self.old.log self.new.log) }
+        ensures later { L.faults self.old.log.device ≤ L.faults self.new.log.device }
+    {
+        self.live()?;
+        let n = blocks_before(&self.log, upto);
+        if n == 0 {
+            return Ok(());
+        }
+        self.log.drop_front(n)?;
+        Ok(())
+    }
+
+    /// The LSN of the last stable record, 0 where none is stable.
+    pub fn durable(&self) -> Lsn
+        ensures { result ≡ durable_lsn self.now.log.places }
+    {
+        self.log.durable_lsn()
+    }
+
+    /// The LSN of the last record, 0 where there is none.
+    pub fn last(&self) -> Lsn
+        ensures { result ≡ self.now.log.next - 1 }
+    {
+        (self.log.next() + self.counted.records).saturating_sub(1)
+    }
+
+    /// The LSN of the first record that is kept; of the next record, where none is.
+    pub fn first_kept(&self) -> Lsn
+        ensures { result ≡ first_kept self.now.log }
+    {
+        if self.log.blocks() == 0 {
+            self.log.next()
+        } else {
+            self.log.first_of(0)
+        }
+    }
+
+    /// The LSN of the last Checkpoint, 0 where the log has none.
+    pub fn checkpoint(&self) -> Lsn
+        ensures { L.tells → (stable waiting : List Record) → IsLogOf L.told L.may_leave self.now.log stable waiting → result ≡ checkpoint_of self.now.log }
+    {
+        self.counted.checkpoint
+    }
+
+    /// For how many commits there is room.
+    pub fn spare(&self) -> usize
+        ensures { result ≡ self.now.spare }
+    {
+        self.batch.spare()
+    }
+
+    /// The durable LSN when a device call failed, if one has: then the log has ended.
+    pub fn ended(&self) -> Option<Lsn>
+        ensures { result ≡ self.now.log.ended }
+    {
+        self.log.ended()
+    }
+
+    /// Arms the disk's fuse, which lets n more calls pass, or renews it.
+    pub fn fuse(&mut self, n: Option<u64>)
+        ensures same { self.new ≡ record self.old { log = record self.old.log { device = self.new.log.device } } }
+        ensures records { L.tells → (stable waiting : List Record) → IsLogOf L.told L.may_leave self.old.log stable waiting → IsLogOf L.told L.may_leave self.new.log stable waiting }
+        ensures any_moment { LeavesOnly L.moment L.left_since self.old.log.device self.new.log.device (λ k. L.may_leave self.old.log.device k) }
+        ensures faults { L.faults self.new.log.device ≡ L.faults self.old.log.device }
+    {
+        self.log.fuse(n);
+    }
+
+    /// How many calls the disk's fuse has refused.
+    pub fn refused(&self) -> u64
+        ensures { result ≡ min (L.refused self.now.log.device) (2 ^ 64 - 1) }
+    {
+        self.log.refused()
+    }
+
+    /// The disk, as it is.
+    pub fn into_device(self) -> L
+        ensures { result ≡ self.log.device }
+    {
+        let LogManager { log, .. } = self;
+        log.into_device()
+    }
+
+    /// No device call has failed.
+    fn live(&self) -> Result<(), Fault>
+        ensures live { OnOk result (self.now.log.ended ≡ None) }
+        ensures ended { IfErr result (λ fault. (at : ℕ) × (fault ≡ faults.Ended at) × (self.now.log.ended ≡ Some at)) }
+    {
+        match self.log.ended() {
+            Some(at) => Err(Fault::Ended { at }),
+            None => Ok(()),
+        }
+    }
+}
+
+/// How many records a group has.
+fn count_of(recs: &[Record]) -> u16
+    requires { length recs.now ≤ 3 }
+    ensures { result ≡ length recs.now }
+{
+    recs.len() as u16
+}
+
+/// The blocks in memory join the pending ones of the log.
+fn hand_over<L: Disk>(log: &mut BlockLog<L>, batch: &mut Batch, counted: &mut Counted)
+    requires { IsCounted log.old batch.old.blocks batch.old.spare counted.old }
+    ensures log { log.new ≡ with_batch log.old batch.old.blocks }
+    ensures batch { batch.new ≡ record { blocks = []; spare = batch.old.spare } }
+    ensures counted { IsCounted log.new [] batch.old.spare counted.new }
+{
+    if batch.is_empty() {
+        return;
+    }
+    log.append_batch(batch);
+    counted.records = 0;
+    counted.bytes = COMMIT * batch.spare() as u64;
+}
+
+/// The blocks in memory join the log, where one of them has the record of this LSN.
+fn reach<L: Disk>(log: &mut BlockLog<L>, batch: &mut Batch, counted: &mut Counted, lsn: Lsn)
+    requires counted { IsCounted log.old batch.old.blocks batch.old.spare counted.old }
+    requires kept { lsn < log.old.next + records_in batch.old.blocks }
+    ensures same { with_batch log.new batch.new.blocks ≡ with_batch log.old batch.old.blocks }
+    ensures spare { batch.new.spare ≡ batch.old.spare }
+    ensures counted { IsCounted log.new batch.new.blocks batch.new.spare counted.new }
+    ensures reached { lsn < log.new.next }
+{
+    if lsn >= log.next() {
+        hand_over(log, batch, counted);
+    }
+}
+
+/// The number of the block that has the record of this LSN.
+fn block_of<L: Disk>(log: &BlockLog<L>, lsn: Lsn) -> u64
+    requires kept { (first_kept log.now ≤ lsn) × (lsn < log.now.next) }
+    ensures { HasLsn (firsts log.now) lsn result }
+{
+    let mut low = 0;
+    let mut high = log.blocks();
+    while high - low > 1 {
+        let middle = low + (high - low) / 2;
+        if log.first_of(middle) <= lsn {
+            low = middle;
+        } else {
+            high = middle;
+        }
+    }
+    low
+}
+
+/// How many durable blocks end before an LSN and aren't the last.
+fn blocks_before<L: Disk>(log: &BlockLog<L>, upto: Lsn) -> u64
+    ensures { result ≡ before_lsn upto log.now.places }
+{
+    let last = log.durable().saturating_sub(1);
+    let mut n = 0;
+    while n < last && log.first_of(n + 1) <= upto {
+        n += 1;
+    }
+    n
+}
