@@ -1,5 +1,6 @@
 //! Rows of records that are redone on a page.
-ghost use Rattle.std.specs.Prelude.{IfSome};
+ghost use Rattle.std.specs.Prelude.{◌≡◌, IfSome};
+ghost use Rattle.operators.specs.Means.{made_by};
 ghost use Rattle.wal_record.specs.State.{KeepsState};
 
 use crate::text::{bytes_of, image_of, record_of};
@@ -14,15 +15,21 @@ pub fn operators_of(alloc: Global) -> Result<Operators, AllocError> {
     Ok(Operators::new(
         Box::new(
             alloc,
-            |old: &Option<Value>, argument: &OpValue| add(old, argument),
+            |old: &Option<Value>, argument: &OpValue|
+                ensures { result ≡ made_by 1 old.now argument.now }
+            { add(old, argument) },
         )?,
         Box::new(
             alloc,
-            |old: &Option<Value>, argument: &OpValue| max(old, argument),
+            |old: &Option<Value>, argument: &OpValue|
+                ensures { result ≡ made_by 2 old.now argument.now }
+            { max(old, argument) },
         )?,
         Box::new(
             alloc,
-            |old: &Option<Value>, argument: &OpValue| join(old, argument),
+            |old: &Option<Value>, argument: &OpValue|
+                ensures { result ≡ made_by 3 old.now argument.now }
+            { join(old, argument) },
         )?,
     ))
 }

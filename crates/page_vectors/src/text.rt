@@ -43,14 +43,20 @@ pub fn record_of(alloc: Global, head: &str, fields: &str) -> Option<Record>
 }
 
 /// The one state that these bytes spell.
+fn state_in(alloc: Global, bytes: &[u8]) -> Option<PageState>
+    ensures { IfSome result KeepsState }
+{
+    match state_at(alloc, bytes) {
+        Ok((found, [])) => Some(found),
+        _ => None,
+    }
+}
+
 pub fn state_of(alloc: Global, text: &str) -> Option<PageState>
     ensures { IfSome result KeepsState }
 {
     let bytes = bytes_of(alloc, text)?;
-    match state_at(alloc, &bytes) {
-        Ok((found, [])) => Some(found),
-        _ => None,
-    }
+    state_in(alloc, &bytes)
 }
 
 /// The image of a page; `none` stands for none.
