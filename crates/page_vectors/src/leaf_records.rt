@@ -1,5 +1,5 @@
 //! The kinds of record that make a leaf or change rows of one.
-use crate::redone::{is_redone, operators_of};
+use crate::redone::odd_row;
 use std::test::Fail;
 
 const FORMATS: &str = "\
@@ -10,10 +10,7 @@ another page; 2; none; 00000008; =
 
 #[test]
 fn a_page_is_formatted_once(rt: HostRuntime) -> Result<(), Fail> {
-    let operators = operators_of(rt.alloc())?;
-    for row in FORMATS.lines() {
-        assert!(rt; is_redone(rt.alloc(), &operators, "01", row) == Some(true), "{row}");
-    }
+    assert_eq!(rt; odd_row(rt.alloc(), "01", FORMATS)?, None);
     Ok(())
 }
 
@@ -47,19 +44,13 @@ two; 1; 00 00 00 00 000d 4001 61*63 00 0100 76*256 4002 61*63 00 0100 76*256 400
 
 #[test]
 fn a_write_needs_its_old_value_at_a_key_of_the_page(rt: HostRuntime) -> Result<(), Fail> {
-    let operators = operators_of(rt.alloc())?;
-    for row in WRITES.lines() {
-        assert!(rt; is_redone(rt.alloc(), &operators, WRITE, row) == Some(true), "{row}");
-    }
+    assert_eq!(rt; odd_row(rt.alloc(), WRITE, WRITES)?, None);
     Ok(())
 }
 
 #[test]
 fn a_write_fills_a_page_to_its_last_byte(rt: HostRuntime) -> Result<(), Fail> {
-    let operators = operators_of(rt.alloc())?;
-    for row in LAST_BYTES.lines() {
-        assert!(rt; is_redone(rt.alloc(), &operators, WRITE, row) == Some(true), "{row}");
-    }
+    assert_eq!(rt; odd_row(rt.alloc(), WRITE, LAST_BYTES)?, None);
     Ok(())
 }
 
@@ -85,10 +76,7 @@ another page; 2; 00 00 00 00 0000; 016b 01 0135 00; =
 
 #[test]
 fn an_operator_needs_a_meaning_and_its_old_value(rt: HostRuntime) -> Result<(), Fail> {
-    let operators = operators_of(rt.alloc())?;
-    for row in APPLIES.lines() {
-        assert!(rt; is_redone(rt.alloc(), &operators, APPLY, row) == Some(true), "{row}");
-    }
+    assert_eq!(rt; odd_row(rt.alloc(), APPLY, APPLIES)?, None);
     Ok(())
 }
 
@@ -111,10 +99,7 @@ another page; 2; 00 00 00 00 0000; 016b 01000130 0000000000000005; =
 
 #[test]
 fn an_undo_restores_whatever_stands_there(rt: HostRuntime) -> Result<(), Fail> {
-    let operators = operators_of(rt.alloc())?;
-    for row in UNDOES.lines() {
-        assert!(rt; is_redone(rt.alloc(), &operators, UNDO, row) == Some(true), "{row}");
-    }
+    assert_eq!(rt; odd_row(rt.alloc(), UNDO, UNDOES)?, None);
     Ok(())
 }
 
@@ -130,9 +115,6 @@ another page; 2; 00 00 00 00 0001 016b 01 0000; 00000001 0000000000000009; =
 
 #[test]
 fn a_purge_needs_a_tombstone(rt: HostRuntime) -> Result<(), Fail> {
-    let operators = operators_of(rt.alloc())?;
-    for row in PURGES.lines() {
-        assert!(rt; is_redone(rt.alloc(), &operators, "0a", row) == Some(true), "{row}");
-    }
+    assert_eq!(rt; odd_row(rt.alloc(), "0a", PURGES)?, None);
     Ok(())
 }

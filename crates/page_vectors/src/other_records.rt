@@ -1,5 +1,5 @@
 //! The kinds of record that name no page.
-use crate::redone::{is_redone, operators_of};
+use crate::redone::odd_row;
 use std::test::Fail;
 
 const OTHERS: &str = "\
@@ -17,9 +17,6 @@ Written before there is an image; 1; none; 0b 00000001 0000000000000009; =
 
 #[test]
 fn other_records_change_no_page(rt: HostRuntime) -> Result<(), Fail> {
-    let operators = operators_of(rt.alloc())?;
-    for row in OTHERS.lines() {
-        assert!(rt; is_redone(rt.alloc(), &operators, "", row) == Some(true), "{row}");
-    }
+    assert_eq!(rt; odd_row(rt.alloc(), "", OTHERS)?, None);
     Ok(())
 }

@@ -11,8 +11,47 @@ use std::alloc::{AllocError, Global};
 use store_model::{OpValue, Value};
 use wal_record::PageState;
 
-pub fn operators_of(alloc: Global) -> Result<Operators, AllocError> {
-    Ok(Operators::new(
+/// Whether this is the image of a page; `none` stands for none.
+fn is_image(alloc: Global, image: &Option<PageState>, text: &str) -> Option<bool>
+    requires { IfSome image.now KeepsState }
+{
+    match image {
+        None => Some(text == "none"),
+        Some(state) => {
+            let mut out = Vec::new(alloc);
+            put_state(&mut out, state).ok()?;
+            let wanted = bytes_of(alloc, text)?;
+            Some(out.as_slice() == wanted.as_slice())
+        }
+    }
+}
+
+/// Whether a record is redone as its row says. A row is a name, the page, its image before, the fields of the record
+/// behind the head, and the image after; `=` stands for a record that isn't redone, and so changes nothing.
+fn is_redone(alloc: Global, operators: &Operators, head: &str, row: &str) -> Option<bool> {
+    let (_, row) = row.split_once("; ")?;
+    let (page, row) = row.split_once("; ")?;
+    let (before, row) = row.split_once("; ")?;
+    let (fields, after) = row.split_once("; ")?;
+    let page = page.parse::<u32>().ok()?;
+    let (wanted, after) = match after {
+        "=" => (false, before),
+        _ => (true, after),
+    };
+    let entry = record_of(alloc, head, fields)?;
+    let mut image = image_of(alloc, before)?;
+    let done = redo(alloc, &mut image, page, &entry, operators).ok()?;
+    let same = is_image(alloc, &image, after)?;
+    Some(done == wanted && same)
+}
+
+/// The first row of a table whose record isn't redone as it says.
+pub fn odd_row<'a>(
+    alloc: Global,
+    head: &str,
+    rows: &'a str,
+) -> Result<Option<&'a str>, AllocError> {
+    let operators = Operators::new(
         Box::new(
             alloc,
             |old: &Option<Value>, argument: &OpValue|
@@ -31,39 +70,11 @@ pub fn operators_of(alloc: Global) -> Result<Operators, AllocError> {
                 ensures { result ≡ made_by 3 old.now argument.now }
             { join(old, argument) },
         )?,
-    ))
-}
-
-/// Whether this is the image of a page; `none` stands for none.
-fn is_image(alloc: Global, image: &Option<PageState>, text: &str) -> Option<bool>
-    requires { IfSome image.now KeepsState }
-{
-    match image {
-        None => Some(text == "none"),
-        Some(state) => {
-            let mut out = Vec::new(alloc);
-            put_state(&mut out, state).ok()?;
-            let wanted = bytes_of(alloc, text)?;
-            Some(out.as_slice() == wanted.as_slice())
+    );
+    for row in rows.lines() {
+        if is_redone(alloc, &operators, head, row) != Some(true) {
+            return Ok(Some(row));
         }
     }
-}
-
-/// Whether a record is redone as its row says. A row is a name, the page, its image before, the fields of the record
-/// behind the head, and the image after; `=` stands for a record that isn't redone, and so changes nothing.
-pub fn is_redone(alloc: Global, operators: &Operators, head: &str, row: &str) -> Option<bool> {
-    let (_, row) = row.split_once("; ")?;
-    let (page, row) = row.split_once("; ")?;
-    let (before, row) = row.split_once("; ")?;
-    let (fields, after) = row.split_once("; ")?;
-    let page = page.parse::<u32>().ok()?;
-    let (wanted, after) = match after {
-        "=" => (false, before),
-        _ => (true, after),
-    };
-    let entry = record_of(alloc, head, fields)?;
-    let mut image = image_of(alloc, before)?;
-    let done = redo(alloc, &mut image, page, &entry, operators).ok()?;
-    let same = is_image(alloc, &image, after)?;
-    Some(done == wanted && same)
+    Ok(None)
 }

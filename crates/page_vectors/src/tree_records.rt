@@ -1,5 +1,5 @@
 //! The kinds of record that change the tree.
-use crate::redone::{is_redone, operators_of};
+use crate::redone::odd_row;
 use std::test::Fail;
 
 /// Page 1 is split, and page 2 is its new foster child.
@@ -25,10 +25,7 @@ a branch of another level; 1; 02 00 00 00 0002 00 00000003 016d 00000004; 01 016
 
 #[test]
 fn a_split_moves_exactly_the_upper_rows(rt: HostRuntime) -> Result<(), Fail> {
-    let operators = operators_of(rt.alloc())?;
-    for row in SPLITS.lines() {
-        assert!(rt; is_redone(rt.alloc(), &operators, SPLIT, row) == Some(true), "{row}");
-    }
+    assert_eq!(rt; odd_row(rt.alloc(), SPLIT, SPLITS)?, None);
     Ok(())
 }
 
@@ -42,10 +39,7 @@ no image; 2; none; 00 016e 00 00 0001 016e 00 000132; =
 
 #[test]
 fn no_page_is_split_from_itself(rt: HostRuntime) -> Result<(), Fail> {
-    let operators = operators_of(rt.alloc())?;
-    for row in TO_ITSELF_SPLITS.lines() {
-        assert!(rt; is_redone(rt.alloc(), &operators, TO_ITSELF, row) == Some(true), "{row}");
-    }
+    assert_eq!(rt; odd_row(rt.alloc(), TO_ITSELF, TO_ITSELF_SPLITS)?, None);
     Ok(())
 }
 
@@ -70,10 +64,7 @@ a page that is both; 1; 01 00 00 01016e00000002 0001 00 00000003; 00000001 00000
 
 #[test]
 fn an_adoption_moves_the_pointer_to_the_child(rt: HostRuntime) -> Result<(), Fail> {
-    let operators = operators_of(rt.alloc())?;
-    for row in ADOPTS.lines() {
-        assert!(rt; is_redone(rt.alloc(), &operators, "08", row) == Some(true), "{row}");
-    }
+    assert_eq!(rt; odd_row(rt.alloc(), "08", ADOPTS)?, None);
     Ok(())
 }
 
@@ -94,9 +85,6 @@ another page; 2; 00 00 00 01016e00000002 0001 0161 00 000131; 00 00 00 01016e000
 
 #[test]
 fn a_root_grows_over_its_foster_child(rt: HostRuntime) -> Result<(), Fail> {
-    let operators = operators_of(rt.alloc())?;
-    for row in GROWS.lines() {
-        assert!(rt; is_redone(rt.alloc(), &operators, GROW, row) == Some(true), "{row}");
-    }
+    assert_eq!(rt; odd_row(rt.alloc(), GROW, GROWS)?, None);
     Ok(())
 }
