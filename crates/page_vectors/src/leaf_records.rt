@@ -1,5 +1,5 @@
 //! The kinds of record that make a leaf or change rows of one.
-use crate::redone::odd_row;
+use crate::redone::redo_all;
 use std::test::Fail;
 
 const FORMATS: &str = "\
@@ -10,8 +10,7 @@ another page; 2; none; 00000008; =
 
 #[test]
 fn a_page_is_formatted_once(rt: HostRuntime) -> Result<(), Fail> {
-    assert_eq!(rt; odd_row(rt.alloc(), "01", FORMATS)?, None);
-    Ok(())
+    redo_all(rt.alloc(), "01", FORMATS)
 }
 
 /// Transaction 3 writes on page 1.
@@ -44,14 +43,12 @@ two; 1; 00 00 00 00 000d 4001 61*63 00 0100 76*256 4002 61*63 00 0100 76*256 400
 
 #[test]
 fn a_write_needs_its_old_value_at_a_key_of_the_page(rt: HostRuntime) -> Result<(), Fail> {
-    assert_eq!(rt; odd_row(rt.alloc(), WRITE, WRITES)?, None);
-    Ok(())
+    redo_all(rt.alloc(), WRITE, WRITES)
 }
 
 #[test]
 fn a_write_fills_a_page_to_its_last_byte(rt: HostRuntime) -> Result<(), Fail> {
-    assert_eq!(rt; odd_row(rt.alloc(), WRITE, LAST_BYTES)?, None);
-    Ok(())
+    redo_all(rt.alloc(), WRITE, LAST_BYTES)
 }
 
 /// Transaction 3 applies an operator on page 1.
@@ -76,8 +73,7 @@ another page; 2; 00 00 00 00 0000; 016b 01 0135 00; =
 
 #[test]
 fn an_operator_needs_a_meaning_and_its_old_value(rt: HostRuntime) -> Result<(), Fail> {
-    assert_eq!(rt; odd_row(rt.alloc(), APPLY, APPLIES)?, None);
-    Ok(())
+    redo_all(rt.alloc(), APPLY, APPLIES)
 }
 
 /// Transaction 3 takes back a write on page 1.
@@ -99,8 +95,7 @@ another page; 2; 00 00 00 00 0000; 016b 01000130 0000000000000005; =
 
 #[test]
 fn an_undo_restores_whatever_stands_there(rt: HostRuntime) -> Result<(), Fail> {
-    assert_eq!(rt; odd_row(rt.alloc(), UNDO, UNDOES)?, None);
-    Ok(())
+    redo_all(rt.alloc(), UNDO, UNDOES)
 }
 
 const PURGES: &str = "\
@@ -115,6 +110,5 @@ another page; 2; 00 00 00 00 0001 016b 01 0000; 00000001 0000000000000009; =
 
 #[test]
 fn a_purge_needs_a_tombstone(rt: HostRuntime) -> Result<(), Fail> {
-    assert_eq!(rt; odd_row(rt.alloc(), "0a", PURGES)?, None);
-    Ok(())
+    redo_all(rt.alloc(), "0a", PURGES)
 }

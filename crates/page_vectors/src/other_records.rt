@@ -1,5 +1,5 @@
 //! The kinds of record that name no page.
-use crate::redone::odd_row;
+use crate::redone::redo_all;
 use std::test::Fail;
 
 const OTHERS: &str = "\
@@ -17,6 +17,5 @@ Written before there is an image; 1; none; 0b 00000001 0000000000000009; =
 
 #[test]
 fn other_records_change_no_page(rt: HostRuntime) -> Result<(), Fail> {
-    assert_eq!(rt; odd_row(rt.alloc(), "", OTHERS)?, None);
-    Ok(())
+    redo_all(rt.alloc(), "", OTHERS)
 }

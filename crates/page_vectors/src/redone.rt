@@ -7,7 +7,8 @@ use crate::text::{bytes_of, image_of, record_of};
 use operators::{Operators, add, join, max};
 use page_rows::redo;
 use state_codec::put_state;
-use std::alloc::{AllocError, Global};
+use std::alloc::Global;
+use std::test::Fail;
 use store_model::{OpValue, Value};
 use wal_record::PageState;
 
@@ -45,12 +46,8 @@ fn is_redone(alloc: Global, operators: &Operators, head: &str, row: &str) -> Opt
     Some(done == wanted && same)
 }
 
-/// The first row of a table whose record isn't redone as it says.
-pub fn odd_row<'a>(
-    alloc: Global,
-    head: &str,
-    rows: &'a str,
-) -> Result<Option<&'a str>, AllocError> {
+/// Redoes the record of each row of a table, and fails at the first that isn't redone as it says.
+pub fn redo_all(alloc: Global, head: &str, rows: &str) -> Result<(), Fail> {
     let operators = Operators::new(
         Box::new(
             alloc,
@@ -73,8 +70,8 @@ pub fn odd_row<'a>(
     );
     for row in rows.lines() {
         if is_redone(alloc, &operators, head, row) != Some(true) {
-            return Ok(Some(row));
+            return Err(Fail::new(row));
         }
     }
-    Ok(None)
+    Ok(())
 }

@@ -1,5 +1,5 @@
 //! The kinds of record that change the tree.
-use crate::redone::odd_row;
+use crate::redone::redo_all;
 use std::test::Fail;
 
 /// Page 1 is split, and page 2 is its new foster child.
@@ -25,8 +25,7 @@ a branch of another level; 1; 02 00 00 00 0002 00 00000003 016d 00000004; 01 016
 
 #[test]
 fn a_split_moves_exactly_the_upper_rows(rt: HostRuntime) -> Result<(), Fail> {
-    assert_eq!(rt; odd_row(rt.alloc(), SPLIT, SPLITS)?, None);
-    Ok(())
+    redo_all(rt.alloc(), SPLIT, SPLITS)
 }
 
 /// A page that is said to be its own foster child.
@@ -39,8 +38,7 @@ no image; 2; none; 00 016e 00 00 0001 016e 00 000132; =
 
 #[test]
 fn no_page_is_split_from_itself(rt: HostRuntime) -> Result<(), Fail> {
-    assert_eq!(rt; odd_row(rt.alloc(), TO_ITSELF, TO_ITSELF_SPLITS)?, None);
-    Ok(())
+    redo_all(rt.alloc(), TO_ITSELF, TO_ITSELF_SPLITS)
 }
 
 /// Page 2 goes from its fosterer, page 3, to the parent, page 1.
@@ -64,8 +62,7 @@ a page that is both; 1; 01 00 00 01016e00000002 0001 00 00000003; 00000001 00000
 
 #[test]
 fn an_adoption_moves_the_pointer_to_the_child(rt: HostRuntime) -> Result<(), Fail> {
-    assert_eq!(rt; odd_row(rt.alloc(), "08", ADOPTS)?, None);
-    Ok(())
+    redo_all(rt.alloc(), "08", ADOPTS)
 }
 
 /// The root's content goes to page 3.
@@ -85,6 +82,5 @@ another page; 2; 00 00 00 01016e00000002 0001 0161 00 000131; 00 00 00 01016e000
 
 #[test]
 fn a_root_grows_over_its_foster_child(rt: HostRuntime) -> Result<(), Fail> {
-    assert_eq!(rt; odd_row(rt.alloc(), GROW, GROWS)?, None);
-    Ok(())
+    redo_all(rt.alloc(), GROW, GROWS)
 }
