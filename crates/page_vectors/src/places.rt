@@ -1,6 +1,4 @@
 //! Where keys stand among rows.
-ghost use Rattle.std.specs.Prelude.{IfSome};
-
 use crate::text::{bytes_of, state_of};
 use page_rows::{Spot, search};
 use std::alloc::Global;
