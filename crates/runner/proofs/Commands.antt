@@ -41,8 +41,8 @@ use Rattle.runner.specs.declared.session.Session.{Session}
 use Rattle.runner.specs.Active.{is_active}
 use Rattle.runner.specs.Leaf.{row_room}
 use Rattle.runner.specs.Printing.{escaped, shown}
-use Rattle.runner.specs.Turns.{Life, Active, Stage, IsAid, longer, opened, tx_of, is_known, is_lawful, no_life, without, Answers, Commits, CutCommit, IsRightLife, lives_of, formatted_log}
-use Rattle.runner.specs.Text.{kept_log, log_of_life}
+use Rattle.runner.specs.Turns.{Life, Active, Stage, IsAid, longer, opened, tx_of, is_known, is_lawful, no_life, without, Answers, Commits, CutCommit, IsRightLife, lives_of, formatted_log, MayPut, log_of_life}
+use Rattle.runner.specs.Text.{kept_log}
 use Rattle.runner.specs.declared.status.Status.{Status}
 use Rattle.runner.specs.declared.status.Status.TheVariants as statuses
 use Rattle.runner.specs.Causes.{IsOpenRefusal, IsDiskFault, IsFormatRefusal}
@@ -371,7 +371,7 @@ module _ {D : Type 0} (tells : Type 0) (told : D → Kept) (may_leave : D → Ke
           entries = es;
           fits = record {
             lawful = lawful_here;
-            row = subst (λ (x : Option ℕ). Answers x (requests.Get key) es) (sym tx_here) (lock ∷ [], z.tx, replies.Found (live rows key), refl, All-cons (IsAid z.tx (requests.Get key)) lock [] (refl, refl, refl) (All-nil (IsAid z.tx (requests.Get key))));
+            row = (tt, subst (λ (x : Option ℕ). Answers x (requests.Get key) es) (sym tx_here) (lock ∷ [], z.tx, replies.Found (live rows key), refl, All-cons (IsAid z.tx (requests.Get key)) lock [] (refl, refl, refl) (All-nil (IsAid z.tx (requests.Get key)))));
           };
           holds = record {
             past = h.past;
@@ -411,6 +411,11 @@ module _ {D : Type 0} (tells : Type 0) (told : D → Kept) (may_leave : D → Ke
       subst (λ (bs : List Block). Spells bs (h.life.disk.waiting ++ written o head rows key value ∷ [])) (sym entered) (spells_more z.batch.blocks h.life.disk.waiting (written o head rows key value) waits_here),
     )
 
+    -- the transaction may have another put
+    may_put : z.records < 4000 → MayPut (log_of_life s.life) (tx_of s.active name)
+    may_put few =
+        subst (MayPut (log_of_life s.life)) (sym tx_here) (subst (λ (x : Option Life). length (open_writes (log_of_life x) z.tx) < 4000) (sym h.life.is) (omega (arith, few, calm_here.log.opened.mine)))
+
     pub did_put : (new : Option Session) (rows' : List LeafRow) (head' lsn : ℕ) (key value out : List ℕ) → HasWritten lsn head key (live rows key) value session new → lsn ≡ log.next + records_by session → head' ≡ lsn → rows' ≡ with_row rows key value
         → IsTrue (is_key key) → IsTrue (is_value value) → sum_by leaf_row_size rows' ≤ row_room → z.records < 4000 → lsn < 2 ^ 62 → next < 2 ^ 62
         → out ≡ name ++ codes " put " ++ escaped key ++ (codes " was" ++ shown (live rows key)) ++ codes "\n"
@@ -428,12 +433,15 @@ module _ {D : Type 0} (tells : Type 0) (told : D → Kept) (may_leave : D → Ke
           entries = es;
           fits = record {
             lawful = lawful_here;
-            row = subst (λ (x : Option ℕ). Answers x (requests.Put key value) es) (sym tx_here) (
-              lock ∷ write ∷ [],
-              z.tx,
-              replies.Was (live rows key),
-              refl,
-              All-cons (IsAid z.tx (requests.Put key value)) lock (write ∷ []) (refl, refl, refl) (All-cons (IsAid z.tx (requests.Put key value)) write [] (refl, refl, refl) (All-nil (IsAid z.tx (requests.Put key value)))),
+            row = (
+              may_put few,
+              subst (λ (x : Option ℕ). Answers x (requests.Put key value) es) (sym tx_here) (
+                lock ∷ write ∷ [],
+                z.tx,
+                replies.Was (live rows key),
+                refl,
+                All-cons (IsAid z.tx (requests.Put key value)) lock (write ∷ []) (refl, refl, refl) (All-cons (IsAid z.tx (requests.Put key value)) write [] (refl, refl, refl) (All-nil (IsAid z.tx (requests.Put key value)))),
+              ),
             );
           };
           holds = record {

@@ -16,8 +16,7 @@ use Rattle.script.specs.declared.command.Command.{Command}
 use Rattle.script.specs.declared.command.Command.TheVariants as commands
 use Rattle.runner.specs.declared.status.Status.{Status}
 use Rattle.runner.specs.declared.status.Status.TheVariants as statuses
-use Rattle.runner.specs.Turns.{Stage, Cut, turn, stage_step, FitsAt, is_lawful, tx_of, lives, IsRightLife}
-use Rattle.runner.specs.Text.{log_of_life}
+use Rattle.runner.specs.Turns.{Stage, Cut, turn, stage_step, FitsAt, is_lawful, tx_of, lives, log_of_life, IsRightLife}
 use Rattle.runner.specs.LogDisk.{LeavesCut}
 
 -- the transaction has so many open writes that it may have no more

@@ -7,14 +7,13 @@ use Rattle.store_model.specs.declared.request.Request.TheVariants as requests
 use Rattle.store_model.specs.declared.reply.Reply.{Reply}
 use Rattle.store_model.specs.declared.reply.Reply.TheVariants as replies
 use Rattle.wal_record.specs.Checkpoints.{commits}
-use Rattle.wal_record.specs.History.{life_log}
 use Rattle.wal_record.specs.declared.record.Record.{Record}
 use Rattle.wal_record.specs.declared.entry.Entry.{Entry}
 use Rattle.wal_record.specs.declared.entry.Entry.TheVariants.{Said}
 use Rattle.script.specs.declared.command.Command.{Command}
 use Rattle.script.specs.declared.command.Command.TheVariants as commands
 use Rattle.runner.specs.Printing.{escaped, shown}
-use Rattle.runner.specs.Turns.{Turn, End, Done, Cut, Life, Stage, stage, longer}
+use Rattle.runner.specs.Turns.{Turn, End, Done, Cut, Life, Stage, stage, longer, log_of_life}
 
 -- the reply that was said
 abbrev pub said : List Entry → Option Reply
@@ -26,10 +25,6 @@ abbrev pub reply_text : Option Reply → List ℕ
 reply_text (Some (replies.Found v)) = shown v
 reply_text (Some (replies.Was v)) = codes " was" ++ shown v
 reply_text _ = []
-
-abbrev pub log_of_life : Option Life → List Record
-log_of_life None = []
-log_of_life (Some l) = life_log l.opening l.history
 
 abbrev pub kept_log : Option (List Record) → List Record
 kept_log None = []

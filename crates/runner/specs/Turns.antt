@@ -1,5 +1,5 @@
 -- Turns: a command of the script, what it added to the history of its life, and how it ended; and what turns leave.
-use Rattle.std.specs.Prelude.{◌≡◌, ℕ, List, [], ◌∷◌, ◌++◌, fold, Option, Some, None, Bool, true, false, not, if◌then◌else◌, IsTrue}
+use Rattle.std.specs.Prelude.{◌≡◌, ◌<◌, ℕ, List, [], ◌∷◌, ◌++◌, length, fold, Option, Some, None, Bool, true, false, not, if◌then◌else◌, IsTrue}
 use Rattle.std.specs.List.{All, list_any}
 use Rattle.store_model.specs.Along.{AllAlong}
 use Rattle.store_model.specs.Range.{point}
@@ -7,6 +7,8 @@ use Rattle.store_model.specs.declared.request.Request.{Request}
 use Rattle.store_model.specs.declared.request.Request.TheVariants as requests
 use Rattle.store_model.specs.declared.reply.Reply.{Reply}
 use Rattle.store_model.specs.declared.range.Mode.TheVariants.{Shared, Exclusive}
+use Rattle.wal_record.specs.History.{life_log}
+use Rattle.wal_record.specs.OpenWrites.{open_writes}
 use Rattle.wal_record.specs.declared.record.Record.{Record}
 use Rattle.wal_record.specs.declared.record.Record.TheVariants as kinds
 use Rattle.wal_record.specs.declared.entry.Entry.{Entry}
@@ -99,6 +101,11 @@ stage_step s t = stage_after s t.command t.entries t.end
 unfoldable pub stage : List Turn → Stage
 stage turns = fold stage_step begin_stage turns
 
+-- the log of a life so far
+abbrev pub log_of_life : Option Life → List Record
+log_of_life None = []
+log_of_life (Some l) = life_log l.opening l.history
+
 -- ---- which turn may stand where
 
 abbrev pub no_life : Option Life → Bool
@@ -125,6 +132,17 @@ IsAid tx (requests.Put key value) (Lock t range mode) = (t ≡ tx) × (range ≡
 IsAid tx (requests.Put key value) (Rec lsn (kinds.Write w)) = (w.tx ≡ tx) × (w.key ≡ key) × (w.new ≡ Some value)
 IsAid tx _ _ = ⊥
 
+-- a transaction that may have another put
+abbrev pub MayPut : List Record → Option ℕ → Type 0
+MayPut log None = ⊥
+MayPut log (Some tx) = length (open_writes log tx) < 4000
+
+-- the requests that are built: a get, and a put of such a transaction
+abbrev pub IsRequestBuilt : List Record → Option ℕ → Request → Type 0
+IsRequestBuilt log tx (requests.Get key) = Unit {0}
+IsRequestBuilt log tx (requests.Put key value) = MayPut log tx
+IsRequestBuilt log tx _ = ⊥
+
 -- a request is answered
 abbrev pub Answers : Option ℕ → Request → List Entry → Type 0
 Answers None request es = ⊥
@@ -144,7 +162,7 @@ DoneRow s commands.Nothing es = es ≡ []
 DoneRow s (commands.Format limit) es = (es ≡ []) × (limit ≡ None) × (s.kept ≡ None)
 DoneRow s commands.Open es = (es ≡ []) × ((log : List Record) × (s.kept ≡ Some log))
 DoneRow s (commands.Begin name) es = (s.active ≡ []) × (session : ℕ) × (tx : ℕ) × (es ≡ Began session tx ∷ [])
-DoneRow s (commands.Ask name request) es = Answers (tx_of s.active name) request es
+DoneRow s (commands.Ask name request) es = IsRequestBuilt (log_of_life s.life) (tx_of s.active name) request × Answers (tx_of s.active name) request es
 DoneRow s (commands.Commit name) es = Commits (tx_of s.active name) es
 DoneRow s _ es = ⊥
 
