@@ -71,10 +71,10 @@ fn a_put_is_read_and_committed(rt: HostRuntime) -> Result<(), Fail> {
 }
 
 #[test]
-fn a_key_has_at_most_64_bytes(rt: HostRuntime) -> Result<(), Fail> {
+fn a_key_has_at_most_64_bytes_and_a_value_256(rt: HostRuntime) -> Result<(), Fail> {
     let ran = run(
         &rt,
-        b"format\nopen\nbegin A\nput A KKKKKKKKKKKKKKKKKKKKKKKKKKKKKKKKKKKKKKKKKKKKKKKKKKKKKKKKKKKKKKKK %\nput A k v\nput A KKKKKKKKKKKKKKKKKKKKKKKKKKKKKKKKKKKKKKKKKKKKKKKKKKKKKKKKKKKKKKKKK 1\n".as_slice(),
+        b"format\nopen\nbegin A\nput A KKKKKKKKKKKKKKKKKKKKKKKKKKKKKKKKKKKKKKKKKKKKKKKKKKKKKKKKKKKKKKKK %\nput A k vvvvvvvvvvvvvvvvvvvvvvvvvvvvvvvvvvvvvvvvvvvvvvvvvvvvvvvvvvvvvvvvvvvvvvvvvvvvvvvvvvvvvvvvvvvvvvvvvvvvvvvvvvvvvvvvvvvvvvvvvvvvvvvvvvvvvvvvvvvvvvvvvvvvvvvvvvvvvvvvvvvvvvvvvvvvvvvvvvvvvvvvvvvvvvvvvvvvvvvvvvvvvvvvvvvvvvvvvvvvvvvvvvvvvvvvvvvvvvvvvvvvvvvvvvvvvvvv\nput A KKKKKKKKKKKKKKKKKKKKKKKKKKKKKKKKKKKKKKKKKKKKKKKKKKKKKKKKKKKKKKKKK 1\n".as_slice(),
     )?;
     assert_eq!(rt; ran.status, Status::Script { line: 6 });
     assert_eq!(rt;
