@@ -53,12 +53,9 @@ pub fn put_point(
     // The keys of the locks in the other mode are listed still.
     ensures stays { (p : PointLock) → is_listed keys.old p ≡ true → is_listed keys.new p ≡ true }
 {
-    let lock = PointLock {
-        key: key.copied(),
-        tx,
-    };
+    let lock = PointLock { key, tx };
     if !points.contains(&lock) {
-        list_key(alloc, keys, tx, &key)?;
+        list_key(alloc, keys, tx, &lock.key)?;
         points.insert(lock)?;
     }
     Ok(())

@@ -1,9 +1,6 @@
 -- Each point lock of the transaction was listed, so none is left; its range locks are gone with their list.
-use Rattle.std.proofs.Common.{◌≡◌, ℕ, true, refl, sym, ◌∙◌}
-use Rattle.std.specs.Prelude.{◌≢◌}
-use Rattle.std.specs.BTreeSet.{BTreeSet, contains}
-use Rattle.range_lock.specs.Tables.{all_locks, point_cmp}
-use Rattle.range_lock.specs.declared.entry.PointLock.{PointLock}
+use Rattle.std.proofs.Common.{refl, sym}
+use Rattle.range_lock.specs.Tables.{all_locks}
 use Rattle.range_lock.proofs.Changes.{AreGone, released, compatible_fewer, was_listed, never_listed, still_listed}
 use Rattle.range_lock.proofs.range_locks.RangeLocks.release_all.Goals as goal
 use Rattle.range_lock.proofs.range_locks.RangeLocks.release_all.Goals.{After-remove_listed-in-Some, In_default}
