@@ -41,7 +41,7 @@ abbrev pub Adds : List Lock → List Lock → Lock → Type 0
 Adds old new k = (l : Lock) → IsAmong l new ↔ ((l ≡ k) ⊎ IsAmong l old)
 
 module _ (old new others : List Lock) (k : Lock) (h : Adds old new k) where
-  pub adds_left : Adds (old ++ others) (new ++ others) k
+  adds_left : Adds (old ++ others) (new ++ others) k
   adds_left l = (
     λ g. elim (among_either l new others g) [
       | inl m ↦ elim ((h l).0 m) [ inl e ↦ inl e | inr n ↦ inr (among_left l old others n) ]
@@ -53,7 +53,7 @@ module _ (old new others : List Lock) (k : Lock) (h : Adds old new k) where
     ],
   )
 
-  pub adds_right : Adds (others ++ old) (others ++ new) k
+  adds_right : Adds (others ++ old) (others ++ new) k
   adds_right l = (
     λ g. elim (among_either l others new g) [
       | inl m ↦ inr (among_left l others old m)
@@ -96,7 +96,7 @@ pub has_after : {A E : Type 0} (r : Result A E) (s n : BTreeSet PointLock) (k : 
 has_after (Ok b) s n k ok err q h = (ok q).0 h
 has_after (Err e) s n k ok err q h = inr (ap (list_any (is_at (point_cmp q))) (sym err) ∙ h)
 
-pub points_add : (mode : Mode) (s n : BTreeSet PointLock) (k : PointLock) → ((q : PointLock) → Has n q ↔ ((q ≡ k) ⊎ Has s q))
+points_add : (mode : Mode) (s n : BTreeSet PointLock) (k : PointLock) → ((q : PointLock) → Has n q ↔ ((q ≡ k) ⊎ Has s q))
     → Adds (map (lock_at_point mode) s.keys) (map (lock_at_point mode) n.keys) (lock_at_point mode k)
 points_add mode s n k h l = (
   λ g. let p = held_point mode n l g in

@@ -36,12 +36,12 @@ module _ {A : Type 0} where
   among_either x (y ∷ xs) ys (inl e) = inl (inl e)
   among_either x (y ∷ xs) ys (inr h) = elim (among_either x xs ys h) [ inl l ↦ inl (inr l) | inr r ↦ inr r ]
 
-pub among_mapped : {A B : Type 0} (f : A → B) (x : A) (xs : List A) → IsAmong x xs → IsAmong (f x) (map f xs)
+among_mapped : {A B : Type 0} (f : A → B) (x : A) (xs : List A) → IsAmong x xs → IsAmong (f x) (map f xs)
 among_mapped f x [] h = absurd h
 among_mapped f x (y ∷ xs) (inl e) = inl (ap f e)
 among_mapped f x (y ∷ xs) (inr h) = inr (among_mapped f x xs h)
 
-pub among_map : {A B : Type 0} (f : A → B) (z : B) (xs : List A) → IsAmong z (map f xs) → (x : A) × IsAmong x xs × (z ≡ f x)
+among_map : {A B : Type 0} (f : A → B) (z : B) (xs : List A) → IsAmong z (map f xs) → (x : A) × IsAmong x xs × (z ≡ f x)
 among_map f z [] h = absurd h
 among_map f z (y ∷ xs) (inl e) = (y, inl refl, e)
 among_map f z (y ∷ xs) (inr h) = let r = among_map f z xs h in (r.0, inr r.1, r.2)
@@ -63,7 +63,7 @@ exact_point a b e =
     let p = tied (slice_cmp nat_cmp a.key b.key) _ e in
     λ i. record { key = exact_bytes a.key b.key p.0 i; tx = exact_unsigned a.tx b.tx p.1 i }
 
-pub point_itself : (a : PointLock) → point_cmp a a ≡ Equal
+point_itself : (a : PointLock) → point_cmp a a ≡ Equal
 point_itself a = rw (tied_itself nat_list_cmp_total a.key, tied_itself nat_cmp_total a.tx) refl
 
 pub is_equal : (o : Ordering) → is_eq o ≡ true → o ≡ Equal
@@ -83,11 +83,11 @@ pub or_true_right : (a b : Bool) → b ≡ true → (a || b) ≡ true
 or_true_right true b e = refl
 or_true_right false b e = e
 
-pub point_among : (p : PointLock) (ks : List PointLock) → list_any (is_at (point_cmp p)) ks ≡ true → IsAmong p ks
+point_among : (p : PointLock) (ks : List PointLock) → list_any (is_at (point_cmp p)) ks ≡ true → IsAmong p ks
 point_among p [] e = absurd cc
 point_among p (k ∷ ks) e = elim (either_true (is_at (point_cmp p) k) (list_any (is_at (point_cmp p)) ks) e) [ inl h ↦ inl (exact_point p k (is_equal (point_cmp p k) h)) | inr h ↦ inr (point_among p ks h) ]
 
-pub among_point : (p : PointLock) (ks : List PointLock) → IsAmong p ks → list_any (is_at (point_cmp p)) ks ≡ true
+among_point : (p : PointLock) (ks : List PointLock) → IsAmong p ks → list_any (is_at (point_cmp p)) ks ≡ true
 among_point p [] h = absurd h
 among_point p (k ∷ ks) (inl e) = or_true_left _ _ (subst (λ (q : PointLock). is_eq (point_cmp p q) ≡ true) e (ap is_eq (point_itself p)))
 among_point p (k ∷ ks) (inr h) = or_true_right _ _ (among_point p ks h)

@@ -1,5 +1,5 @@
 -- Ranges of a single key, and the locks on them.
-use Rattle.std.proofs.Common.{◌≡◌, ℕ, ◌+◌, ◌<◌, Bool, true, false, cond, List, [], ◌∷◌, ◌++◌, map, length, take, get_or, Option, Some, None, refl, sym, ap, subst, ◌∙◌, Ordering, Less, Equal, Greater, inl, inr}
+use Rattle.std.proofs.Common.{◌≡◌, ℕ, Bool, true, false, cond, List, [], ◌∷◌, ◌++◌, map, Option, Some, None, refl, sym, ap, subst, ◌∙◌, Ordering, Less, Equal, Greater, inl, inr}
 use Rattle.std.specs.Prelude.{◌↔◌, ◌≢◌, ◌⊎◌, ◌||◌, ◌&&◌, not, IsTrue}
 use Rattle.std.specs.List.{list_any}
 use Rattle.std.specs.Ordering.{nat_cmp, is_lt, eq_by_cmp}
@@ -8,7 +8,6 @@ use Rattle.std.specs.Cmp.Lexicographic.{slice_cmp, nat_list_cmp_total}
 use Rattle.std.specs.BTreeMap.{is_at}
 use Rattle.std.specs.BTreeSet as sorted
 use Rattle.std.specs.BTreeSet.{BTreeSet}
-use Rattle.std.proofs.lemmas.List.{take_more}
 use Rattle.std.proofs.lemmas.Map.Lookups.{exact_bytes}
 use Rattle.store_model.specs.Range.{Interval, IsBelow, is_below, point, includes}
 use Rattle.store_model.specs.declared.range.Mode.{Mode}
@@ -150,6 +149,3 @@ or_false_both false b c h e = h e
 pub none_last : (t : List ℕ → Bool) (key : List ℕ) → t key ≡ false → (ks : List (List ℕ)) → list_any t ks ≡ false → list_any t (ks ++ key ∷ []) ≡ false
 none_last t key none [] g = rw none refl
 none_last t key none (k ∷ ks) g = or_false_both (t k) (list_any t ks) (list_any t (ks ++ key ∷ [])) (none_last t key none ks) g
-
-pub none_of_more : (t : List ℕ → Bool) (keys : List (List ℕ)) (i : ℕ) (key : List ℕ) → i < length keys → key ≡ get_or keys i key → list_any t (take i keys) ≡ false → t key ≡ false → list_any t (take (i + 1) keys) ≡ false
-none_of_more t keys i key lt is h none = rw (take_more keys i key lt, ← is) (none_last t key none (take i keys) h)
