@@ -12,14 +12,14 @@ use Rattle.std.proofs.lemmas.Map.Lookups.{exact_unsigned}
 use Rattle.store_model.proofs.Bools.{not_both, false_unless}
 use Rattle.std.specs.BTreeSet as sorted
 use Rattle.std.specs.BTreeSet.{BTreeSet}
-use Rattle.store_model.specs.Range.{Interval, point}
+use Rattle.store_model.specs.Range.{Interval}
 use Rattle.store_model.specs.declared.range.Mode.{Mode}
 use Rattle.store_model.specs.declared.range.Mode.TheVariants.{Shared, Exclusive}
-use Rattle.range_lock.specs.Lock.{Lock, IsAmong, AreCompatible, is_exclusive, covers}
-use Rattle.range_lock.specs.Tables.{all_locks, lock_at_point, lock_on_range, locks_on_ranges, mode_of, point_cmp, is_listed, IsCoveredAtPoint, IsCoveredOnRange}
+use Rattle.range_lock.specs.Lock.{Lock, IsAmong, AreCompatible, covers}
+use Rattle.range_lock.specs.Tables.{all_locks, lock_at_point, locks_at_points, lock_on_range, locks_on_ranges, point_cmp, is_listed}
 use Rattle.range_lock.specs.declared.entry.PointLock.{PointLock}
 use Rattle.range_lock.specs.declared.entry.RangeLock.{RangeLock}
-use Rattle.range_lock.proofs.Members.{among_left, among_right, among_either, among_mapped, among_map, point_among, among_point, exact_point, is_equal, or_true_right, among_inserted, among_fewer, not_of}
+use Rattle.range_lock.proofs.Members.{among_left, among_right, among_either, exact_point, is_equal, or_true_right, Has, point_held, held_point, among_inserted, among_fewer, not_of}
 
 -- ---- the keys of a transaction
 
@@ -34,69 +34,107 @@ listed_last keys tx key k old ks got is same p at_tx at_key =
     let tie : eq_by_cmp (slice_cmp nat_cmp) p.key k ≡ true = subst (λ (q : List ℕ). eq_by_cmp (slice_cmp nat_cmp) p.key q ≡ true) (at_key ∙ sym same) (ap is_eq (tied_itself nat_list_cmp_total p.key)) in
     ap (list_any (eq_by_cmp (slice_cmp nat_cmp) p.key)) found ∙ last_any _ old k tie
 
--- ---- point locks
+-- ---- a list of locks that gains one, beside others
 
-abbrev Has : BTreeSet PointLock → PointLock → Type 0
-Has s p = sorted.contains point_cmp s p ≡ true
+-- the new locks are the old ones and this one
+abbrev pub Adds : List Lock → List Lock → Lock → Type 0
+Adds old new k = (l : Lock) → IsAmong l new ↔ ((l ≡ k) ⊎ IsAmong l old)
+
+module _ (old new others : List Lock) (k : Lock) (h : Adds old new k) where
+  adds_left : Adds (old ++ others) (new ++ others) k
+  adds_left l = (
+    λ g. elim (among_either l new others g) [
+      | inl m ↦ elim ((h l).0 m) [ inl e ↦ inl e | inr n ↦ inr (among_left l old others n) ]
+      | inr m ↦ inr (among_right l old others m)
+    ],
+    λ g. elim g [
+      | inl e ↦ among_left l new others ((h l).1 (inl e))
+      | inr m ↦ elim (among_either l old others m) [ inl n ↦ among_left l new others ((h l).1 (inr n)) | inr n ↦ among_right l new others n ]
+    ],
+  )
+
+  adds_right : Adds (others ++ old) (others ++ new) k
+  adds_right l = (
+    λ g. elim (among_either l others new g) [
+      | inl m ↦ inr (among_left l others old m)
+      | inr m ↦ elim ((h l).0 m) [ inl e ↦ inl e | inr n ↦ inr (among_right l others old n) ]
+    ],
+    λ g. elim g [
+      | inl e ↦ among_right l others new ((h l).1 (inl e))
+      | inr m ↦ elim (among_either l others old m) [ inl n ↦ among_left l others new n | inr n ↦ among_right l others new ((h l).1 (inr n)) ]
+    ],
+  )
+
+-- a lock that was there already
+pub adds_nothing : (old : List Lock) (k : Lock) → IsAmong k old → Adds old old k
+adds_nothing old k h l = (λ g. inr g, λ g. elim g [ inl e ↦ subst (λ (x : Lock). IsAmong x old) (sym e) h | inr m ↦ m ])
+
+-- after a lock was added, or memory ran out
+pub at_most : {A E : Type 0} (r : Result A E) (old new : List Lock) (k : Lock) → OnOk r (Adds old new k) → OnErr r (new ≡ old) → (l : Lock) → IsAmong l new → (l ≡ k) ⊎ IsAmong l old
+at_most (Ok a) old new k ok err l g = (ok l).0 g
+at_most (Err e) old new k ok err l g = inr (subst (IsAmong l) err g)
+
+-- ---- locks on keys, held in one mode
 
 under : (b : Bool) (k q : PointLock) (o : Bool) → is_at (point_cmp k) q ≡ b → cond b true o ≡ true → (q ≡ k) ⊎ (o ≡ true)
 under true k q o at h = inl (sym (exact_point k q (is_equal (point_cmp k q) at)))
 under false k q o at h = inr h
 
-pub has_new : (s n : BTreeSet PointLock) (k : PointLock) → sorted.Updates point_cmp s n k true → (q : PointLock) → Has n q → (q ≡ k) ⊎ Has s q
-has_new s n k up q h = under (is_at (point_cmp k) q) k q (sorted.contains point_cmp s q) refl (sym (up.0 q) ∙ h)
-
 keeps : (b : Bool) (o : Bool) → o ≡ true → cond b true o ≡ true
 keeps true o h = refl
 keeps false o h = h
 
-pub new_has : (s n : BTreeSet PointLock) (k : PointLock) → sorted.Updates point_cmp s n k true → (q : PointLock) → (q ≡ k) ⊎ Has s q → Has n q
-new_has s n k up q (inl e) = subst (λ (p : PointLock). Has n p) (sym e) up.1
-new_has s n k up q (inr h) = up.0 q ∙ keeps (is_at (point_cmp k) q) _ h
-
-pub unchanged_has : (s n : BTreeSet PointLock) (q : PointLock) → n.keys ≡ s.keys → Has n q → Has s q
-unchanged_has s n q same h = ap (list_any (is_at (point_cmp q))) (sym same) ∙ h
+pub has_new : (s n : BTreeSet PointLock) (k : PointLock) → sorted.Updates point_cmp s n k true → (q : PointLock) → Has n q ↔ ((q ≡ k) ⊎ Has s q)
+has_new s n k up q = (
+  λ h. under (is_at (point_cmp k) q) k q (sorted.contains point_cmp s q) refl (sym (up.0 q) ∙ h),
+  λ g. elim g [ inl e ↦ subst (Has n) (sym e) up.1 | inr h ↦ up.0 q ∙ keeps (is_at (point_cmp k) q) _ h ],
+)
 
 -- after an insertion, or one for which memory ran out
-pub has_after : {E : Type 0} (r : Result Bool E) (s n : BTreeSet PointLock) (k : PointLock) → OnOk r (sorted.Updates point_cmp s n k true) → OnErr r (n.keys ≡ s.keys) → (q : PointLock) → Has n q → (q ≡ k) ⊎ Has s q
-has_after (Ok b) s n k up same q h = has_new s n k up q h
-has_after (Err e) s n k up same q h = inr (unchanged_has s n q same h)
+pub has_after : {A E : Type 0} (r : Result A E) (s n : BTreeSet PointLock) (k : PointLock) → OnOk r ((q : PointLock) → Has n q ↔ ((q ≡ k) ⊎ Has s q)) → OnErr r (n.keys ≡ s.keys)
+    → (q : PointLock) → Has n q → (q ≡ k) ⊎ Has s q
+has_after (Ok b) s n k ok err q h = (ok q).0 h
+has_after (Err e) s n k ok err q h = inr (ap (list_any (is_at (point_cmp q))) (sym err) ∙ h)
 
-module _ (ranges : BTreeMap ℕ (List RangeLock)) where
+points_add : (mode : Mode) (s n : BTreeSet PointLock) (k : PointLock) → ((q : PointLock) → Has n q ↔ ((q ≡ k) ⊎ Has s q))
+    → Adds (map (lock_at_point mode) s.keys) (map (lock_at_point mode) n.keys) (lock_at_point mode k)
+points_add mode s n k h l = (
+  λ g. let p = held_point mode n l g in
+      elim ((h p.0).0 p.1) [
+        | inl e ↦ inl (p.2 ∙ ap (lock_at_point mode) e)
+        | inr c ↦ inr (subst (λ (x : Lock). IsAmong x (map (lock_at_point mode) s.keys)) (sym p.2) (point_held mode s p.0 c))
+      ],
+  λ g. elim g [
+    | inl e ↦ subst (λ (x : Lock). IsAmong x (map (lock_at_point mode) n.keys)) (sym e) (point_held mode n k ((h k).1 (inl refl)))
+    | inr m ↦ let p = held_point mode s l m in subst (λ (x : Lock). IsAmong x (map (lock_at_point mode) n.keys)) (sym p.2) (point_held mode n p.0 ((h p.0).1 (inr p.1)))
+  ],
+)
+
+module _ (s e n : BTreeSet PointLock) (ranges : BTreeMap ℕ (List RangeLock)) where
   abbrev others : List Lock
   others = flat_map locks_on_ranges ranges.entries
 
-  pub held_from : (s n : BTreeSet PointLock) (k : PointLock) → ((q : PointLock) → Has n q → (q ≡ k) ⊎ Has s q) → (l : Lock) → IsAmong l (all_locks n ranges) → (l ≡ lock_at_point k) ⊎ IsAmong l (all_locks s ranges)
-  held_from s n k h l g =
-      elim (among_either l (map lock_at_point n.keys) others g) [
-        | inl m ↦ let p = among_map lock_at_point l n.keys m in
-            elim (h p.0 (among_point p.0 n.keys p.1)) [
-              | inl e ↦ inl (p.2 ∙ ap lock_at_point e)
-              | inr c ↦ inr (among_left l (map lock_at_point s.keys) others (subst (λ (x : Lock). IsAmong x (map lock_at_point s.keys)) (sym p.2) (among_mapped lock_at_point p.0 s.keys (point_among p.0 s.keys c))))
-            ]
-        | inr m ↦ inr (among_right l (map lock_at_point s.keys) others m)
-      ]
+  pub shared_add : (k : PointLock) (mode : Mode) → mode ≡ Shared → ((q : PointLock) → Has n q ↔ ((q ≡ k) ⊎ Has s q)) → Adds (all_locks s e ranges) (all_locks n e ranges) (lock_at_point mode k)
+  shared_add k mode is h =
+      let at_e = map (lock_at_point Exclusive) e.keys in
+      rw is (adds_left (locks_at_points s e) (locks_at_points n e) others _ (adds_left (map (lock_at_point Shared) s.keys) (map (lock_at_point Shared) n.keys) at_e _ (points_add Shared s n k h)))
 
-  pub held_point : (s : BTreeSet PointLock) (k : PointLock) → Has s k → IsAmong (lock_at_point k) (all_locks s ranges)
-  held_point s k h = among_left (lock_at_point k) (map lock_at_point s.keys) others (among_mapped lock_at_point k s.keys (point_among k s.keys h))
+  pub shared_same : n.keys ≡ s.keys → all_locks n e ranges ≡ all_locks s e ranges
+  shared_same same = ap (λ (ps : List PointLock). (map (lock_at_point Shared) ps ++ map (lock_at_point Exclusive) e.keys) ++ others) same
 
-  pub held_to : (s n : BTreeSet PointLock) → ((q : PointLock) → Has s q → Has n q) → (l : Lock) → IsAmong l (all_locks s ranges) → IsAmong l (all_locks n ranges)
-  held_to s n h l g =
-      elim (among_either l (map lock_at_point s.keys) others g) [
-        | inl m ↦ let p = among_map lock_at_point l s.keys m in
-            subst (λ (x : Lock). IsAmong x (all_locks n ranges)) (sym p.2) (held_point n p.0 (h p.0 (among_point p.0 s.keys p.1)))
-        | inr m ↦ among_right l (map lock_at_point n.keys) others m
-      ]
+  pub exclusive_add : (k : PointLock) (mode : Mode) → mode ≡ Exclusive → ((q : PointLock) → Has n q ↔ ((q ≡ k) ⊎ Has e q)) → Adds (all_locks s e ranges) (all_locks s n ranges) (lock_at_point mode k)
+  exclusive_add k mode is h =
+      let at_s = map (lock_at_point Shared) s.keys in
+      rw is (adds_left (locks_at_points s e) (locks_at_points s n) others _ (adds_right (map (lock_at_point Exclusive) e.keys) (map (lock_at_point Exclusive) n.keys) at_s _ (points_add Exclusive e n k h)))
 
-mode_again : (mode : Mode) → mode_of (is_exclusive mode) ≡ mode
-mode_again Shared = refl
-mode_again Exclusive = refl
-
-pub as_asked : (tx : ℕ) (key k : List ℕ) (mode : Mode) (exclusive : Bool) → k ≡ key → exclusive ≡ is_exclusive mode
-    → ◌≡◌ {A = Lock} (lock_at_point (record { key = k; tx = tx; exclusive = exclusive })) (record { tx = tx; range = point key; mode = mode })
-as_asked tx key k mode exclusive e d = λ i. record { tx = tx; range = point (e i); mode = (ap mode_of d ∙ mode_again mode) i }
+  pub exclusive_same : n.keys ≡ e.keys → all_locks s n ranges ≡ all_locks s e ranges
+  exclusive_same same = ap (λ (ps : List PointLock). (map (lock_at_point Shared) s.keys ++ map (lock_at_point Exclusive) ps) ++ others) same
 
 -- ---- range locks
+
+pub range_add : (s e : BTreeSet PointLock) (rs rn : List (ℕ × List RangeLock)) (k : Lock) → Adds (flat_map locks_on_ranges rs) (flat_map locks_on_ranges rn) k
+    → Adds (locks_at_points s e ++ flat_map locks_on_ranges rs) (locks_at_points s e ++ flat_map locks_on_ranges rn) k
+range_add s e rs rn k h = adds_right (flat_map locks_on_ranges rs) (flat_map locks_on_ranges rn) (locks_at_points s e) k h
 
 pub any_err : {A E P : Type 0} (r : Result A E) → P → OnErr r P
 any_err (Ok x) p = tt
@@ -120,35 +158,52 @@ among_first tx lock none v l es is empty absent =
 pub compatible_fewer : (old new : List Lock) → AreCompatible old → ((l : Lock) → IsAmong l new → IsAmong l old) → AreCompatible new
 compatible_fewer old new h fewer a b p q = h a b (fewer a p) (fewer b q)
 
-pub released : (tx : ℕ) (s n : BTreeSet PointLock) (rs rn : BTreeMap ℕ (List RangeLock))
-    → ((p : PointLock) → p.tx ≢ tx → sorted.contains point_cmp n p ≡ sorted.contains point_cmp s p) → ((p : PointLock) → p.tx ≡ tx → Has n p → ⊥)
-    → rn.entries ≡ remove_entry (is_at (nat_cmp tx)) rs.entries → lookup (is_at (nat_cmp tx)) rn.entries ≡ None
-    → (l : Lock) → IsAmong l (all_locks n rn) ↔ ((l.tx ≡ tx → ⊥) × IsAmong l (all_locks s rs))
-released tx s n rs rn same none entries absent l = (to, from)
-  where
-    to : IsAmong l (all_locks n rn) → (l.tx ≡ tx → ⊥) × IsAmong l (all_locks s rs)
-    to g = elim (among_either l (map lock_at_point n.keys) (flat_map locks_on_ranges rn.entries) g) [
-      | inl m ↦ let p = among_map lock_at_point l n.keys m in
-          let has : Has n p.0 = among_point p.0 n.keys p.1 in
-          let other : p.0.tx ≢ tx = λ t. none p.0 t has in (
-            λ t. other (sym (ap (λ (x : Lock). x.tx) p.2) ∙ t),
-            subst (λ (x : Lock). IsAmong x (all_locks s rs)) (sym p.2) (held_point rs s p.0 (sym (same p.0 other) ∙ has)),
-          )
-      | inr m ↦ (
-        λ t. not_of tx l rn.entries absent m t,
-        among_right l (map lock_at_point s.keys) (flat_map locks_on_ranges rs.entries)
-            ((among_fewer tx l rs.entries).0 (subst (λ (es : List (ℕ × List RangeLock)). IsAmong l (flat_map locks_on_ranges es)) entries m)),
-      )
-    ]
+-- the new locks are the old ones but for this transaction's
+abbrev pub Drops : List Lock → List Lock → ℕ → Type 0
+Drops old new tx = (l : Lock) → IsAmong l new ↔ ((l.tx ≡ tx → ⊥) × IsAmong l old)
 
-    from : (l.tx ≡ tx → ⊥) × IsAmong l (all_locks s rs) → IsAmong l (all_locks n rn)
-    from g = elim (among_either l (map lock_at_point s.keys) (flat_map locks_on_ranges rs.entries) g.1) [
-      | inl m ↦ let p = among_map lock_at_point l s.keys m in
-          let other : p.0.tx ≢ tx = λ t. g.0 (ap (λ (x : Lock). x.tx) p.2 ∙ t) in
-          subst (λ (x : Lock). IsAmong x (all_locks n rn)) (sym p.2) (held_point rn n p.0 (same p.0 other ∙ among_point p.0 s.keys p.1))
-      | inr m ↦ among_right l (map lock_at_point n.keys) (flat_map locks_on_ranges rn.entries)
-          (subst (λ (es : List (ℕ × List RangeLock)). IsAmong l (flat_map locks_on_ranges es)) (sym entries) ((among_fewer tx l rs.entries).1 g.0 m))
-    ]
+drops_both : (old new old_2 new_2 : List Lock) (tx : ℕ) → Drops old new tx → Drops old_2 new_2 tx → Drops (old ++ old_2) (new ++ new_2) tx
+drops_both old new old_2 new_2 tx h g l = (
+  λ a. elim (among_either l new new_2 a) [
+    | inl m ↦ let r = (h l).0 m in (r.0, among_left l old old_2 r.1)
+    | inr m ↦ let r = (g l).0 m in (r.0, among_right l old old_2 r.1)
+  ],
+  λ a. elim (among_either l old old_2 a.1) [
+    | inl m ↦ among_left l new new_2 ((h l).1 (a.0, m))
+    | inr m ↦ among_right l new new_2 ((g l).1 (a.0, m))
+  ],
+)
+
+-- all of the transaction's locks on keys are gone, and no other
+abbrev pub AreGone : BTreeSet PointLock → BTreeSet PointLock → ℕ → Type 0
+AreGone s n tx = ((p : PointLock) → p.tx ≢ tx → sorted.contains point_cmp n p ≡ sorted.contains point_cmp s p) × ((p : PointLock) → p.tx ≡ tx → Has n p → ⊥)
+
+points_drop : (mode : Mode) (s n : BTreeSet PointLock) (tx : ℕ) → AreGone s n tx → Drops (map (lock_at_point mode) s.keys) (map (lock_at_point mode) n.keys) tx
+points_drop mode s n tx gone l = (
+  λ g. let p = held_point mode n l g in
+      let other : p.0.tx ≢ tx = λ t. gone.1 p.0 t p.1 in (
+        λ t. other (sym (ap (λ (x : Lock). x.tx) p.2) ∙ t),
+        subst (λ (x : Lock). IsAmong x (map (lock_at_point mode) s.keys)) (sym p.2) (point_held mode s p.0 (sym (gone.0 p.0 other) ∙ p.1)),
+      ),
+  λ g. let p = held_point mode s l g.1 in
+      let other : p.0.tx ≢ tx = λ t. g.0 (ap (λ (x : Lock). x.tx) p.2 ∙ t) in
+      subst (λ (x : Lock). IsAmong x (map (lock_at_point mode) n.keys)) (sym p.2) (point_held mode n p.0 (gone.0 p.0 other ∙ p.1)),
+)
+
+ranges_drop : (tx : ℕ) (rs rn : List (ℕ × List RangeLock)) → rn ≡ remove_entry (is_at (nat_cmp tx)) rs → lookup (is_at (nat_cmp tx)) rn ≡ None → Drops (flat_map locks_on_ranges rs) (flat_map locks_on_ranges rn) tx
+ranges_drop tx rs rn entries absent l = (
+  λ g. (λ t. not_of tx l rn absent g t, (among_fewer tx l rs).0 (subst (λ (es : List (ℕ × List RangeLock)). IsAmong l (flat_map locks_on_ranges es)) entries g)),
+  λ g. subst (λ (es : List (ℕ × List RangeLock)). IsAmong l (flat_map locks_on_ranges es)) (sym entries) ((among_fewer tx l rs).1 g.0 g.1),
+)
+
+pub released : (tx : ℕ) (s s_new e e_new : BTreeSet PointLock) (rs rn : BTreeMap ℕ (List RangeLock)) → AreGone s s_new tx → AreGone e e_new tx
+    → rn.entries ≡ remove_entry (is_at (nat_cmp tx)) rs.entries → lookup (is_at (nat_cmp tx)) rn.entries ≡ None
+    → Drops (all_locks s e rs) (all_locks s_new e_new rn) tx
+released tx s s_new e e_new rs rn gone_s gone_e entries absent =
+    drops_both (locks_at_points s e) (locks_at_points s_new e_new) (flat_map locks_on_ranges rs.entries) (flat_map locks_on_ranges rn.entries) tx
+    (drops_both (map (lock_at_point Shared) s.keys) (map (lock_at_point Shared) s_new.keys) (map (lock_at_point Exclusive) e.keys) (map (lock_at_point Exclusive) e_new.keys) tx
+    (points_drop Shared s s_new tx gone_s) (points_drop Exclusive e e_new tx gone_e))
+    (ranges_drop tx rs.entries rn.entries entries absent)
 
 -- a lock that was listed under the keys that are gone through is removed
 pub was_listed : (keys : BTreeMap ℕ (List (List ℕ))) (tx : ℕ) (ks : List (List ℕ)) (p : PointLock) → tree.get nat_cmp keys tx ≡ Some ks → p.tx ≡ tx → is_listed keys p ≡ true → list_any (eq_by_cmp (slice_cmp nat_cmp) p.key) ks ≡ false → ⊥
@@ -166,45 +221,17 @@ still_listed old new tx p same other listed =
     let at : is_at (nat_cmp tx) p.tx ≡ false = false_unless _ (λ g. other (sym (exact_unsigned tx p.tx (is_equal (nat_cmp tx p.tx) g)))) in
     ap (λ (o : Option (List (List ℕ))). list_any (eq_by_cmp (slice_cmp nat_cmp) p.key) (unwrap_or o [])) (same p.tx at) ∙ listed
 
--- ---- locks on wider ranges, beside the point locks
+-- ---- covering, by one of these locks or of those
 
-module _ (points : BTreeSet PointLock) (rs rn : BTreeMap ℕ (List RangeLock)) (k : Lock) where
-  pub ranges_from : ((l : Lock) → IsAmong l (flat_map locks_on_ranges rn.entries) → (l ≡ k) ⊎ IsAmong l (flat_map locks_on_ranges rs.entries)) → (l : Lock) → IsAmong l (all_locks points rn) → (l ≡ k) ⊎ IsAmong l (all_locks points rs)
-  ranges_from h l g = elim (among_either l (map lock_at_point points.keys) (flat_map locks_on_ranges rn.entries) g) [
-    | inl m ↦ inr (among_left l (map lock_at_point points.keys) (flat_map locks_on_ranges rs.entries) m)
-    | inr m ↦ elim (h l m) [ inl e ↦ inl e | inr n ↦ inr (among_right l (map lock_at_point points.keys) (flat_map locks_on_ranges rs.entries) n) ]
-  ]
+abbrev IsCoveredBy : List Lock → ℕ → Interval → Mode → Type 0
+IsCoveredBy locks tx range mode = (l : Lock) × IsAmong l locks × (l.tx ≡ tx) × (covers l range mode ≡ true)
 
-  pub ranges_to : ((l : Lock) → (l ≡ k) ⊎ IsAmong l (flat_map locks_on_ranges rs.entries) → IsAmong l (flat_map locks_on_ranges rn.entries)) → (l : Lock) → (l ≡ k) ⊎ IsAmong l (all_locks points rs) → IsAmong l (all_locks points rn)
-  ranges_to h l g = elim g [
-    | inl e ↦ among_right l (map lock_at_point points.keys) (flat_map locks_on_ranges rn.entries) (h l (inl e))
-    | inr m ↦ elim (among_either l (map lock_at_point points.keys) (flat_map locks_on_ranges rs.entries) m) [
-      | inl n ↦ among_left l (map lock_at_point points.keys) (flat_map locks_on_ranges rn.entries) n
-      | inr n ↦ among_right l (map lock_at_point points.keys) (flat_map locks_on_ranges rn.entries) (h l (inr n))
-    ]
-  ]
+module _ (xs ys : List Lock) (tx : ℕ) (range : Interval) (mode : Mode) where
+  pub covered_left : IsCoveredBy xs tx range mode → IsCoveredBy (xs ++ ys) tx range mode
+  covered_left g = (g.0, among_left g.0 xs ys g.1, g.2, g.3)
 
--- after a range lock was put, or memory ran out
-pub put_after : {A E : Type 0} (r : Result A E) (rs rn : List (ℕ × List RangeLock)) (k : Lock) → OnOk r ((l : Lock) → IsAmong l (flat_map locks_on_ranges rn) ↔ ((l ≡ k) ⊎ IsAmong l (flat_map locks_on_ranges rs))) → OnErr r (rn ≡ rs)
-    → (l : Lock) → IsAmong l (flat_map locks_on_ranges rn) → (l ≡ k) ⊎ IsAmong l (flat_map locks_on_ranges rs)
-put_after (Ok a) rs rn k ok err l g = (ok l).0 g
-put_after (Err e) rs rn k ok err l g = inr (subst (λ (es : List (ℕ × List RangeLock)). IsAmong l (flat_map locks_on_ranges es)) err g)
+  pub covered_right : IsCoveredBy ys tx range mode → IsCoveredBy (xs ++ ys) tx range mode
+  covered_right g = (g.0, among_right g.0 xs ys g.1, g.2, g.3)
 
--- ---- covering
-
-module _ (points : BTreeSet PointLock) (ranges : BTreeMap ℕ (List RangeLock)) (tx : ℕ) (range : Interval) (mode : Mode) where
-  pub covered_point : IsCoveredAtPoint points tx range mode → (l : Lock) × IsAmong l (all_locks points ranges) × (l.tx ≡ tx) × (covers l range mode ≡ true)
-  covered_point g = (lock_at_point g.0, held_point ranges points g.0 g.1, g.2, g.3)
-
-  pub covered_range : IsCoveredOnRange ranges tx range mode → (l : Lock) × IsAmong l (all_locks points ranges) × (l.tx ≡ tx) × (covers l range mode ≡ true)
-  covered_range g = (g.0, among_right g.0 (map lock_at_point points.keys) (flat_map locks_on_ranges ranges.entries) g.1, g.2, g.3)
-
-  pub covered_either : (l : Lock) × IsAmong l (all_locks points ranges) × (l.tx ≡ tx) × (covers l range mode ≡ true) → IsCoveredAtPoint points tx range mode ⊎ IsCoveredOnRange ranges tx range mode
-  covered_either g = elim (among_either g.0 (map lock_at_point points.keys) (flat_map locks_on_ranges ranges.entries) g.1) [
-    | inl m ↦ let p = among_map lock_at_point g.0 points.keys m in
-        inl (p.0, among_point p.0 points.keys p.1, sym (ap (λ (x : Lock). x.tx) p.2) ∙ g.2, sym (ap (λ (x : Lock). covers x range mode) p.2) ∙ g.3)
-    | inr m ↦ inr (g.0, m, g.2, g.3)
-  ]
-
-pub range_held : (points : BTreeSet PointLock) (ranges : BTreeMap ℕ (List RangeLock)) (l : Lock) → IsAmong l (flat_map locks_on_ranges ranges.entries) → IsAmong l (all_locks points ranges)
-range_held points ranges l h = among_right l (map lock_at_point points.keys) (flat_map locks_on_ranges ranges.entries) h
+  pub covered_either : IsCoveredBy (xs ++ ys) tx range mode → IsCoveredBy xs tx range mode ⊎ IsCoveredBy ys tx range mode
+  covered_either g = elim (among_either g.0 xs ys g.1) [ inl m ↦ inl (g.0, m, g.2, g.3) | inr m ↦ inr (g.0, m, g.2, g.3) ]

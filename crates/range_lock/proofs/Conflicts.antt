@@ -3,7 +3,7 @@ use Rattle.std.proofs.Common.{◌≡◌, ℕ, zero, suc, ◌+◌, ◌<◌, ◌�
 use Rattle.std.specs.Prelude.{◌&&◌}
 use Rattle.std.specs.List.{filter, AllByRecursion}
 use Rattle.std.specs.List.Sorted.{IsStrictlySortedBy}
-use Rattle.std.specs.Ordering.{nat_cmp, bool_cmp, is_lt, is_le, ordering_then}
+use Rattle.std.specs.Ordering.{nat_cmp, is_lt, is_le, ordering_then}
 use Rattle.std.specs.Cmp.{nat_cmp_is}
 use Rattle.std.specs.Cmp.Lexicographic.{slice_cmp, nat_list_cmp_total}
 use Rattle.std.proofs.lemmas.Map.Lookups.{exact_bytes}
@@ -17,7 +17,7 @@ use Rattle.std.specs.declared.ops.Bound.{Bound}
 use Rattle.std.specs.declared.ops.Bound.TheVariants.{Unbounded}
 use Rattle.std.specs.BTreeMap.Range.{is_from_start, range_contains}
 use Rattle.store_model.specs.declared.range.Mode.{Mode}
-use Rattle.range_lock.specs.Tables.{lock_at_point, lock_on_range, mode_of, point_cmp}
+use Rattle.range_lock.specs.Tables.{lock_at_point, lock_on_range, point_cmp}
 use Rattle.range_lock.specs.declared.rival.Rival.{Rival}
 use Rattle.range_lock.specs.declared.entry.PointLock.{PointLock}
 use Rattle.range_lock.specs.declared.entry.RangeLock.{RangeLock}
@@ -53,15 +53,9 @@ false_and false b e = refl
 apart : (asked l : Lock) → overlap asked.range l.range ≡ false → conflict asked l ≡ false
 apart asked l e = and_false _ _ (false_and _ _ e)
 
-pub free_above : (asked : Lock) (p : PointLock) → is_below (Some p.key) asked.range.high ≡ false → conflict asked (lock_at_point p) ≡ false
-free_above asked p e = apart asked (lock_at_point p) (and_false _ _ e)
-
 pub not_below_next : (k : List ℕ) (low : Option (List ℕ)) → is_below (Some k) low ≡ true → is_below low (Some (k ++ 0 ∷ [])) ≡ false
 not_below_next k None e = refl
 not_below_next k (Some low) e = none_between k low (less (slice_cmp nat_cmp k low) e)
-
-pub free_below : (asked : Lock) (p : PointLock) → is_below (Some p.key) asked.range.low ≡ true → conflict asked (lock_at_point p) ≡ false
-free_below asked p e = apart asked (lock_at_point p) (false_and _ _ (not_below_next p.key asked.range.low e))
 
 -- ---- where the search may begin
 
@@ -69,36 +63,18 @@ none_above : (t : ℕ) → is_le (nat_cmp 0 t) ≡ true
 none_above zero = refl
 none_above (suc t) = rw (← nat_cmp_is 0 (suc t) Less (omega arith)) refl
 
-shared_first : (b : Bool) → is_le (bool_cmp false b) ≡ true
-shared_first true = refl
-shared_first false = refl
-
-both_le : (o p : Ordering) → is_le o ≡ true → is_le p ≡ true → is_le (ordering_then o p) ≡ true
-both_le Less p h k = refl
-both_le Equal p h k = k
-both_le Greater p h k = absurd cc
-
 key_first : (o p : Ordering) → is_le p ≡ true → is_le (ordering_then o p) ≡ false → o ≡ Greater
 key_first Less p h e = absurd cc
 key_first Equal p h e = absurd (not_both (is_le p) h e)
 key_first Greater p h e = refl
 
 -- the first lock at a key is not above a lock only where its key isn't
-pub below_start : (key : List ℕ) (p : PointLock) → is_le (point_cmp (record { key = key; tx = 0; exclusive = false }) p) ≡ false → slice_cmp nat_cmp p.key key ≡ Less
-below_start key p e = turned key p.key Greater (key_first (slice_cmp nat_cmp key p.key) _ (both_le (nat_cmp 0 p.tx) (bool_cmp false p.exclusive) (none_above p.tx) (shared_first p.exclusive)) e)
+pub below_start : (key : List ℕ) (p : PointLock) → is_le (point_cmp (record { key = key; tx = 0 }) p) ≡ false → slice_cmp nat_cmp p.key key ≡ Less
+below_start key p e = turned key p.key Greater (key_first (slice_cmp nat_cmp key p.key) _ (none_above p.tx) e)
 
-filter_by : (asked : Lock) (passes : PointLock → Bool) (p : PointLock) (ps : List PointLock) → (passes p ≡ false → conflict asked (lock_at_point p) ≡ false)
-    → ((best : Option Rival) → nearest asked (map lock_at_point (filter passes ps)) best ≡ nearest asked (map lock_at_point ps) best)
-    → (best : Option Rival) (b : Bool) → passes p ≡ b → nearest asked (map lock_at_point (cond b (p ∷ filter passes ps) (filter passes ps))) best ≡ nearest asked (map lock_at_point (p ∷ ps)) best
-filter_by asked passes p ps free others best true e =
-    nearest-cons asked (lock_at_point p) (map lock_at_point (filter passes ps)) best ∙ others (step asked best (lock_at_point p)) ∙ sym (nearest-cons asked (lock_at_point p) (map lock_at_point ps) best)
-filter_by asked passes p ps free others best false e = others best ∙ sym (nearest-free asked (lock_at_point p) (map lock_at_point ps) best (free e))
-
--- what a test passes over is in no conflict
-pub nearest-filter : (asked : Lock) (passes : PointLock → Bool) → ((p : PointLock) → passes p ≡ false → conflict asked (lock_at_point p) ≡ false)
-    → (ps : List PointLock) (best : Option Rival) → nearest asked (map lock_at_point (filter passes ps)) best ≡ nearest asked (map lock_at_point ps) best
-nearest-filter asked passes free [] best = refl
-nearest-filter asked passes free (p ∷ ps) best = filter_by asked passes p ps (free p) (nearest-filter asked passes free ps) best (passes p) refl
+pub and-true : (b : Bool) → (b && true) ≡ false → b ≡ false
+and-true true e = absurd cc
+and-true false e = refl
 
 -- ---- where it may end
 
@@ -114,61 +90,77 @@ not_greater Less p e g = absurd cc
 not_greater Equal p e g = absurd cc
 not_greater Greater p e g = absurd cc
 
-pub nearest-above : (asked : Lock) (p : PointLock) → is_below (Some p.key) asked.range.high ≡ false
-    → (ps : List PointLock) (best : Option Rival) → AllByRecursion (λ q. point_cmp p q ≡ Less) ps → nearest asked (map lock_at_point ps) best ≡ best
-nearest-above asked p e [] best h = nearest-nil asked best
-nearest-above asked p e (q ∷ ps) best h =
-    let o = slice_cmp nat_cmp p.key q.key in
-    let free = free_above asked q (after p.key q.key o refl (not_greater o _ h.0) asked.range.high e) in
-    nearest-free asked (lock_at_point q) (map lock_at_point ps) best free ∙ nearest-above asked p e ps best h.1
-
-pub nearest-from_above : (asked : Lock) (p : PointLock) (ps : List PointLock) (best : Option Rival) → is_below (Some p.key) asked.range.high ≡ false
-    → IsStrictlySortedBy point_cmp (p ∷ ps) → nearest asked (map lock_at_point (p ∷ ps)) best ≡ best
-nearest-from_above asked p ps best e sorted =
-    nearest-free asked (lock_at_point p) (map lock_at_point ps) best (free_above asked p e) ∙ nearest-above asked p e ps best (sorted_head point_cmp p ps sorted)
-
-pub ruleset nearest_appended = (nearest-append, nearest-nil)
-
--- ---- one turn of the search
-
-module _ (asked : Lock) (ps : List PointLock) (best : Option Rival) (total : Option Rival) (so_far : nearest asked (map lock_at_point ps) best ≡ total) where
-  pub ended : ps ≡ [] → best ≡ total
-  ended is = sym (nearest-nil asked best) ∙ ap (λ (qs : List PointLock). nearest asked (map lock_at_point qs) best) (sym is) ∙ so_far
-
-  module _ (p : PointLock) (qs : List PointLock) (is : ps ≡ p ∷ qs) where
-    whole : nearest asked (map lock_at_point (p ∷ qs)) best ≡ total
-    whole = ap (λ (rs : List PointLock). nearest asked (map lock_at_point rs) best) (sym is) ∙ so_far
-
-    pub passed : conflict asked (lock_at_point p) ≡ false → nearest asked (map lock_at_point qs) best ≡ total
-    passed e = sym (nearest-free asked (lock_at_point p) (map lock_at_point qs) best e) ∙ whole
-
-    pub taken : conflict asked (lock_at_point p) ≡ true → (new : Option Rival) → new ≡ nearer best (rival_of (lock_at_point p)) → nearest asked (map lock_at_point qs) new ≡ total
-    taken e new is_new =
-        let stepped : step asked best (lock_at_point p) ≡ new = rw e (sym is_new) in
-        ap (nearest asked (map lock_at_point qs)) (sym stepped) ∙ sym (nearest-cons asked (lock_at_point p) (map lock_at_point qs) best) ∙ whole
-
-    pub cut : is_below (Some p.key) asked.range.high ≡ false → IsStrictlySortedBy point_cmp ps → best ≡ total
-    cut e sorted = sym (nearest-from_above asked p qs best e (subst (IsStrictlySortedBy point_cmp) is sorted)) ∙ whole
-
 pub sorted_after : (p : PointLock) (ps qs : List PointLock) → ps ≡ p ∷ qs → IsStrictlySortedBy point_cmp ps → IsStrictlySortedBy point_cmp qs
 unfolding IsStrictlySortedBy
 sorted_after p ps qs is sorted = (subst (IsStrictlySortedBy point_cmp) is sorted).1
 
+pub ruleset nearest_appended = (nearest-append, nearest-nil)
+
+-- ---- locks on keys, held in one mode
+
+module _ (held : Mode) where
+  pub free_above : (asked : Lock) (p : PointLock) → is_below (Some p.key) asked.range.high ≡ false → conflict asked (lock_at_point held p) ≡ false
+  free_above asked p e = apart asked (lock_at_point held p) (and_false _ _ e)
+
+  pub free_below : (asked : Lock) (p : PointLock) → is_below (Some p.key) asked.range.low ≡ true → conflict asked (lock_at_point held p) ≡ false
+  free_below asked p e = apart asked (lock_at_point held p) (false_and _ _ (not_below_next p.key asked.range.low e))
+
+  filter_by : (asked : Lock) (passes : PointLock → Bool) (p : PointLock) (ps : List PointLock) → (passes p ≡ false → conflict asked (lock_at_point held p) ≡ false)
+      → ((best : Option Rival) → nearest asked (map (lock_at_point held) (filter passes ps)) best ≡ nearest asked (map (lock_at_point held) ps) best)
+      → (best : Option Rival) (b : Bool) → passes p ≡ b → nearest asked (map (lock_at_point held) (cond b (p ∷ filter passes ps) (filter passes ps))) best ≡ nearest asked (map (lock_at_point held) (p ∷ ps)) best
+  filter_by asked passes p ps free others best true e =
+      nearest-cons asked (lock_at_point held p) (map (lock_at_point held) (filter passes ps)) best ∙ others (step asked best (lock_at_point held p)) ∙ sym (nearest-cons asked (lock_at_point held p) (map (lock_at_point held) ps) best)
+  filter_by asked passes p ps free others best false e = others best ∙ sym (nearest-free asked (lock_at_point held p) (map (lock_at_point held) ps) best (free e))
+
+  -- what a test passes over is in no conflict
+  pub nearest-filter : (asked : Lock) (passes : PointLock → Bool) → ((p : PointLock) → passes p ≡ false → conflict asked (lock_at_point held p) ≡ false)
+      → (ps : List PointLock) (best : Option Rival) → nearest asked (map (lock_at_point held) (filter passes ps)) best ≡ nearest asked (map (lock_at_point held) ps) best
+  nearest-filter asked passes free [] best = refl
+  nearest-filter asked passes free (p ∷ ps) best = filter_by asked passes p ps (free p) (nearest-filter asked passes free ps) best (passes p) refl
+
+  -- the search may begin where only locks below the range are passed over
+  pub nearest-from : (asked : Lock) (start : Bound PointLock) → ((p : PointLock) → is_from_start point_cmp start p ≡ false → is_below (Some p.key) asked.range.low ≡ true)
+      → (ps : List PointLock) (best : Option Rival) → nearest asked (map (lock_at_point held) (filter (range_contains point_cmp start Unbounded) ps)) best ≡ nearest asked (map (lock_at_point held) ps) best
+  nearest-from asked start h = nearest-filter asked (range_contains point_cmp start Unbounded) (λ p e. free_below asked p (h p (and-true (is_from_start point_cmp start p) e)))
+
+  pub nearest-above : (asked : Lock) (p : PointLock) → is_below (Some p.key) asked.range.high ≡ false
+      → (ps : List PointLock) (best : Option Rival) → AllByRecursion (λ q. point_cmp p q ≡ Less) ps → nearest asked (map (lock_at_point held) ps) best ≡ best
+  nearest-above asked p e [] best h = nearest-nil asked best
+  nearest-above asked p e (q ∷ ps) best h =
+      let o = slice_cmp nat_cmp p.key q.key in
+      let free = free_above asked q (after p.key q.key o refl (not_greater o _ h.0) asked.range.high e) in
+      nearest-free asked (lock_at_point held q) (map (lock_at_point held) ps) best free ∙ nearest-above asked p e ps best h.1
+
+  pub nearest-from_above : (asked : Lock) (p : PointLock) (ps : List PointLock) (best : Option Rival) → is_below (Some p.key) asked.range.high ≡ false
+      → IsStrictlySortedBy point_cmp (p ∷ ps) → nearest asked (map (lock_at_point held) (p ∷ ps)) best ≡ best
+  nearest-from_above asked p ps best e sorted =
+      nearest-free asked (lock_at_point held p) (map (lock_at_point held) ps) best (free_above asked p e) ∙ nearest-above asked p e ps best (sorted_head point_cmp p ps sorted)
+
+  -- ---- one turn of the search
+
+  module _ (asked : Lock) (ps : List PointLock) (best : Option Rival) (total : Option Rival) (so_far : nearest asked (map (lock_at_point held) ps) best ≡ total) where
+    pub ended : ps ≡ [] → best ≡ total
+    ended is = sym (nearest-nil asked best) ∙ ap (λ (qs : List PointLock). nearest asked (map (lock_at_point held) qs) best) (sym is) ∙ so_far
+
+    module _ (p : PointLock) (qs : List PointLock) (is : ps ≡ p ∷ qs) where
+      whole : nearest asked (map (lock_at_point held) (p ∷ qs)) best ≡ total
+      whole = ap (λ (rs : List PointLock). nearest asked (map (lock_at_point held) rs) best) (sym is) ∙ so_far
+
+      pub passed : conflict asked (lock_at_point held p) ≡ false → nearest asked (map (lock_at_point held) qs) best ≡ total
+      passed e = sym (nearest-free asked (lock_at_point held p) (map (lock_at_point held) qs) best e) ∙ whole
+
+      pub taken : conflict asked (lock_at_point held p) ≡ true → (new : Option Rival) → new ≡ nearer best (rival_of (lock_at_point held p)) → nearest asked (map (lock_at_point held) qs) new ≡ total
+      taken e new is_new =
+          let stepped : step asked best (lock_at_point held p) ≡ new = rw e (sym is_new) in
+          ap (nearest asked (map (lock_at_point held) qs)) (sym stepped) ∙ sym (nearest-cons asked (lock_at_point held p) (map (lock_at_point held) qs) best) ∙ whole
+
+      pub cut : is_below (Some p.key) asked.range.high ≡ false → IsStrictlySortedBy point_cmp ps → best ≡ total
+      cut e sorted = sym (nearest-from_above asked p qs best e (subst (IsStrictlySortedBy point_cmp) is sorted)) ∙ whole
+
 -- what the code's test says of a point lock
-pub told : (asked : Lock) (p : PointLock) (range : Interval) (mode : Mode) (b r : Bool) → range ≡ point p.key → mode ≡ mode_of p.exclusive
-    → r ≡ conflict asked (record { tx = p.tx; range = range; mode = mode }) → r ≡ b → conflict asked (lock_at_point p) ≡ b
-told asked p range mode b r is_range is_mode is e =
-    let same : ◌≡◌ {A = Lock} (record { tx = p.tx; range = range; mode = mode }) (lock_at_point p) = λ i. record { tx = p.tx; range = is_range i; mode = is_mode i } in
-    sym (ap (conflict asked) same) ∙ sym is ∙ e
-
-pub and-true : (b : Bool) → (b && true) ≡ false → b ≡ false
-and-true true e = absurd cc
-and-true false e = refl
-
--- the search may begin where only locks below the range are passed over
-pub nearest-from : (asked : Lock) (start : Bound PointLock) → ((p : PointLock) → is_from_start point_cmp start p ≡ false → is_below (Some p.key) asked.range.low ≡ true)
-    → (ps : List PointLock) (best : Option Rival) → nearest asked (map lock_at_point (filter (range_contains point_cmp start Unbounded) ps)) best ≡ nearest asked (map lock_at_point ps) best
-nearest-from asked start h = nearest-filter asked (range_contains point_cmp start Unbounded) (λ p e. free_below asked p (h p (and-true (is_from_start point_cmp start p) e)))
+pub told : (asked : Lock) (held : Mode) (p : PointLock) (range : Interval) (b r : Bool) → range ≡ point p.key → r ≡ conflict asked (record { tx = p.tx; range = range; mode = held }) → r ≡ b
+    → conflict asked (lock_at_point held p) ≡ b
+told asked held p range b r is_range is e = sym (ap (λ (at : Interval). conflict asked (record { tx = p.tx; range = at; mode = held })) is_range) ∙ sym is ∙ e
 
 -- one turn among the range locks of a holder
 pub turn : (asked : Lock) (holder : ℕ) (held : List RangeLock) (i : ℕ) (item : RangeLock) (best new total : Option Rival) → i < length held → item ≡ get_or held i item → new ≡ step asked best (lock_on_range holder item)

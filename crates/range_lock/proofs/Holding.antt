@@ -6,7 +6,7 @@ use Rattle.std.specs.List.Sorted.{IsStrictlySortedBy}
 use Rattle.std.specs.Ordering.{nat_cmp, is_eq}
 use Rattle.std.specs.Cmp.{tied_itself, nat_cmp_total, both_ways}
 use Rattle.std.specs.Cmp.Lexicographic.{slice_cmp}
-use Rattle.std.specs.BTreeMap.{BTreeMap, is_at}
+use Rattle.std.specs.BTreeMap.{is_at}
 use Rattle.std.specs.BTreeMap.Range.{is_from_start, range_contains}
 use Rattle.std.specs.BTreeSet as sorted
 use Rattle.std.specs.BTreeSet.{BTreeSet}
@@ -19,7 +19,7 @@ use Rattle.store_model.specs.Range.{Interval, is_below, point}
 use Rattle.store_model.specs.declared.range.Mode.{Mode}
 use Rattle.store_model.proofs.Bools.{both_true, and_true}
 use Rattle.range_lock.specs.Lock.{Lock, IsAmong, bars}
-use Rattle.range_lock.specs.Tables.{all_locks, lock_at_point, lock_on_range, locks_on_ranges, mode_of, point_cmp, bars_by, StartsBelow}
+use Rattle.range_lock.specs.Tables.{lock_at_point, lock_on_range, locks_on_ranges, point_cmp, bars_by, StartsBelow}
 use Rattle.range_lock.specs.declared.entry.PointLock.{PointLock}
 use Rattle.range_lock.specs.declared.entry.RangeLock.{RangeLock}
 use Rattle.range_lock.proofs.Conflicts.{not_below_next, and_false, false_and, after, not_greater, and-true}
@@ -100,59 +100,58 @@ split_holder range mode tx holder held es rest is =
     ∙ any_append (bars_by range mode tx) (map (lock_on_range holder) held) (flat_map locks_on_ranges rest)
     ∙ ap (λ (b : Bool). b || list_any (bars_by range mode tx) (flat_map locks_on_ranges rest)) (any_of_holder range mode tx holder held)
 
--- ---- point locks
+-- ---- locks on keys, held in one mode
 
-pub bars_below : (range : Interval) (mode : Mode) (p : PointLock) → is_below (Some p.key) range.low ≡ true → bars range mode (lock_at_point p) ≡ false
-bars_below range mode p e = false_and _ _ (false_and _ _ (not_below_next p.key range.low e))
+module _ (held : Mode) where
+  pub bars_below : (range : Interval) (mode : Mode) (p : PointLock) → is_below (Some p.key) range.low ≡ true → bars range mode (lock_at_point held p) ≡ false
+  bars_below range mode p e = false_and _ _ (false_and _ _ (not_below_next p.key range.low e))
 
-pub bars_above : (range : Interval) (mode : Mode) (p : PointLock) → is_below (Some p.key) range.high ≡ false → bars range mode (lock_at_point p) ≡ false
-bars_above range mode p e = false_and _ _ (and_false _ _ e)
+  pub bars_above : (range : Interval) (mode : Mode) (p : PointLock) → is_below (Some p.key) range.high ≡ false → bars range mode (lock_at_point held p) ≡ false
+  bars_above range mode p e = false_and _ _ (and_false _ _ e)
 
-filtered : (t : Lock → Bool) (passes : PointLock → Bool) (p : PointLock) (b : Bool) → passes p ≡ b → (passes p ≡ false → t (lock_at_point p) ≡ false) → (ps qs : List PointLock)
-    → list_any t (map lock_at_point qs) ≡ list_any t (map lock_at_point ps) → list_any t (map lock_at_point (cond b (p ∷ qs) qs)) ≡ list_any t (map lock_at_point (p ∷ ps))
-filtered t passes p true at free ps qs h = ap (λ (b : Bool). t (lock_at_point p) || b) h
-filtered t passes p false at free ps qs h = h ∙ ap (λ (b : Bool). b || list_any t (map lock_at_point ps)) (sym (free at))
+  filtered : (t : Lock → Bool) (passes : PointLock → Bool) (p : PointLock) (b : Bool) → passes p ≡ b → (passes p ≡ false → t (lock_at_point held p) ≡ false) → (ps qs : List PointLock)
+      → list_any t (map (lock_at_point held) qs) ≡ list_any t (map (lock_at_point held) ps) → list_any t (map (lock_at_point held) (cond b (p ∷ qs) qs)) ≡ list_any t (map (lock_at_point held) (p ∷ ps))
+  filtered t passes p true at free ps qs h = ap (λ (b : Bool). t (lock_at_point held p) || b) h
+  filtered t passes p false at free ps qs h = h ∙ ap (λ (b : Bool). b || list_any t (map (lock_at_point held) ps)) (sym (free at))
 
-any_filter : (t : Lock → Bool) (passes : PointLock → Bool) → ((p : PointLock) → passes p ≡ false → t (lock_at_point p) ≡ false)
-    → (ps : List PointLock) → list_any t (map lock_at_point (filter passes ps)) ≡ list_any t (map lock_at_point ps)
-any_filter t passes free [] = refl
-any_filter t passes free (p ∷ ps) = filtered t passes p (passes p) refl (free p) ps (filter passes ps) (any_filter t passes free ps)
+  any_filter : (t : Lock → Bool) (passes : PointLock → Bool) → ((p : PointLock) → passes p ≡ false → t (lock_at_point held p) ≡ false)
+      → (ps : List PointLock) → list_any t (map (lock_at_point held) (filter passes ps)) ≡ list_any t (map (lock_at_point held) ps)
+  any_filter t passes free [] = refl
+  any_filter t passes free (p ∷ ps) = filtered t passes p (passes p) refl (free p) ps (filter passes ps) (any_filter t passes free ps)
 
-pub any_from : (range : Interval) (mode : Mode) (tx : ℕ) (start : Bound PointLock) → StartsBelow start range.low → (ps : List PointLock)
-    → list_any (bars_by range mode tx) (map lock_at_point (filter (range_contains point_cmp start Unbounded) ps)) ≡ list_any (bars_by range mode tx) (map lock_at_point ps)
-any_from range mode tx start h = any_filter (bars_by range mode tx) (range_contains point_cmp start Unbounded) (λ p e. and_false _ _ (bars_below range mode p (h p (and-true (is_from_start point_cmp start p) e))))
+  pub any_from : (range : Interval) (mode : Mode) (tx : ℕ) (start : Bound PointLock) → StartsBelow start range.low → (ps : List PointLock)
+      → list_any (bars_by range mode tx) (map (lock_at_point held) (filter (range_contains point_cmp start Unbounded) ps)) ≡ list_any (bars_by range mode tx) (map (lock_at_point held) ps)
+  any_from range mode tx start h = any_filter (bars_by range mode tx) (range_contains point_cmp start Unbounded) (λ p e. and_false _ _ (bars_below range mode p (h p (and-true (is_from_start point_cmp start p) e))))
 
-none_above : (range : Interval) (mode : Mode) (tx : ℕ) (p : PointLock) → is_below (Some p.key) range.high ≡ false → (ps : List PointLock) → AllByRecursion (λ q. point_cmp p q ≡ Less) ps → list_any (bars_by range mode tx) (map lock_at_point ps) ≡ false
-none_above range mode tx p e [] h = refl
-none_above range mode tx p e (q ∷ ps) h =
-    let o = slice_cmp nat_cmp p.key q.key in
-    let free = bars_above range mode q (after p.key q.key o refl (not_greater o _ h.0) range.high e) in
-    ap (λ (b : Bool). b || list_any (bars_by range mode tx) (map lock_at_point ps)) (and_false (nat_eq q.tx tx) _ free) ∙ none_above range mode tx p e ps h.1
+  none_above : (range : Interval) (mode : Mode) (tx : ℕ) (p : PointLock) → is_below (Some p.key) range.high ≡ false → (ps : List PointLock) → AllByRecursion (λ q. point_cmp p q ≡ Less) ps → list_any (bars_by range mode tx) (map (lock_at_point held) ps) ≡ false
+  none_above range mode tx p e [] h = refl
+  none_above range mode tx p e (q ∷ ps) h =
+      let o = slice_cmp nat_cmp p.key q.key in
+      let free = bars_above range mode q (after p.key q.key o refl (not_greater o _ h.0) range.high e) in
+      ap (λ (b : Bool). b || list_any (bars_by range mode tx) (map (lock_at_point held) ps)) (and_false (nat_eq q.tx tx) _ free) ∙ none_above range mode tx p e ps h.1
 
-pub any_above : (range : Interval) (mode : Mode) (tx : ℕ) (p : PointLock) (ps qs : List PointLock) → qs ≡ p ∷ ps → is_below (Some p.key) range.high ≡ false → IsStrictlySortedBy point_cmp qs → list_any (bars_by range mode tx) (map lock_at_point qs) ≡ false
-any_above range mode tx p ps qs is e sorted_qs =
-    ap (λ (x : List PointLock). list_any (bars_by range mode tx) (map lock_at_point x)) is
-    ∙ ap (λ (b : Bool). b || list_any (bars_by range mode tx) (map lock_at_point ps)) (and_false (nat_eq p.tx tx) _ (bars_above range mode p e))
-    ∙ none_above range mode tx p e ps (sorted_head point_cmp p ps (subst (IsStrictlySortedBy point_cmp) is sorted_qs))
+  pub any_above : (range : Interval) (mode : Mode) (tx : ℕ) (p : PointLock) (ps qs : List PointLock) → qs ≡ p ∷ ps → is_below (Some p.key) range.high ≡ false → IsStrictlySortedBy point_cmp qs → list_any (bars_by range mode tx) (map (lock_at_point held) qs) ≡ false
+  any_above range mode tx p ps qs is e sorted_qs =
+      ap (λ (x : List PointLock). list_any (bars_by range mode tx) (map (lock_at_point held) x)) is
+      ∙ ap (λ (b : Bool). b || list_any (bars_by range mode tx) (map (lock_at_point held) ps)) (and_false (nat_eq p.tx tx) _ (bars_above range mode p e))
+      ∙ none_above range mode tx p e ps (sorted_head point_cmp p ps (subst (IsStrictlySortedBy point_cmp) is sorted_qs))
 
 pub or_nothing : (a b total : Bool) → b ≡ false → (a || b) ≡ total → a ≡ total
 or_nothing true b total e h = h
 or_nothing false b total e h = sym e ∙ h
 
 -- what the code's test says of a point lock
-pub told_bars : (range : Interval) (mode : Mode) (p : PointLock) (at : Interval) (held : Mode) (b r : Bool) → at ≡ point p.key → held ≡ mode_of p.exclusive
-    → r ≡ bars range mode (record { tx = 0; range = at; mode = held }) → r ≡ b → bars range mode (lock_at_point p) ≡ b
-told_bars range mode p at held b r is_at is_held is e =
-    sym (λ i. bars range mode (record { tx = 0; range = is_at i; mode = is_held i })) ∙ sym is ∙ e
+pub told_bars : (range : Interval) (mode held : Mode) (p : PointLock) (at : Interval) (b r : Bool) → at ≡ point p.key → r ≡ bars range mode (record { tx = 0; range = at; mode = held }) → r ≡ b
+    → bars range mode (lock_at_point held p) ≡ b
+told_bars range mode held p at b r is_at is e = sym (ap (λ (i : Interval). bars range mode (record { tx = 0; range = i; mode = held })) is_at) ∙ sym is ∙ e
 
 -- ---- those that are found
 
-pub holders_exactly : (points : BTreeSet PointLock) (ranges : BTreeMap ℕ (List RangeLock)) (range : Interval) (mode : Mode) (txs : List ℕ) (tx : ℕ)
-    → list_any (is_at (nat_cmp tx)) txs ≡ list_any (bars_by range mode tx) (all_locks points ranges)
-    → IsAmong tx txs ↔ ((l : Lock) × IsAmong l (all_locks points ranges) × (l.tx ≡ tx) × (bars range mode l ≡ true))
-holders_exactly points ranges range mode txs tx same = (
-  λ h. let r = any_among (bars_by range mode tx) (all_locks points ranges) (sym same ∙ numbers_among tx txs h) in
+pub holders_exactly : (locks : List Lock) (range : Interval) (mode : Mode) (txs : List ℕ) (tx : ℕ) → list_any (is_at (nat_cmp tx)) txs ≡ list_any (bars_by range mode tx) locks
+    → IsAmong tx txs ↔ ((l : Lock) × IsAmong l locks × (l.tx ≡ tx) × (bars range mode l ≡ true))
+holders_exactly locks range mode txs tx same = (
+  λ h. let r = any_among (bars_by range mode tx) locks (sym same ∙ numbers_among tx txs h) in
       let both = both_true _ _ r.2 in
       (r.0, r.1, eqb-true r.0.tx tx both.0, both.1),
-  λ g. among_numbers tx txs (same ∙ among_any (bars_by range mode tx) g.0 (all_locks points ranges) g.1 (and_true _ _ (eq-eqb g.0.tx tx g.2) g.3)),
+  λ g. among_numbers tx txs (same ∙ among_any (bars_by range mode tx) g.0 locks g.1 (and_true _ _ (eq-eqb g.0.tx tx g.2) g.3)),
 )

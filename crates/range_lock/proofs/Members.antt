@@ -1,18 +1,21 @@
 -- What is among the locks that the tables stand for, before and after a change.
 use Rattle.std.proofs.Common.{◌≡◌, ℕ, zero, suc, ◌<◌, length, get_or, Bool, true, false, cond, List, [], ◌∷◌, ◌++◌, map, Option, Some, None, refl, sym, ap, subst, ◌∙◌, Ordering, Less, Equal, Greater, inl, inr, arith}
 use Rattle.std.specs.Prelude.{◌⊎◌, ◌↔◌, ◌||◌, flat_map}
-use Rattle.std.specs.Ordering.{nat_cmp, bool_cmp, is_eq, ordering_then, match_ordering}
-use Rattle.std.specs.Cmp.{tied_itself, nat_cmp_total, bool_cmp_total}
+use Rattle.std.specs.Ordering.{nat_cmp, is_eq, ordering_then, match_ordering}
+use Rattle.std.specs.Cmp.{tied_itself, nat_cmp_total}
 use Rattle.std.specs.Cmp.Lexicographic.{slice_cmp, nat_list_cmp_total}
 use Rattle.std.specs.BTreeMap.{is_at, insert_entry}
+use Rattle.std.specs.BTreeSet as sorted
+use Rattle.std.specs.BTreeSet.{BTreeSet}
 use Rattle.std.specs.List.{list_any, AllByRecursion}
 use Rattle.std.specs.List.Sorted.{IsStrictlySortedBy}
 use Rattle.std.proofs.lemmas.Map.Keys.{sorted_head}
 use Rattle.std.specs.Map.{lookup, set_value, remove_entry, keys_of}
 use Rattle.std.proofs.lemmas.Map.Lookups.{exact_bytes, exact_unsigned}
 use Rattle.store_model.proofs.Bools.{not_both}
+use Rattle.store_model.specs.declared.range.Mode.{Mode}
 use Rattle.range_lock.specs.Lock.{Lock, IsAmong}
-use Rattle.range_lock.specs.Tables.{lock_on_range, locks_on_ranges, point_cmp}
+use Rattle.range_lock.specs.Tables.{lock_at_point, lock_on_range, locks_on_ranges, point_cmp}
 use Rattle.range_lock.specs.declared.entry.PointLock.{PointLock}
 use Rattle.range_lock.specs.declared.entry.RangeLock.{RangeLock}
 
@@ -33,12 +36,12 @@ module _ {A : Type 0} where
   among_either x (y ∷ xs) ys (inl e) = inl (inl e)
   among_either x (y ∷ xs) ys (inr h) = elim (among_either x xs ys h) [ inl l ↦ inl (inr l) | inr r ↦ inr r ]
 
-pub among_mapped : {A B : Type 0} (f : A → B) (x : A) (xs : List A) → IsAmong x xs → IsAmong (f x) (map f xs)
+among_mapped : {A B : Type 0} (f : A → B) (x : A) (xs : List A) → IsAmong x xs → IsAmong (f x) (map f xs)
 among_mapped f x [] h = absurd h
 among_mapped f x (y ∷ xs) (inl e) = inl (ap f e)
 among_mapped f x (y ∷ xs) (inr h) = inr (among_mapped f x xs h)
 
-pub among_map : {A B : Type 0} (f : A → B) (z : B) (xs : List A) → IsAmong z (map f xs) → (x : A) × IsAmong x xs × (z ≡ f x)
+among_map : {A B : Type 0} (f : A → B) (z : B) (xs : List A) → IsAmong z (map f xs) → (x : A) × IsAmong x xs × (z ≡ f x)
 among_map f z [] h = absurd h
 among_map f z (y ∷ xs) (inl e) = (y, inl refl, e)
 among_map f z (y ∷ xs) (inr h) = let r = among_map f z xs h in (r.0, inr r.1, r.2)
@@ -55,20 +58,13 @@ tied Less p e = absurd cc
 tied Equal p e = (refl, e)
 tied Greater p e = absurd cc
 
-same_flag : (a b : Bool) → bool_cmp a b ≡ Equal → a ≡ b
-same_flag true true e = refl
-same_flag true false e = absurd cc
-same_flag false true e = absurd cc
-same_flag false false e = refl
-
 pub exact_point : (a b : PointLock) → point_cmp a b ≡ Equal → a ≡ b
 exact_point a b e =
     let p = tied (slice_cmp nat_cmp a.key b.key) _ e in
-    let q = tied (nat_cmp a.tx b.tx) _ p.1 in
-    λ i. record { key = exact_bytes a.key b.key p.0 i; tx = exact_unsigned a.tx b.tx q.0 i; exclusive = same_flag a.exclusive b.exclusive q.1 i }
+    λ i. record { key = exact_bytes a.key b.key p.0 i; tx = exact_unsigned a.tx b.tx p.1 i }
 
-pub point_itself : (a : PointLock) → point_cmp a a ≡ Equal
-point_itself a = rw (tied_itself nat_list_cmp_total a.key, tied_itself nat_cmp_total a.tx, tied_itself bool_cmp_total a.exclusive) refl
+point_itself : (a : PointLock) → point_cmp a a ≡ Equal
+point_itself a = rw (tied_itself nat_list_cmp_total a.key, tied_itself nat_cmp_total a.tx) refl
 
 pub is_equal : (o : Ordering) → is_eq o ≡ true → o ≡ Equal
 is_equal Less e = absurd cc
@@ -87,14 +83,24 @@ pub or_true_right : (a b : Bool) → b ≡ true → (a || b) ≡ true
 or_true_right true b e = refl
 or_true_right false b e = e
 
-pub point_among : (p : PointLock) (ks : List PointLock) → list_any (is_at (point_cmp p)) ks ≡ true → IsAmong p ks
+point_among : (p : PointLock) (ks : List PointLock) → list_any (is_at (point_cmp p)) ks ≡ true → IsAmong p ks
 point_among p [] e = absurd cc
 point_among p (k ∷ ks) e = elim (either_true (is_at (point_cmp p) k) (list_any (is_at (point_cmp p)) ks) e) [ inl h ↦ inl (exact_point p k (is_equal (point_cmp p k) h)) | inr h ↦ inr (point_among p ks h) ]
 
-pub among_point : (p : PointLock) (ks : List PointLock) → IsAmong p ks → list_any (is_at (point_cmp p)) ks ≡ true
+among_point : (p : PointLock) (ks : List PointLock) → IsAmong p ks → list_any (is_at (point_cmp p)) ks ≡ true
 among_point p [] h = absurd h
 among_point p (k ∷ ks) (inl e) = or_true_left _ _ (subst (λ (q : PointLock). is_eq (point_cmp p q) ≡ true) e (ap is_eq (point_itself p)))
 among_point p (k ∷ ks) (inr h) = or_true_right _ _ (among_point p ks h)
+
+abbrev pub Has : BTreeSet PointLock → PointLock → Type 0
+Has s p = sorted.contains point_cmp s p ≡ true
+
+module _ (mode : Mode) (s : BTreeSet PointLock) where
+  pub point_held : (p : PointLock) → Has s p → IsAmong (lock_at_point mode p) (map (lock_at_point mode) s.keys)
+  point_held p h = among_mapped (lock_at_point mode) p s.keys (point_among p s.keys h)
+
+  pub held_point : (l : Lock) → IsAmong l (map (lock_at_point mode) s.keys) → (p : PointLock) × Has s p × (l ≡ lock_at_point mode p)
+  held_point l h = let r = among_map (lock_at_point mode) l s.keys h in (r.0, among_point r.0 s.keys r.1, r.2)
 
 -- ---- range locks
 

@@ -1,5 +1,5 @@
 -- Ranges of a single key, and the locks on them.
-use Rattle.std.proofs.Common.{◌≡◌, ℕ, ◌+◌, ◌<◌, Bool, true, false, cond, List, [], ◌∷◌, ◌++◌, length, take, get_or, Option, Some, None, refl, sym, ap, subst, ◌∙◌, Ordering, Less, Equal, Greater, inl, inr}
+use Rattle.std.proofs.Common.{◌≡◌, ℕ, Bool, true, false, cond, List, [], ◌∷◌, ◌++◌, map, Option, Some, None, refl, sym, ap, subst, ◌∙◌, Ordering, Less, Equal, Greater, inl, inr}
 use Rattle.std.specs.Prelude.{◌↔◌, ◌≢◌, ◌⊎◌, ◌||◌, ◌&&◌, not, IsTrue}
 use Rattle.std.specs.List.{list_any}
 use Rattle.std.specs.Ordering.{nat_cmp, is_lt, eq_by_cmp}
@@ -8,16 +8,16 @@ use Rattle.std.specs.Cmp.Lexicographic.{slice_cmp, nat_list_cmp_total}
 use Rattle.std.specs.BTreeMap.{is_at}
 use Rattle.std.specs.BTreeSet as sorted
 use Rattle.std.specs.BTreeSet.{BTreeSet}
-use Rattle.std.proofs.lemmas.List.{take_more}
 use Rattle.std.proofs.lemmas.Map.Lookups.{exact_bytes}
 use Rattle.store_model.specs.Range.{Interval, IsBelow, is_below, point, includes}
 use Rattle.store_model.specs.declared.range.Mode.{Mode}
 use Rattle.store_model.proofs.Bools.{both_true, and_true, or_left, or_right, not_true, not_from, not_both, false_unless}
-use Rattle.range_lock.specs.Lock.{is_exclusive, covers}
-use Rattle.range_lock.specs.Tables.{lock_at_point, mode_of, point_cmp, IsKey, AreKeys, IsCoveredAtPoint}
+use Rattle.store_model.specs.declared.range.Mode.TheVariants.{Shared, Exclusive}
+use Rattle.range_lock.specs.Lock.{Lock, is_exclusive, covers}
+use Rattle.range_lock.specs.Tables.{lock_at_point, point_cmp, IsKey, AreKeys, IsCoveredAtPoint}
 use Rattle.range_lock.specs.declared.entry.PointLock.{PointLock}
 use Rattle.range_lock.proofs.Texts.{less, turned, none_between}
-use Rattle.range_lock.proofs.Members.{exact_point, is_equal}
+use Rattle.range_lock.proofs.Members.{among_left, among_right, among_either, exact_point, is_equal, Has, point_held, held_point}
 
 -- ---- what lies within a point is that point
 
@@ -69,8 +69,13 @@ one_key a b e = some_text a b (ap (λ (r : Interval). r.low) e)
 
 -- ---- covering by a lock on a key
 
-covers_same : (p : PointLock) (range : Interval) (mode : Mode) → range ≡ point p.key → (is_exclusive (mode_of p.exclusive) || not (is_exclusive mode)) ≡ true → covers (lock_at_point p) range mode ≡ true
-covers_same p range mode is h = rw is (and_true _ _ (includes_itself p.key) h)
+module _ (held : Mode) (p : PointLock) (range : Interval) (mode : Mode) where
+  covers_same : range ≡ point p.key → (is_exclusive held || not (is_exclusive mode)) ≡ true → covers (lock_at_point held p) range mode ≡ true
+  covers_same is h = rw is (and_true _ _ (includes_itself p.key) h)
+
+  -- the lock covers it only where the range is that of its key
+  only_same : (l : Lock) → l ≡ lock_at_point held p → covers l range mode ≡ true → IsBelow range.low range.high → (range ≡ point p.key) × ((is_exclusive held || not (is_exclusive mode)) ≡ true)
+  only_same l is h below = let both = both_true _ _ (ap (λ (x : Lock). covers x range mode) (sym is) ∙ h) in (within_point p.key range below both.0, both.1)
 
 enough : (e s m : Bool) → (e || (s && not m)) ≡ true → (e ≡ true) ⊎ ((s ≡ true) × (m ≡ false))
 enough true s m h = inl refl
@@ -78,34 +83,44 @@ enough false true false h = inr (refl, refl)
 enough false true true h = absurd cc
 enough false false m h = absurd cc
 
-pub covered_exactly : (points : BTreeSet PointLock) (tx : ℕ) (range : Interval) (key : List ℕ) (mode : Mode) (e s r : Bool) → IsBelow range.low range.high → range ≡ point key
-    → e ≡ sorted.contains point_cmp points (record { key = key; tx = tx; exclusive = true }) → s ≡ sorted.contains point_cmp points (record { key = key; tx = tx; exclusive = false })
-    → r ≡ (e || (s && not (is_exclusive mode))) → IsTrue r ↔ IsCoveredAtPoint points tx range mode
-covered_exactly points tx range key mode e s r below is is_e is_s is_r = (to, from)
-  where
-    to : IsTrue r → IsCoveredAtPoint points tx range mode
-    to h = elim (enough e s (is_exclusive mode) (sym is_r ∙ h)) [
-      | inl he ↦ (record { key = key; tx = tx; exclusive = true }, sym is_e ∙ he, refl, covers_same (record { key = key; tx = tx; exclusive = true }) range mode is refl)
-      | inr hs ↦ (record { key = key; tx = tx; exclusive = false }, sym is_s ∙ hs.0, refl, covers_same (record { key = key; tx = tx; exclusive = false }) range mode is (not_from _ hs.1))
-    ]
+module _ (shared exclusive : BTreeSet PointLock) (tx : ℕ) (range : Interval) (mode : Mode) (below : IsBelow range.low range.high) where
+  pub covered_exactly : (key : List ℕ) (e s r : Bool) → range ≡ point key → e ≡ sorted.contains point_cmp exclusive (record { key = key; tx = tx }) → s ≡ sorted.contains point_cmp shared (record { key = key; tx = tx })
+      → r ≡ (e || (s && not (is_exclusive mode))) → IsTrue r ↔ IsCoveredAtPoint shared exclusive tx range mode
+  covered_exactly key e s r is is_e is_s is_r = (to, from)
+    where
+      at_shared : List Lock
+      at_shared = map (lock_at_point Shared) shared.keys
 
-    by : (p : PointLock) (x : Bool) → p.exclusive ≡ x → p.key ≡ key → p.tx ≡ tx → sorted.contains point_cmp points p ≡ true → (is_exclusive (mode_of p.exclusive) || not (is_exclusive mode)) ≡ true → (e || (s && not (is_exclusive mode))) ≡ true
-    by p true x k t has m =
-        let same : ◌≡◌ {A = PointLock} p (record { key = key; tx = tx; exclusive = true }) = λ i. record { key = k i; tx = t i; exclusive = x i } in
-        or_left e _ (is_e ∙ subst (λ (q : PointLock). sorted.contains point_cmp points q ≡ true) same has)
-    by p false x k t has m =
-        let same : ◌≡◌ {A = PointLock} p (record { key = key; tx = tx; exclusive = false }) = λ i. record { key = k i; tx = t i; exclusive = x i } in
-        let free : not (is_exclusive mode) ≡ true = subst (λ (b : Bool). (is_exclusive (mode_of b) || not (is_exclusive mode)) ≡ true) x m in
-        or_right e _ (and_true s _ (is_s ∙ subst (λ (q : PointLock). sorted.contains point_cmp points q ≡ true) same has) free)
+      at_exclusive : List Lock
+      at_exclusive = map (lock_at_point Exclusive) exclusive.keys
 
-    from : IsCoveredAtPoint points tx range mode → IsTrue r
-    from g =
-        let both = both_true _ _ g.3 in
-        let key_is : g.0.key ≡ key = one_key g.0.key key (sym (within_point g.0.key range below both.0) ∙ is) in
-        is_r ∙ by g.0 g.0.exclusive refl key_is g.2 g.1 both.1
+      lock : PointLock
+      lock = record { key = key; tx = tx }
 
-pub covered_by_none : (points : BTreeSet PointLock) (tx : ℕ) (range : Interval) (mode : Mode) → AreKeys points → IsBelow range.low range.high → ((key : List ℕ) → IsKey key → range ≢ point key) → IsCoveredAtPoint points tx range mode → ⊥
-covered_by_none points tx range mode keys below none g = none g.0.key (keys g.0 g.1) (within_point g.0.key range below (both_true _ _ g.3).0)
+      to : IsTrue r → IsCoveredAtPoint shared exclusive tx range mode
+      to h = elim (enough e s (is_exclusive mode) (sym is_r ∙ h)) [
+        | inl he ↦ (lock_at_point Exclusive lock, among_right _ at_shared at_exclusive (point_held Exclusive exclusive lock (sym is_e ∙ he)), refl, covers_same Exclusive lock range mode is refl)
+        | inr hs ↦ (lock_at_point Shared lock, among_left _ at_shared at_exclusive (point_held Shared shared lock (sym is_s ∙ hs.0)), refl, covers_same Shared lock range mode is (not_from _ hs.1))
+      ]
+
+      same : (held : Mode) (p : PointLock) (l : Lock) → l ≡ lock_at_point held p → range ≡ point p.key → l.tx ≡ tx → p ≡ lock
+      same held p l at k t = λ i. record { key = one_key p.key key (sym k ∙ is) i; tx = (ap (λ (x : Lock). x.tx) (sym at) ∙ t) i }
+
+      from : IsCoveredAtPoint shared exclusive tx range mode → IsTrue r
+      from g = elim (among_either g.0 at_shared at_exclusive g.1) [
+        | inl m ↦ let p = held_point Shared shared g.0 m in
+            let c = only_same Shared p.0 range mode g.0 p.2 g.3 below in
+            is_r ∙ or_right e _ (and_true s _ (is_s ∙ subst (Has shared) (same Shared p.0 g.0 p.2 c.0 g.2) p.1) c.1)
+        | inr m ↦ let p = held_point Exclusive exclusive g.0 m in
+            let c = only_same Exclusive p.0 range mode g.0 p.2 g.3 below in
+            is_r ∙ or_left e _ (is_e ∙ subst (Has exclusive) (same Exclusive p.0 g.0 p.2 c.0 g.2) p.1)
+      ]
+
+  pub covered_by_none : AreKeys shared → AreKeys exclusive → ((key : List ℕ) → IsKey key → range ≢ point key) → IsCoveredAtPoint shared exclusive tx range mode → ⊥
+  covered_by_none keys_shared keys_exclusive none g = elim (among_either g.0 (map (lock_at_point Shared) shared.keys) (map (lock_at_point Exclusive) exclusive.keys) g.1) [
+    | inl m ↦ let p = held_point Shared shared g.0 m in none p.0.key (keys_shared p.0 p.1) (only_same Shared p.0 range mode g.0 p.2 g.3 below).0
+    | inr m ↦ let p = held_point Exclusive exclusive g.0 m in none p.0.key (keys_exclusive p.0 p.1) (only_same Exclusive p.0 range mode g.0 p.2 g.3 below).0
+  ]
 
 -- ---- removal
 
@@ -120,9 +135,9 @@ module _ (s n : BTreeSet PointLock) (k : PointLock) (up : sorted.UpdatesBy point
       by true g = absurd cc
       by false g = g
 
-  pub removed_gone : (p : PointLock) → p.tx ≡ k.tx → p.exclusive ≡ k.exclusive → sorted.contains point_cmp n p ≡ true → eq_by_cmp (slice_cmp nat_cmp) p.key k.key ≡ false
-  removed_gone p t x h = false_unless _ (λ g.
-      let same : p ≡ k = λ i. record { key = exact_bytes p.key k.key (is_equal (slice_cmp nat_cmp p.key k.key) g) i; tx = t i; exclusive = x i } in
+  pub removed_gone : (p : PointLock) → p.tx ≡ k.tx → sorted.contains point_cmp n p ≡ true → eq_by_cmp (slice_cmp nat_cmp) p.key k.key ≡ false
+  removed_gone p t h = false_unless _ (λ g.
+      let same : p ≡ k = λ i. record { key = exact_bytes p.key k.key (is_equal (slice_cmp nat_cmp p.key k.key) g) i; tx = t i } in
       not_both (sorted.contains point_cmp n k) (subst (λ (q : PointLock). sorted.contains point_cmp n q ≡ true) same h) up.1)
 
 -- ---- one key more
@@ -134,11 +149,3 @@ or_false_both false b c h e = h e
 pub none_last : (t : List ℕ → Bool) (key : List ℕ) → t key ≡ false → (ks : List (List ℕ)) → list_any t ks ≡ false → list_any t (ks ++ key ∷ []) ≡ false
 none_last t key none [] g = rw none refl
 none_last t key none (k ∷ ks) g = or_false_both (t k) (list_any t ks) (list_any t (ks ++ key ∷ [])) (none_last t key none ks) g
-
-pub none_of_more : (t : List ℕ → Bool) (keys : List (List ℕ)) (i : ℕ) (key : List ℕ) → i < length keys → key ≡ get_or keys i key → list_any t (take i keys) ≡ false → t key ≡ false → list_any t (take (i + 1) keys) ≡ false
-none_of_more t keys i key lt is h none = rw (take_more keys i key lt, ← is) (none_last t key none (take i keys) h)
-
--- what holds in either mode
-pub by_mode : (exclusive e : Bool) → (exclusive ≡ false → e ≡ false) → (exclusive ≡ true → e ≡ false) → e ≡ false
-by_mode true e f g = g refl
-by_mode false e f g = f refl

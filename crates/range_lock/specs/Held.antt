@@ -12,7 +12,7 @@ use Rattle.range_lock.specs.declared.refusal.LockRefused.{LockRefused}
 use Rattle.range_lock.specs.declared.refusal.LockRefused.TheVariants.{Overlap, Memory}
 
 abbrev pub held : RangeLocks → List Lock
-held t = all_locks t.points t.ranges
+held t = all_locks t.shared t.exclusive t.ranges
 
 -- the lock is held
 abbrev pub Holds : RangeLocks → Lock → Type 0

@@ -2,7 +2,7 @@
 use Rattle.std.specs.Prelude.{◌≡◌, ℕ, ◌≤◌, length, List, [], ◌++◌, map, flat_map, Bool, true, false, Option, Some, unwrap_or, nat_eq, ◌&&◌}
 use Rattle.std.specs.List.{list_any}
 use Rattle.std.specs.declared.cmp.Ordering.{Ordering}
-use Rattle.std.specs.Ordering.{nat_cmp, bool_cmp, ordering_then, eq_by_cmp}
+use Rattle.std.specs.Ordering.{nat_cmp, ordering_then, eq_by_cmp}
 use Rattle.std.specs.Cmp.Lexicographic.{slice_cmp}
 use Rattle.std.specs.BTreeMap as tree
 use Rattle.std.specs.BTreeMap.{BTreeMap}
@@ -17,16 +17,16 @@ use Rattle.range_lock.specs.Lock.{Lock, IsAmong, bars, covers}
 use Rattle.range_lock.specs.declared.entry.PointLock.{PointLock}
 use Rattle.range_lock.specs.declared.entry.RangeLock.{RangeLock}
 
--- by key, then by transaction, then shared before exclusive
+-- by key, then by transaction
 abbrev pub point_cmp : PointLock → PointLock → Ordering
-point_cmp a b = ordering_then (slice_cmp nat_cmp a.key b.key) (ordering_then (nat_cmp a.tx b.tx) (bool_cmp a.exclusive b.exclusive))
+point_cmp a b = ordering_then (slice_cmp nat_cmp a.key b.key) (nat_cmp a.tx b.tx)
 
-abbrev pub mode_of : Bool → Mode
-mode_of false = Shared
-mode_of true = Exclusive
+-- held in this mode
+abbrev pub lock_at_point : Mode → PointLock → Lock
+lock_at_point mode p = record { tx = p.tx; range = point p.key; mode = mode }
 
-abbrev pub lock_at_point : PointLock → Lock
-lock_at_point p = record { tx = p.tx; range = point p.key; mode = mode_of p.exclusive }
+abbrev pub locks_at_points : BTreeSet PointLock → BTreeSet PointLock → List Lock
+locks_at_points shared exclusive = map (lock_at_point Shared) shared.keys ++ map (lock_at_point Exclusive) exclusive.keys
 
 abbrev pub lock_on_range : ℕ → RangeLock → Lock
 lock_on_range tx r = record { tx = tx; range = r.range; mode = r.mode }
@@ -35,8 +35,8 @@ abbrev pub locks_on_ranges : ℕ × List RangeLock → List Lock
 locks_on_ranges e = map (lock_on_range e.0) e.1
 
 -- all that is held
-abbrev pub all_locks : BTreeSet PointLock → BTreeMap ℕ (List RangeLock) → List Lock
-all_locks points ranges = map lock_at_point points.keys ++ flat_map locks_on_ranges ranges.entries
+abbrev pub all_locks : BTreeSet PointLock → BTreeSet PointLock → BTreeMap ℕ (List RangeLock) → List Lock
+all_locks shared exclusive ranges = locks_at_points shared exclusive ++ flat_map locks_on_ranges ranges.entries
 
 -- each transaction's point locks can be found by the keys that are kept for it
 abbrev pub is_listed : BTreeMap ℕ (List (List ℕ)) → PointLock → Bool
@@ -61,8 +61,8 @@ abbrev pub on_range : Interval → Mode → RangeLock
 on_range range mode = record { range = range; mode = mode }
 
 -- some lock on a single key of the transaction covers the range
-abbrev pub IsCoveredAtPoint : BTreeSet PointLock → ℕ → Interval → Mode → Type 0
-IsCoveredAtPoint points tx range mode = (p : PointLock) × (sorted.contains point_cmp points p ≡ true) × (p.tx ≡ tx) × (covers (lock_at_point p) range mode ≡ true)
+abbrev pub IsCoveredAtPoint : BTreeSet PointLock → BTreeSet PointLock → ℕ → Interval → Mode → Type 0
+IsCoveredAtPoint shared exclusive tx range mode = (l : Lock) × IsAmong l (locks_at_points shared exclusive) × (l.tx ≡ tx) × (covers l range mode ≡ true)
 
 -- some lock on a wider range of the transaction does
 abbrev pub IsCoveredOnRange : BTreeMap ℕ (List RangeLock) → ℕ → Interval → Mode → Type 0

@@ -6,7 +6,6 @@ use store_model::{Key, KeyRange, Mode, TxId};
 pub struct PointLock {
     pub key: Key,
     pub tx: TxId,
-    pub exclusive: bool,
 }
 
 /// A lock on a wider range.

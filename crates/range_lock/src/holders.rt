@@ -7,7 +7,7 @@ ghost use Rattle.range_lock.specs.Lock.{bars};
 ghost use Rattle.range_lock.specs.Tables.{lock_at_point, lock_on_range, locks_on_ranges, bars_by};
 
 use crate::entry::{PointLock, RangeLock};
-use crate::search::{is_exclusive, mode_of, start_of};
+use crate::search::{is_exclusive, start_of};
 use std::alloc::{AllocError, Global};
 use std::collections::{BTreeMap, BTreeSet};
 use std::ops;
@@ -19,21 +19,22 @@ fn keeps_off(range: &KeyRange, mode: Mode, at: &KeyRange, held: Mode) -> bool
     range.overlaps(at) && (is_exclusive(mode) || is_exclusive(held))
 }
 
-/// Adds the holders of point locks that bar the range.
+/// Adds the holders of point locks in one mode that bar the range.
 pub fn add_at_points(
     found: &mut BTreeSet<TxId>,
     points: &BTreeSet<PointLock>,
+    held: Mode,
     range: &KeyRange,
     mode: Mode,
 ) -> Result<(), AllocError>
-    ensures { OnOk result ((tx : ℕ) → contains nat_cmp found.new tx ≡ (contains nat_cmp found.old tx || list_any (bars_by range.now mode tx) (map lock_at_point points.now.keys))) }
+    ensures { OnOk result ((tx : ℕ) → contains nat_cmp found.new tx ≡ (contains nat_cmp found.old tx || list_any (bars_by range.now mode tx) (map (lock_at_point held) points.now.keys))) }
 {
     for lock in points.range((start_of(range), ops::Bound::Unbounded)) {
         if !range.high().is_above(&lock.key) {
             break;
         }
         let place = KeyRange::point(&lock.key);
-        if keeps_off(range, mode, &place, mode_of(lock.exclusive)) {
+        if keeps_off(range, mode, &place, held) {
             found.insert(lock.tx)?;
         }
     }

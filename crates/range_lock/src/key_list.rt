@@ -1,5 +1,5 @@
 //! Lists of keys that take little more memory than the bytes of their keys.
-ghost use Rattle.std.specs.Prelude.{◌≡◌, ◌++◌, ◌∷◌, [], OnOk, OnErr};
+ghost use Rattle.std.specs.Prelude.{◌≡◌, ◌≤◌, ◌+◌, ◌++◌, ◌∷◌, [], length, vec_len, vec_capacity, OnOk, OnErr};
 ghost use Rattle.range_lock.specs.Cut.{cut_into};
 
 use std::alloc::{AllocError, Global};
@@ -26,6 +26,18 @@ impl Model for KeyList {
     ghost invariant = { λ k. length k.texts.items ≡ sum k.lengths.items };
 }
 
+/// Makes room for a text behind the others. Where there is none, it makes an eighth more than that, and doesn't double
+/// what there is: the bytes of the keys are a large part of what locks take.
+fn make_room(texts: &mut Vec<u8>, text: &[u8]) -> Result<(), AllocError>
+    ensures same { texts.new.items ≡ texts.old.items }
+    ensures room { OnOk result (vec_len texts.new + length text.now ≤ vec_capacity texts.new) }
+{
+    if texts.capacity() - texts.len() < text.len() {
+        texts.reserve_exact(texts.len() / 8 + text.len())?;
+    }
+    Ok(())
+}
+
 impl KeyList {
     /// An empty list.
     #[tactic(auto, unfolding(crate::specs::Cut::cut_into))]
@@ -45,6 +57,7 @@ impl KeyList {
     {
         let text = key.as_bytes();
         let end = self.texts.len();
+        make_room(&mut self.texts, text)?;
         self.texts.extend_from_slice(text)?;
         match self.lengths.push(text.len() as u8) {
             Ok(()) => Ok(()),

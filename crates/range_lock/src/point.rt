@@ -1,13 +1,17 @@
-//! Ranges of a single key.
-ghost use Rattle.std.specs.Prelude.{◌≡◌, ◌≢◌, ◌↔◌, ◌&&◌, ◌||◌, not, ℕ, List, length, IfSome, IfNone, IsTrue};
+//! Ranges of a single key, and the locks on them.
+ghost use Rattle.std.specs.Prelude.{◌≡◌, ◌≢◌, ◌↔◌, ◌⊎◌, ◌&&◌, ◌||◌, not, ℕ, List, length, IfSome, IfNone, OnOk, OnErr, IsTrue, true};
 ghost use Rattle.std.specs.BTreeSet.{contains};
 ghost use Rattle.store_model.specs.Range.{point, includes};
 ghost use Rattle.range_lock.specs.Lock.{is_exclusive};
-ghost use Rattle.range_lock.specs.Tables.{point_cmp, IsKey, AreKeys, IsCoveredAtPoint};
+ghost use Rattle.range_lock.specs.Tables.{point_cmp, IsKey, AreKeys, is_listed, AreListed, IsCoveredAtPoint};
+ghost use Rattle.range_lock.specs.declared.entry.PointLock.{PointLock};
 
 use crate::entry::PointLock;
+use crate::key_list::KeyList;
+use crate::keys::list_key;
 use crate::search::is_exclusive;
-use std::collections::BTreeSet;
+use std::alloc::{AllocError, Global};
+use std::collections::{BTreeMap, BTreeSet};
 use store_model::{Key, KeyRange, Mode, TxId};
 
 /// The key that a range is the range of, if it is that of one key.
@@ -32,13 +36,37 @@ pub fn includes(wide: &KeyRange, range: &KeyRange) -> bool
     !range.low().is_below(wide.low()) && !wide.high().is_below(range.high())
 }
 
-fn has_point(points: &BTreeSet<PointLock>, key: &Key, tx: TxId, exclusive: bool) -> bool
-    ensures { result ≡ contains point_cmp points.now (record { key = key.now; tx = tx; exclusive = exclusive }) }
+/// Adds a lock on a key to those held in one mode, and lists the key for its transaction. Where memory runs out, these
+/// locks stay as they were.
+pub fn put_point(
+    alloc: Global,
+    points: &mut BTreeSet<PointLock>,
+    keys: &mut BTreeMap<TxId, KeyList>,
+    tx: TxId,
+    key: Key,
+) -> Result<(), AllocError>
+    requires { AreListed points.old keys.old }
+    ensures ok { OnOk result ((p : PointLock) → (contains point_cmp points.new p ≡ true) ↔ ((p ≡ record { key = key; tx = tx }) ⊎ (contains point_cmp points.old p ≡ true))) }
+    ensures err { OnErr result (points.new.keys ≡ points.old.keys) }
+    ensures listed { AreListed points.new keys.new }
+
+    // The keys of the locks in the other mode are listed still.
+    ensures stays { (p : PointLock) → is_listed keys.old p ≡ true → is_listed keys.new p ≡ true }
+{
+    let lock = PointLock { key, tx };
+    if !points.contains(&lock) {
+        list_key(alloc, keys, tx, &lock.key)?;
+        points.insert(lock)?;
+    }
+    Ok(())
+}
+
+fn has_point(points: &BTreeSet<PointLock>, key: &Key, tx: TxId) -> bool
+    ensures { result ≡ contains point_cmp points.now (record { key = key.now; tx = tx }) }
 {
     points.contains(&PointLock {
         key: key.copied(),
         tx,
-        exclusive,
     })
 }
 
@@ -50,17 +78,24 @@ fn suffices(exclusive: bool, shared: bool, mode: Mode) -> bool
 }
 
 /// Whether one of the transaction's locks on single keys includes the range in this mode.
-pub fn covers_at_point(points: &BTreeSet<PointLock>, tx: TxId, range: &KeyRange, mode: Mode) -> bool
-    requires { AreKeys points.now }
-    ensures { IsTrue result ↔ IsCoveredAtPoint points.now tx range.now mode }
+pub fn covers_at_point(
+    shared: &BTreeSet<PointLock>,
+    exclusive: &BTreeSet<PointLock>,
+    tx: TxId,
+    range: &KeyRange,
+    mode: Mode,
+) -> bool
+    requires keys_shared { AreKeys shared.now }
+    requires keys_exclusive { AreKeys exclusive.now }
+    ensures { IsTrue result ↔ IsCoveredAtPoint shared.now exclusive.now tx range.now mode }
 {
     let _low = range.low();
     match point_of(range) {
         None => false,
         Some(key) => {
-            let exclusive = has_point(points, &key, tx, true);
-            let shared = has_point(points, &key, tx, false);
-            suffices(exclusive, shared, mode)
+            let by_exclusive = has_point(exclusive, &key, tx);
+            let by_shared = has_point(shared, &key, tx);
+            suffices(by_exclusive, by_shared, mode)
         }
     }
 }

@@ -8,12 +8,11 @@ ghost use Rattle.range_lock.specs.Tables.{all_locks, AreListed, AreKeys, IsKey};
 use crate::entry::{PointLock, RangeLock};
 use crate::holders::{add_at_points, add_on_ranges, append};
 use crate::key_list::KeyList;
-use crate::keys::list_key;
-use crate::point::{covers_at_point, point_of};
+use crate::point::{covers_at_point, point_of, put_point};
 use crate::refusal::LockRefused;
 use crate::release::remove_listed;
 use crate::rival::Rival;
-use crate::search::{first_point, first_range, is_exclusive};
+use crate::search::{first_point, first_range};
 use crate::wider::{copied, covers_on_range, holds_range, put_range};
 use std::alloc::{AllocError, Global};
 use std::collections::{BTreeMap, BTreeSet};
@@ -23,14 +22,19 @@ use store_model::{Key, KeyRange, List, Memory, Mode, TxId};
 #[derive(Drop)]
 pub struct RangeLocks {
     alloc: Global,
-    points: BTreeSet<PointLock>,
+    /// The locks on single keys that are held shared.
+    shared: BTreeSet<PointLock>,
+    /// Those that are held exclusive.
+    exclusive: BTreeSet<PointLock>,
     /// For each transaction, the keys of its point locks.
     keys: BTreeMap<TxId, KeyList>,
     /// For each transaction, its locks on wider ranges.
     ranges: BTreeMap<TxId, List<RangeLock>>,
-    ghost compatible: { AreCompatible (all_locks points ranges) },
-    ghost listed: { AreListed points keys },
-    ghost fit: { AreKeys points },
+    ghost compatible: { AreCompatible (all_locks shared exclusive ranges) },
+    ghost listed_shared: { AreListed shared keys },
+    ghost listed_exclusive: { AreListed exclusive keys },
+    ghost keys_shared: { AreKeys shared },
+    ghost keys_exclusive: { AreKeys exclusive },
 }
 
 impl RangeLocks {
@@ -42,7 +46,8 @@ impl RangeLocks {
     {
         RangeLocks {
             alloc,
-            points: BTreeSet::new(alloc),
+            shared: BTreeSet::new(alloc),
+            exclusive: BTreeSet::new(alloc),
             keys: BTreeMap::new(alloc),
             ranges: BTreeMap::new(alloc),
         }
@@ -57,7 +62,8 @@ impl RangeLocks {
     ) -> Result<Option<Rival>, AllocError>
         ensures { IfOk result (λ r. r ≡ nearest (record { tx = tx; range = range.now; mode = mode }) (held self.now) None) }
     {
-        let best = first_point(&self.points, tx, range, mode);
+        let best = first_point(None, &self.shared, Mode::Shared, tx, range, mode);
+        let best = first_point(best, &self.exclusive, Mode::Exclusive, tx, range, mode);
         first_range(best, &self.ranges, tx, range, mode)
     }
 
@@ -68,16 +74,10 @@ impl RangeLocks {
         ensures ok { OnOk result (Gains self.old self.new (record { tx = tx; range = point key; mode = mode })) }
         ensures err { OnErr result (HoldsTheSame self.old self.new) }
     {
-        let lock = PointLock {
-            key: key.copied(),
-            tx,
-            exclusive: is_exclusive(mode),
-        };
-        if !self.points.contains(&lock) {
-            list_key(self.alloc, &mut self.keys, tx, &key)?;
-            self.points.insert(lock)?;
+        match mode {
+            Mode::Shared => put_point(self.alloc, &mut self.shared, &mut self.keys, tx, key),
+            Mode::Exclusive => put_point(self.alloc, &mut self.exclusive, &mut self.keys, tx, key),
         }
-        Ok(())
     }
 
     /// Takes a lock on a wider range.
@@ -135,7 +135,8 @@ impl RangeLocks {
     {
         self.ranges.remove(&tx);
         if let Some(keys) = self.keys.remove(&tx) {
-            remove_listed(&mut self.points, tx, &keys);
+            remove_listed(&mut self.shared, tx, &keys);
+            remove_listed(&mut self.exclusive, tx, &keys);
         }
     }
 
@@ -143,7 +144,7 @@ impl RangeLocks {
     pub fn covers(&self, tx: TxId, range: &KeyRange, mode: Mode) -> bool
         ensures { IsTrue result ↔ IsCovered self.now tx range.now mode }
     {
-        covers_at_point(&self.points, tx, range, mode)
+        covers_at_point(&self.shared, &self.exclusive, tx, range, mode)
             || covers_on_range(&self.ranges, tx, range, mode)
     }
 
@@ -154,7 +155,8 @@ impl RangeLocks {
         ensures err { OnErr result (out.new.items ≡ out.old.items) }
     {
         let mut found = BTreeSet::new(self.alloc);
-        add_at_points(&mut found, &self.points, range, mode)?;
+        add_at_points(&mut found, &self.shared, Mode::Shared, range, mode)?;
+        add_at_points(&mut found, &self.exclusive, Mode::Exclusive, range, mode)?;
         add_on_ranges(&mut found, &self.ranges, range, mode)?;
         append(self.alloc, &found, out)?;
         Ok(())

@@ -13,19 +13,15 @@ use crate::key_list::KeyList;
 use std::collections::BTreeSet;
 use store_model::{Key, TxId};
 
-fn remove_point(points: &mut BTreeSet<PointLock>, tx: TxId, key: &Key, exclusive: bool)
+fn remove_point(points: &mut BTreeSet<PointLock>, tx: TxId, key: Key)
     ensures others { (p : PointLock) → p.tx ≢ tx → contains point_cmp points.new p ≡ contains point_cmp points.old p }
     ensures fewer { (p : PointLock) → contains point_cmp points.new p ≡ true → contains point_cmp points.old p ≡ true }
-    ensures gone { (p : PointLock) → p.tx ≡ tx → p.exclusive ≡ exclusive → contains point_cmp points.new p ≡ true → eq_by_cmp (slice_cmp nat_cmp) p.key key.now ≡ false }
+    ensures gone { (p : PointLock) → p.tx ≡ tx → contains point_cmp points.new p ≡ true → eq_by_cmp (slice_cmp nat_cmp) p.key key ≡ false }
 {
-    points.remove(&PointLock {
-        key: key.copied(),
-        tx,
-        exclusive,
-    });
+    points.remove(&PointLock { key, tx });
 }
 
-/// Removes a transaction's locks on the key of these bytes.
+/// Removes a transaction's lock on the key of these bytes.
 fn remove_key(points: &mut BTreeSet<PointLock>, tx: TxId, text: &[u8])
     requires { AreKeys points.old }
     ensures others { (p : PointLock) → p.tx ≢ tx → contains point_cmp points.new p ≡ contains point_cmp points.old p }
@@ -33,8 +29,7 @@ fn remove_key(points: &mut BTreeSet<PointLock>, tx: TxId, text: &[u8])
     ensures gone { (p : PointLock) → p.tx ≡ tx → contains point_cmp points.new p ≡ true → eq_by_cmp (slice_cmp nat_cmp) p.key text.now ≡ false }
 {
     if let Some(key) = Key::new(text) {
-        remove_point(points, tx, &key, false);
-        remove_point(points, tx, &key, true);
+        remove_point(points, tx, key);
     }
 }
 

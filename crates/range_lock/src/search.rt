@@ -6,7 +6,7 @@ ghost use Rattle.std.specs.Cmp.Lexicographic.{slice_cmp};
 ghost use Rattle.store_model.specs.Range.{is_below, overlap};
 ghost use Rattle.range_lock.specs.Lock.{is_exclusive, conflict};
 ghost use Rattle.range_lock.specs.Nearest.{nearest, step};
-ghost use Rattle.range_lock.specs.Tables.{StartsBelow, mode_of, lock_at_point, lock_on_range, locks_on_ranges};
+ghost use Rattle.range_lock.specs.Tables.{StartsBelow, lock_at_point, lock_on_range, locks_on_ranges};
 
 use crate::entry::{PointLock, RangeLock};
 use crate::rival::{Rival, nearer};
@@ -22,17 +22,6 @@ pub fn is_exclusive(mode: Mode) -> bool
     match mode {
         Mode::Shared => false,
         Mode::Exclusive => true,
-    }
-}
-
-/// How a lock on a single key is held.
-pub fn mode_of(exclusive: bool) -> Mode
-    ensures { result ≡ mode_of exclusive }
-{
-    if exclusive {
-        Mode::Exclusive
-    } else {
-        Mode::Shared
     }
 }
 
@@ -63,31 +52,29 @@ pub fn start_of(range: &KeyRange) -> ops::Bound<PointLock>
     ensures { StartsBelow result range.now.low }
 {
     match first_key(range) {
-        Some(key) => ops::Bound::Included(PointLock {
-            key,
-            tx: 0,
-            exclusive: false,
-        }),
+        Some(key) => ops::Bound::Included(PointLock { key, tx: 0 }),
         None => ops::Bound::Unbounded,
     }
 }
 
-/// The first of the point locks in conflict with a lock.
+/// The first of the best so far and of the point locks held in one mode in conflict with a lock.
 pub fn first_point(
+    best: Option<Rival>,
     points: &BTreeSet<PointLock>,
+    held: Mode,
     tx: TxId,
     range: &KeyRange,
     mode: Mode,
 ) -> Option<Rival>
-    ensures { result ≡ nearest (record { tx = tx; range = range.now; mode = mode }) (map lock_at_point points.now.keys) None }
+    ensures { result ≡ nearest (record { tx = tx; range = range.now; mode = mode }) (map (lock_at_point held) points.now.keys) best }
 {
-    let mut best = None;
+    let mut best = best;
     for lock in points.range((start_of(range), ops::Bound::Unbounded)) {
         if !range.high().is_above(&lock.key) {
             break;
         }
         let place = KeyRange::point(&lock.key);
-        if conflicts(tx, range, mode, lock.tx, &place, mode_of(lock.exclusive)) {
+        if conflicts(tx, range, mode, lock.tx, &place, held) {
             best = nearer(
                 best,
                 Rival {

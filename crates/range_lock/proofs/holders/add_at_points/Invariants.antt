@@ -9,7 +9,7 @@ use Rattle.range_lock.proofs.holders.add_at_points.Given as goal
 
 abbrev pub invariant-loop-lock : goal.invariant-loop-lock
 invariant-loop-lock l = record {
-  same : (tx : ℕ) → (contains nat_cmp l.found tx || list_any (bars_by l.range l.mode tx) (map lock_at_point l.lock-iterator))
-      ≡ (contains nat_cmp l.fn.found tx || list_any (bars_by l.range l.mode tx) (map lock_at_point l.points.keys));
+  same : (tx : ℕ) → (contains nat_cmp l.found tx || list_any (bars_by l.range l.mode tx) (map (lock_at_point l.held) l.lock-iterator))
+      ≡ (contains nat_cmp l.fn.found tx || list_any (bars_by l.range l.mode tx) (map (lock_at_point l.held) l.points.keys));
   sorted : IsStrictlySortedBy point_cmp l.lock-iterator;
 }

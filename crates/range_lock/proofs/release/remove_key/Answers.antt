@@ -6,13 +6,12 @@ use Rattle.std.proofs.lemmas.Map.Lookups.{exact_bytes}
 use Rattle.store_model.proofs.Bools.{not_both, false_unless}
 use Rattle.range_lock.specs.Tables.{IsKey}
 use Rattle.range_lock.proofs.Members.{is_equal}
-use Rattle.range_lock.proofs.Points.{by_mode}
 use Rattle.range_lock.proofs.release.remove_key.Goals as goal
 
 pub returns-in-Some-clause-gone : goal.returns-in-Some-clause-gone
 returns-in-Some-clause-gone c p t h =
     subst (λ (q : List ℕ). eq_by_cmp (slice_cmp nat_cmp) p.key q ≡ false) c.in-Some.ensures.value
-    (by_mode p.exclusive _ (λ shared. c.remove_point.ensures.gone p t shared (c.remove_point-in-Some.ensures.fewer p h)) (λ exclusive. c.remove_point-in-Some.ensures.gone p t exclusive h))
+    (c.remove_point.ensures.gone p t h)
 
 pub returns-in_default-clause-gone : goal.returns-in_default-clause-gone
 returns-in_default-clause-gone c p t h = false_unless _ (λ g.

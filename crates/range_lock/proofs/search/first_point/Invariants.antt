@@ -1,4 +1,4 @@
-use Rattle.std.proofs.Common.{◌≡◌, map, None}
+use Rattle.std.proofs.Common.{◌≡◌, map}
 use Rattle.std.specs.List.Sorted.{IsStrictlySortedBy}
 use Rattle.range_lock.specs.Lock.{Lock}
 use Rattle.range_lock.specs.Nearest.{nearest}
@@ -9,6 +9,6 @@ abbrev pub invariant-loop-lock : goal.invariant-loop-lock
 invariant-loop-lock l =
     let asked : Lock = record { tx = l.tx; range = l.range; mode = l.mode } in
     record {
-      same : nearest asked (map lock_at_point l.lock-iterator) l.best ≡ nearest asked (map lock_at_point l.points.keys) None;
+      same : nearest asked (map (lock_at_point l.held) l.lock-iterator) l.best ≡ nearest asked (map (lock_at_point l.held) l.points.keys) l.fn.best;
       sorted : IsStrictlySortedBy point_cmp l.lock-iterator;
     }
