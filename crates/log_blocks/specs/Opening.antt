@@ -119,6 +119,11 @@ RoseFor before now LogFault = Rose before now
 RoseFor before now (LogBad block byte) = Unit {0}
 RoseFor before now fault = ⊥
 
+-- a device call failed
+abbrev pub IsLogFault : Fault → Type 0
+IsLogFault LogFault = Unit {0}
+IsLogFault fault = ⊥
+
 -- what a walk over the headers says
 abbrev pub Tells : Kept → Result Walked Fault → Type 0
 Tells k (Ok w) = IsOpened k w.places.items w.gate w.next

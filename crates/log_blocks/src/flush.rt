@@ -1,6 +1,7 @@
 //! A flush makes the first gate where there is none, and then writes block after block.
 ghost use Rattle.std.specs.Prelude.{◌≡◌, ◌⊎◌, ◌+◌, ◌-◌, ◌<◌, ◌≤◌, ◌^◌, ◌++◌, ◌∷◌, [], ℕ, List, length, take, drop, OnOk, slice_index_or};
 ghost use Rattle.media.specs.Cause.{HasCause};
+ghost use Rattle.media.specs.Counted.{Blames, Fails};
 ghost use Rattle.media.specs.Crash.{Only, LeavesOnly};
 ghost use Rattle.log_blocks.specs.Batch.{AreSized};
 ghost use Rattle.log_blocks.specs.Log.{Block, Behind, IsSequence, StandsFor, StandsForSome, blocks, laid};
@@ -27,6 +28,7 @@ fn make_gate<D: Disk>(device: &mut D, gate: u64, is_first: bool) -> Result<(), F
     ensures any_moment { D.tells → Only (D.told device.old) (D.may_leave device.old) → (bs : List _) → StandsFor bs (D.told device.old)
         → LeavesOnly D.moment D.left_since device.old device.new (StandsFor bs) }
     ensures cause { HasCause D.faults device.old device.new result }
+    ensures fuse { Blames D.passes D.refused D.own device.old device.new (Fails result) }
 {
     if device.len() - device.start() <= 1 {
         put_down(device, gate, &[0])
@@ -65,6 +67,7 @@ pub fn flush_all<D: Disk>(
         → StandsFor bs (D.told device.old) → IsSequence (D.start device.old) (bs ++ pending.old)
         → LeavesOnly D.moment D.left_since device.old device.new (StandsForSome bs pending.old) }
     ensures cause { HasCause D.faults device.old device.new result }
+    ensures fuse { Blames D.passes D.refused D.own device.old device.new (Fails result) }
 {
     make_gate(device, *gate, is_first)?;
     write_pending(device, gate, done, pending)
@@ -97,6 +100,7 @@ fn write_pending<D: Disk>(
         → IsSequence (D.start device.old) (bs ++ pending.old)
         → LeavesOnly D.moment D.left_since device.old device.new (StandsForSome bs pending.old) }
     ensures cause { HasCause D.faults device.old device.new result }
+    ensures fuse { Blames D.passes D.refused D.own device.old device.new (Fails result) }
 {
     while !pending.is_empty() {
         let bytes = first_bytes(pending);

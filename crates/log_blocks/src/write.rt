@@ -3,6 +3,7 @@ ghost use Rattle.std.specs.Prelude.{◌≡◌, ◌⊎◌, ◌+◌, ◌<◌, ◌�
 ghost use Rattle.media.specs.Kept.{Kept, Torn, written};
 ghost use Rattle.media.specs.Crash.{Only, LeavesOnly};
 ghost use Rattle.media.specs.Cause.{HasCause};
+ghost use Rattle.media.specs.Counted.{Blames, Fails};
 ghost use Rattle.log_blocks.specs.Log.{Behind, IsSequence, StandsFor, StandsForSome, blocks, open_gate};
 
 use media::{Disk, Failed};
@@ -23,6 +24,7 @@ pub fn put_down<D: Disk>(device: &mut D, at: u64, bytes: &[u8]) -> Result<(), Fa
     ensures any_moment { D.tells → Only (D.told device.old) (D.may_leave device.old)
         → LeavesOnly D.moment D.left_since device.old device.new (Torn at (length bytes.now) (D.told device.old)) }
     ensures cause { HasCause D.faults device.old device.new result }
+    ensures fuse { Blames D.passes D.refused D.own device.old device.new (Fails result) }
 {
     device.write_at(at, bytes)?;
     device.sync()?;
@@ -48,6 +50,7 @@ pub fn write_block<D: Disk>(device: &mut D, gate: u64, bytes: &[u8]) -> Result<(
         → LeavesOnly D.moment D.left_since device.old device.new
         (λ c. Behind (D.start device.old) front c ⊎ Behind (D.start device.old) (front ++ open_gate ∷ body) c) }
     ensures cause { HasCause D.faults device.old device.new result }
+    ensures fuse { Blames D.passes D.refused D.own device.old device.new (Fails result) }
 {
     put_down(device, gate + 1, bytes)?;
     put_down(device, gate, &[OPEN])?;

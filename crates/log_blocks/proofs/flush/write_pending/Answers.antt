@@ -1,5 +1,6 @@
 use Rattle.std.proofs.Common.{◌≡◌, ◌+◌, ◌++◌, List, length, take, refl, sym, ◌∙◌, ap, subst, arith, length-append, length-drop, length-take, append-nil}
 use Rattle.std.proofs.lemmas.List.{take_all}
+use Rattle.media.proofs.Blaming.{no_call, then_more}
 use Rattle.log_blocks.specs.Batch.{AreSized}
 use Rattle.log_blocks.specs.Log.{Block, Behind, blocks}
 use Rattle.log_blocks.specs.Opening.{places}
@@ -19,6 +20,7 @@ loop-pending-init g c = (
   },
   none_yet g.D.Disk.tells g.D.Disk.start g.D.Disk.len g.D.Disk.faults g.D.Disk.moment g.D.Disk.told g.D.Disk.may_leave g.D.Disk.left_since c.args.device.now c.args.gate.now c.args.pending.now
       c.requires.not_past (λ k left. g.met.D.Disk.only_now c.args.device.now k left),
+  no_call g.D.Disk.passes g.D.Disk.refused g.D.Disk.own c.args.device.now ⊥ (λ never. never),
 )
 
 pub write_block-requires-clause-fits : goal.write_block-requires-clause-fits
@@ -93,6 +95,7 @@ loop-pending-preserved g c =
             c.args.device.now c.loop-pending.device c.write_block.new.device c.args.gate.now c.loop-pending.gate c.args.pending.now p.count
             lt b is inv _ bytes c.write_block.ensures.any_moment;
       },
+      then_more g.D.Disk.passes g.D.Disk.refused g.D.Disk.own _ _ _ ⊥ ⊥ c.loop-pending.invariant.2 (λ never. never) c.in_ok-write_block.ensures.fuse,
     )
 
 pub returns-clause-written : goal.returns-clause-written

@@ -5,7 +5,7 @@ use Rattle.media.specs.Cause.{Rose}
 use Rattle.media.specs.Crash.{LeavesOnly}
 use Rattle.log_blocks.specs.declared.header.Place.{Place}
 use Rattle.log_blocks.specs.Log.{StandsForSome, IsRun, IsSequence, blocks}
-use Rattle.log_blocks.specs.LogState.{AreNumbered, LogState, IsDurable, lsn_behind}
+use Rattle.log_blocks.specs.LogState.{LogState, IsDurable, lsn_behind}
 use Rattle.log_blocks.specs.Opening.{IsChain}
 use Rattle.log_blocks.proofs.Durable.{chain_progress, durable_more}
 use Rattle.log_blocks.proofs.Walking.{next_above}
