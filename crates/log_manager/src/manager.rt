@@ -1,11 +1,13 @@
 //! The list of records, over blocks.
-ghost use Rattle.std.specs.Prelude.{◌≡◌, ◌⊎◌, ◌+◌, ◌-◌, ◌<◌, ◌≤◌, ◌^◌, ◌++◌, ◌∷◌, [], ℕ, List, length, drop, take, min, None, Some, OnOk, OnErr, IfOk, IfErr, slice_index_or};
+ghost use Rattle.std.specs.Prelude.{◌≡◌, ◌⊎◌, ◌+◌, ◌-◌, ◌<◌, ◌≤◌, ◌^◌, ◌++◌, ◌∷◌, [], ℕ, List, length, drop, take, min, None, Some, OnOk, OnErr, IfOk, IfErr, IsErrAnd, slice_index_or};
 ghost use Rattle.std.specs.List.{All};
+ghost use Rattle.media.specs.Counted.{Armed, Blames};
 ghost use Rattle.media.specs.Crash.{LeavesOnly};
 ghost use Rattle.store_model.specs.declared.fault.Fault.TheVariants as faults;
 ghost use Rattle.log_blocks.specs.Batch.{records_in};
 ghost use Rattle.log_blocks.specs.Log.{Block};
 ghost use Rattle.log_blocks.specs.LogState.{IsDurable, Refused, checkpoint_of, durable_lsn, firsts};
+ghost use Rattle.log_blocks.specs.Opening.{IsLogFault};
 ghost use Rattle.wal_record.specs.Rules.{HasSpelling};
 ghost use Rattle.wal_record.specs.declared.record.Record.{Record};
 ghost use Rattle.log_manager.specs.Records.{bytes_of, AreRecordsOf, IsLogOf, StandsForRecords};
@@ -138,6 +140,7 @@ impl<L: Disk> LogManager<L> {
         ensures live { OnOk result ((self.old.log.ended ≡ None) × (self.new.log.ended ≡ None)) }
         ensures refused { IfErr result (Refused ⊥ L.faults self.old.log self.new.log) }
         ensures later { L.faults self.old.log.device ≤ L.faults self.new.log.device }
+        ensures fuse { Blames L.passes L.refused L.own self.old.log.device self.new.log.device (IsErrAnd result IsLogFault) }
     {
         self.live()?;
         if lsn <= self.durable() {
@@ -161,6 +164,7 @@ impl<L: Disk> LogManager<L> {
         ensures live { OnOk result ((self.old.log.ended ≡ None) × (self.new.log.ended ≡ None)) }
         ensures refused { IfErr result (ReadRefused L.faults self.old.log self.new.log) }
         ensures later { L.faults self.old.log.device ≤ L.faults self.new.log.device }
+        ensures fuse { Blames L.passes L.refused L.own self.old.log.device self.new.log.device (IsErrAnd result IsLogFault) }
     {
         self.live()?;
         reach(&mut self.log, &mut self.batch, &mut self.counted, lsn);
@@ -182,6 +186,7 @@ impl<L: Disk> LogManager<L> {
         ensures live { OnOk result ((self.old.log.ended ≡ None) × (self.new.log.ended ≡ None)) }
         ensures refused { IfErr result (Refused ⊥ L.faults self.old.log self.new.log) }
         ensures later { L.faults self.old.log.device ≤ L.faults self.new.log.device }
+        ensures fuse { Blames L.passes L.refused L.own self.old.log.device self.new.log.device (IsErrAnd result IsLogFault) }
     {
         self.live()?;
         let n = blocks_before(&self.log, upto);
@@ -244,6 +249,7 @@ impl<L: Disk> LogManager<L> {
         ensures records { L.tells → (stable waiting : List Record) → IsLogOf L.told L.may_leave self.old.log stable waiting → IsLogOf L.told L.may_leave self.new.log stable waiting }
         ensures any_moment { LeavesOnly L.moment L.left_since self.old.log.device self.new.log.device (λ k. L.may_leave self.old.log.device k) }
         ensures faults { L.faults self.new.log.device ≡ L.faults self.old.log.device }
+        ensures fuse { Armed L.fuses L.passes L.refused L.own n self.old.log.device self.new.log.device }
     {
         self.log.fuse(n);
     }
