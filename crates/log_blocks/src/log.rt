@@ -8,7 +8,7 @@ ghost use Rattle.store_model.specs.declared.fault.Fault.TheVariants as faults;
 ghost use Rattle.log_blocks.specs.Batch.{IsChecked, numbered, records_in, AreSized};
 ghost use Rattle.log_blocks.specs.Log.{Block, IsRun, StandsFor, StandsForSome, blocks, laid, next_lsn};
 ghost use Rattle.log_blocks.specs.LogState.{AreNumbered, LogState, IsDurable, Refused, checkpoint_of, durable_lsn, firsts, last_or, log_end, payload_at};
-ghost use Rattle.log_blocks.specs.Opening.{IsLogFault, Progress, RoseFor, TellsFault};
+ghost use Rattle.log_blocks.specs.Opening.{FlushLeaves, IsLogFault, Progress, RoseFor, TellsFault};
 
 use crate::batch::{Batch, pass};
 use crate::block::BlockBuf;
@@ -198,6 +198,10 @@ impl<L: Disk> BlockLog<L> {
         // in part.
         ensures any_moment { L.tells → (bs : List Block) → IsDurable L.told L.may_leave self.old bs
             → LeavesOnly L.moment L.left_since self.old.device self.new.device (StandsForSome bs self.old.pending) }
+        // After a fault, too, a read gives the durable blocks, which are at least those before and those that are no longer
+        // pending, and then maybe further ones in order.
+        ensures left { L.tells → (bs : List Block) → IsDurable L.told L.may_leave self.old bs
+            → FlushLeaves L.told L.may_leave bs self.old.pending self.new.pending self.new.device }
         ensures refused { IfErr result (Refused ⊥ L.faults self.old self.new) }
         ensures live { OnOk result (self.old.ended ≡ None) }
         ensures later { L.faults self.old.device ≤ L.faults self.new.device }
