@@ -1,7 +1,7 @@
 -- The record of an LSN, in the block that has it.
 use Rattle.std.proofs.Common.{◌≡◌, ℕ, zero, suc, ◌+◌, ◌-◌, ◌<◌, ◌≤◌, Bool, true, false, List, [], ◌∷◌, ◌++◌, length, get_or, drop, refl, sym, ◌∙◌, ap, subst, arith, append_assoc, length-append}
 use Rattle.std.specs.Prelude.{map, nat_le, if◌then◌else◌, ⊤}
-use Rattle.std.proofs.lemmas.Bool.{le-leb, lt-leb}
+use Rattle.std.proofs.lemmas.Bool.{le-leb, leb-false, leb-true, lt-leb}
 use Rattle.log_blocks.specs.Batch.{numbered, records_in}
 use Rattle.std.specs.List.{All}
 use Rattle.log_blocks.specs.Log.{Block, body, open_gate, IsRun, IsSequence, first_lsn, next_lsn}
@@ -14,7 +14,7 @@ use Rattle.store_model.specs.declared.fault.Fault.TheVariants as faults
 use Rattle.wal_record.specs.Rules.{HasSpelling}
 use Rattle.wal_record.specs.declared.record.Record.{Record}
 use Rattle.log_manager.specs.Records.{AreIn, bytes_of}
-use Rattle.log_manager.specs.Managed.{HasLsn, IsAt, IsBadIn, IsBadRecord, NotRead, before_lsn, first_kept, with_batch}
+use Rattle.log_manager.specs.Managed.{EndBefore, HasLsn, IsAt, IsBadIn, IsBadRecord, NotRead, before_lsn, first_kept, with_batch}
 
 abbrev pub first_of : Block → ℕ
 first_of b = b.first
@@ -153,6 +153,23 @@ before_small upto (p ∷ q ∷ ps) = by (nat_le q.first upto) (before_small upto
     by : (b : Bool) → before_lsn upto (q ∷ ps) ≤ length (q ∷ ps) - 1 → (if b then suc (before_lsn upto (q ∷ ps)) else 0) ≤ length (p ∷ q ∷ ps) - 1
     by true le = omega (arith, le)
     by false le = omega arith
+
+each_more : (upto f g n : ℕ) (fs : List ℕ) → g ≤ upto → ((i : ℕ) → i < n → get_or (g ∷ fs) (i + 1) 0 ≤ upto) → (i : ℕ) → i < suc n → get_or (f ∷ g ∷ fs) (i + 1) 0 ≤ upto
+each_more upto f g n fs le rest zero lt = le
+each_more upto f g n fs le rest (suc i) lt = let e : suc (i + 1) ≡ suc i + 1 = omega arith in subst (λ m. get_or (f ∷ g ∷ fs) m 0 ≤ upto) e (rest i (omega (arith, lt)))
+
+pub end_before : (upto : ℕ) (ps : List Place) → EndBefore upto ps (before_lsn upto ps)
+end_before upto [] = record { not_last = omega arith; each = λ i lt. absurd (omega (arith, lt)); no_more = λ lt. absurd (omega (arith, lt)) }
+end_before upto (p ∷ []) = record { not_last = omega arith; each = λ i lt. absurd (omega (arith, lt)); no_more = λ lt. absurd (omega (arith, lt)) }
+end_before upto (p ∷ q ∷ ps) = by (nat_le q.first upto) refl (end_before upto (q ∷ ps))
+  where
+    by : (b : Bool) → nat_le q.first upto ≡ b → EndBefore upto (q ∷ ps) (before_lsn upto (q ∷ ps)) → EndBefore upto (p ∷ q ∷ ps) (if b then suc (before_lsn upto (q ∷ ps)) else 0)
+    by true is rest = let n = before_lsn upto (q ∷ ps) in record {
+      not_last = omega (arith, rest.not_last);
+      each = each_more upto p.first q.first n (map (λ (x : Place). x.first) ps) (leb-true q.first upto is) rest.each;
+      no_more = λ lt. let e : suc (n + 1) ≡ suc n + 1 = omega arith in subst (λ m. upto < get_or (map (λ (x : Place). x.first) (p ∷ q ∷ ps)) m 0) e (rest.no_more (omega (arith, lt)));
+    }
+    by false is rest = record { not_last = omega arith; each = λ i lt. absurd (omega (arith, lt)); no_more = λ _. leb-false q.first upto is }
 
 -- the first record doesn't depend on the blocks in memory
 pub first_same : {D : Type 0} (log : LogState D) (bs : List Block) → first_kept (with_batch log bs) ≡ first_kept log

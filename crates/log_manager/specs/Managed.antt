@@ -1,5 +1,5 @@
 -- The log of records as contracts see it.
-use Rattle.std.specs.Prelude.{◌≡◌, ◌≤◌, ◌<◌, ◌+◌, ◌-◌, ◌*◌, ◌^◌, ℕ, suc, List, [], ◌∷◌, ◌++◌, length, take, min, None, Some, ⊤, nat_le, if◌then◌else◌, slice_index_or, Err}
+use Rattle.std.specs.Prelude.{◌≡◌, ◌≤◌, ◌<◌, ◌+◌, ◌-◌, ◌*◌, ◌^◌, ℕ, suc, List, [], ◌∷◌, ◌++◌, length, map, take, min, None, Some, ⊤, nat_le, if◌then◌else◌, slice_index_or, Err}
 use Rattle.store_model.specs.declared.fault.Fault.{Fault}
 use Rattle.store_model.specs.declared.fault.Fault.TheVariants.{Memory, LogBad, Ended}
 use Rattle.log_blocks.specs.Batch.{numbered, records_in, IsChecked}
@@ -61,6 +61,12 @@ abbrev pub before_lsn : ℕ → List Place → ℕ
 before_lsn upto [] = 0
 before_lsn upto (p ∷ []) = 0
 before_lsn upto (p ∷ q ∷ ps) = if nat_le q.first upto then suc (before_lsn upto (q ∷ ps)) else 0
+
+-- the first n of these durable blocks end before an LSN, and aren't the last; the next one doesn't, or is the last
+pub record EndBefore (upto : ℕ) (ps : List Place) (n : ℕ) : Type 0 where
+  pub not_last : n ≤ length ps - 1
+  pub each : (i : ℕ) → i < n → slice_index_or (map (λ p. p.first) ps) (i + 1) 0 ≤ upto
+  pub no_more : n + 1 < length ps → upto < slice_index_or (map (λ p. p.first) ps) (n + 1) 0
 
 -- how many records blocks at these places have
 abbrev pub records_at : List Place → ℕ

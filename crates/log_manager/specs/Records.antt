@@ -1,5 +1,5 @@
 -- Which records the blocks of a log hold.
-use Rattle.std.specs.Prelude.{◌≡◌, ◌≤◌, ◌+◌, ℕ, suc, List, [], ◌∷◌, ◌++◌, length, take, flat_map, map, Bool, true, false, if◌then◌else◌}
+use Rattle.std.specs.Prelude.{◌≡◌, ◌⊎◌, ◌≤◌, ◌+◌, ℕ, suc, List, [], ◌∷◌, ◌++◌, length, take, flat_map, map, Bool, true, false, if◌then◌else◌}
 use Rattle.std.specs.List.{All}
 use Rattle.media.specs.Kept.{Kept}
 use Rattle.log_blocks.specs.Log.{Block, StandsFor}
@@ -21,6 +21,20 @@ is_checkpoint _ = false
 abbrev pub checkpoint_after : ℕ → ℕ → List Record → ℕ
 checkpoint_after before lsn [] = before
 checkpoint_after before lsn (r ∷ rs) = checkpoint_after (if is_checkpoint r then lsn else before) (suc lsn) rs
+
+-- of these records, the first of which has the LSN first, the one with this LSN is the last Checkpoint
+pub record IsLastOf (first : ℕ) (rs : List Record) (lsn : ℕ) : Type 0 where
+  pub front : List Record
+  pub found : Record
+  pub back : List Record
+  pub is : rs ≡ front ++ found ∷ back
+  pub checkpoint : is_checkpoint found ≡ true
+  pub none_behind : All (λ r. is_checkpoint r ≡ false) back
+  pub place : lsn ≡ first + length front
+
+-- the LSN of the last Checkpoint of these records; where none of them is one, `before`
+abbrev pub IsLastCheckpoint : ℕ → ℕ → List Record → ℕ → Type 0
+IsLastCheckpoint before first rs lsn = ((lsn ≡ before) × All (λ r. is_checkpoint r ≡ false) rs) ⊎ IsLastOf first rs lsn
 
 -- the block holds these records, where the last Checkpoint before them has the LSN `before`
 pub record Holds (before : ℕ) (b : Block) (rs : List Record) : Type 0 where

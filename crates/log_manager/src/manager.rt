@@ -10,8 +10,8 @@ ghost use Rattle.log_blocks.specs.LogState.{IsDurable, Refused, checkpoint_of, d
 ghost use Rattle.log_blocks.specs.Opening.{IsLogFault, Progress};
 ghost use Rattle.wal_record.specs.Rules.{HasSpelling};
 ghost use Rattle.wal_record.specs.declared.record.Record.{Record};
-ghost use Rattle.log_manager.specs.Records.{bytes_of, AreRecordsOf, IsLogOf, RecordsLeft, StandsForRecords};
-ghost use Rattle.log_manager.specs.Managed.{HasMore, HasLsn, IsAt, IsBadIn, IsCounted, IsNoBadLog, NotAdded, ReadRefused, before_lsn, first_kept, recycled, with_batch};
+ghost use Rattle.log_manager.specs.Records.{bytes_of, AreRecordsOf, IsLastCheckpoint, IsLogOf, RecordsLeft, StandsForRecords};
+ghost use Rattle.log_manager.specs.Managed.{EndBefore, HasMore, HasLsn, IsAt, IsBadIn, IsCounted, IsNoBadLog, NotAdded, ReadRefused, before_lsn, first_kept, recycled, with_batch};
 
 use crate::counted::{COMMIT, Counted};
 use crate::reading::record_in;
@@ -181,6 +181,7 @@ impl<L: Disk> LogManager<L> {
 
     /// Forgets the durable blocks that end before an LSN, but never the last one.
     pub fn recycle_to(&mut self, upto: Lsn) -> Result<(), Fault>
+        ensures these { EndBefore upto self.old.log.places (before_lsn upto self.old.log.places) }
         ensures dropped { OnOk result (self.new ≡ record self.old { log = record self.old.log { device = self.new.log.device; places = drop (before_lsn upto self.old.log.places) self.old.log.places } }) }
         ensures same { OnErr result (self.new ≡ record self.old { log = record self.old.log { device = self.new.log.device; ended = self.new.log.ended } }) }
         ensures records { L.tells → (stable waiting : List Record) → IsLogOf L.told L.may_leave self.old.log stable waiting
@@ -229,7 +230,10 @@ impl<L: Disk> LogManager<L> {
 
     /// The LSN of the last Checkpoint, 0 where the log has none.
     pub fn checkpoint(&self) -> Lsn
-        ensures { L.tells → (stable waiting : List Record) → IsLogOf L.told L.may_leave self.now.log stable waiting → result ≡ checkpoint_of self.now.log }
+        // Where none of the records that are kept is one, it stood before them.
+        ensures last { L.tells → (stable waiting : List Record) → (log : IsLogOf L.told L.may_leave self.now.log stable waiting)
+            → IsLastCheckpoint log.records.before (first_kept self.now.log) (stable ++ waiting) result }
+        ensures header { L.tells → (stable waiting : List Record) → IsLogOf L.told L.may_leave self.now.log stable waiting → result ≡ checkpoint_of self.now.log }
     {
         self.counted.checkpoint
     }
