@@ -16,10 +16,10 @@ use Rattle.log_blocks.proofs.BlockLists.{run_front}
 use Rattle.wal_record.specs.Rules.{HasSpelling}
 use Rattle.wal_record.specs.declared.record.Record.{Record}
 use Rattle.log_manager.specs.declared.counted.Counted.{Counted}
-use Rattle.log_manager.specs.Records.{AreIn, AreRecordsOf, IsLastCheckpoint, IsLogOf, RecordsLeft, StandsForMoreRecords, StandsForRecords, bytes_of, checkpoint_after, checkpoint_in}
-use Rattle.log_manager.specs.Managed.{HasLsn, IsAt, IsCounted, first_kept, records_at, with_batch}
+use Rattle.log_manager.specs.Records.{AreIn, AreRecordsOf, IsLastCheckpoint, IsLogOf, StandsForMoreRecords, StandsForRecords, bytes_of, checkpoint_after, checkpoint_in}
+use Rattle.log_manager.specs.Managed.{HasLsn, IsAt, IsCounted, RecordsLeft, first_kept, records_at, with_batch}
 use Rattle.log_manager.proofs.Counting.{checkpoint_of_block, checkpoints-places, group_run, without_first}
-use Rattle.log_manager.proofs.Finding.{at_more, first_of, firsts-places, found_at, found_in, next_of_all}
+use Rattle.log_manager.proofs.Finding.{at_more, first_front, first_of, firsts-places, found_at, found_in, next_of_all}
 use Rattle.log_manager.proofs.Joining.{checkpoint_in-append, checkpoint_is, last_is, group_in, in_append, in_count, in_drop, in_split, in_take, next_count, records_most, records_places, records_take}
 
 -- ---- the last Checkpoint
@@ -186,17 +186,30 @@ module _ {D : Type 0} (told : D → Kept) (may_leave : D → Kept → Type 0) wh
       front_none [] ys e = refl
       front_none (x ∷ xs) ys e = absurd cc
 
+  -- they begin with the first LSN that the log keeps
+  first_number : (log : LogState D) (s w : List Record) (h : IsLogOf told may_leave log s w) (n : ℕ) → first_lsn (h.bs ++ take n log.pending) ≡ first_kept log
+  first_number log s w h n =
+      let start = (told log.device).start in
+      let is = h.durable.places_are in
+      first_front start log.next n h.bs log.pending (subst (λ (l : List Place). IsRun (lsn_behind l) log.pending) is h.numbered.run)
+      (subst (λ (l : List Place). log.next ≡ next_lsn (lsn_behind l) log.pending) is h.numbered.next)
+      ∙ ap (λ (l : List Place). get_or (map (λ (p : Place). p.first) l ++ map first_of log.pending) 0 log.next) (sym is)
+
   -- what a crash within a flush leaves
-  pub some_flushed : (log : LogState D) (s w : List Record) (h : IsLogOf told may_leave log s w) (k : Kept) → StandsForSome h.bs log.pending k → (n : ℕ) × StandsForRecords (s ++ take n w) k
-  some_flushed log s w h k some = (records_in (take some.whole log.pending), first_stand log s w h k some.whole some.stands)
+  pub some_flushed : (log : LogState D) (s w : List Record) (h : IsLogOf told may_leave log s w) (k : Kept) → StandsForSome h.bs log.pending k
+      → (n : ℕ) × (t : StandsForRecords (s ++ take n w) k) × (first_lsn t.bs ≡ first_kept log)
+  unfolding first_stand
+  some_flushed log s w h k some = (records_in (take some.whole log.pending), first_stand log s w h k some.whole some.stands, first_number log s w h some.whole)
 
   more_flushed : (log : LogState D) (s w : List Record) (h : IsLogOf told may_leave log s w) (k : Kept) (done : ℕ) → StandsForMore h.bs log.pending done k
-      → StandsForMoreRecords s w (records_in (take done log.pending)) k
+      → StandsForMoreRecords (first_kept log) s w (records_in (take done log.pending)) k
+  unfolding first_stand
   more_flushed log s w h k done some = record {
     whole = records_in (take some.whole log.pending);
     no_fewer = records_take done some.whole log.pending some.no_fewer;
     within = omega (arith, records_most some.whole log.pending, in_count (checkpoint_in h.records.before h.bs) log.pending w h.more);
     stands = first_stand log s w h k some.whole some.stands;
+    numbered = first_number log s w h some.whole;
   }
 
   -- what a flush leaves
@@ -237,15 +250,14 @@ module _ {D : Type 0} (told : D → Kept) (may_leave : D → Kept → Type 0) wh
       record { done = left.done; within = left.within; durable = left.durable; read = left.read; crash = left.crash }
 
   -- what the disk has now
-  pub none_flushed : (log : LogState D) (s w : List Record) → IsLogOf told may_leave log s w → (k : Kept) → may_leave log.device k → (n : ℕ) × StandsForRecords (s ++ take n w) k
-  none_flushed log s w h k left = (
-    0,
-    record {
-      bs = h.bs;
-      stands = subst (StandsFor h.bs) (sym (h.durable.only k left)) h.durable.stands;
-      records = record { before = h.records.before; none = h.records.none; records = subst (AreIn h.records.before h.bs) (sym (append-nil s)) h.records.records };
-    },
-  )
+  pub none_flushed : (log : LogState D) (s w : List Record) → IsLogOf told may_leave log s w → (k : Kept) → may_leave log.device k
+      → (n : ℕ) × (t : StandsForRecords (s ++ take n w) k) × (first_lsn t.bs ≡ first_kept log)
+  none_flushed log s w h k left =
+      some_flushed log s w h k (record {
+        whole = 0;
+        within = omega arith;
+        stands = subst (λ (l : List Block). StandsFor l k) (sym (append-nil h.bs)) (subst (StandsFor h.bs) (sym (h.durable.only k left)) h.durable.stands);
+      })
 
   -- a log that has just been opened
   pub opened : (log : LogState D) (bs : List Block) (rs : List Record) → log.pending ≡ [] → AreNumbered log → Stands log bs → AreRecordsOf bs rs → IsLogOf told may_leave log rs []
