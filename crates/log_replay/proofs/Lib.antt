@@ -1,0 +1,6 @@
+pub mod Counting
+pub mod Pages
+pub mod Stepping
+pub mod Finding
+pub mod Blocks
+pub mod Payload

@@ -1,5 +1,5 @@
 -- What a replay has found in the records so far.
-use Rattle.std.specs.Prelude.{◌≡◌, ◌<◌, ◌+◌, ◌^◌, ℕ, suc, max, List, ◌∷◌, [], ◌++◌, length, Option, None, is_some, IfSome, Bool, true, false, not, if◌then◌else◌, IsTrue}
+use Rattle.std.specs.Prelude.{◌≡◌, ◌<◌, ◌+◌, ◌^◌, ℕ, suc, max, List, ◌∷◌, [], ◌++◌, length, Option, None, is_some, IfSome, Bool, true, false, not, if◌then◌else◌, MatchBool, IsTrue}
 use Rattle.std.specs.List.{list_any}
 use Rattle.wal_record.specs.State.{KeepsState}
 use Rattle.page_rows.specs.Redo.{IsRedoable}
@@ -43,7 +43,7 @@ pub record IsReplayOf (log : List Record) (r : Replay) : Type 0 where
   pub below : greatest log < 2 ^ 63
   pub commits : r.commits ≡ commits log
   pub limit : r.limit ≡ limit_of log
-  pub writes : (t : ℕ) → count_of r.writes t ≡ length (open_writes log t)
+  pub writes : (t : ℕ) → count_of r.writes.counts t ≡ length (open_writes log t)
   pub last : r.last ≡ length log
   pub whole : list_any splits_page log ≡ false
 
@@ -65,7 +65,7 @@ pub record PageChanged (r : Record) (old new : Replay) : Type 0 where
 
 -- what may not be done to the page
 abbrev pub IsUnlawful : Record → Option PageState → Type 0
-IsUnlawful r page = if changes_page r then (IsRedoable r 1 page → ⊥) else (page ≡ None)
+IsUnlawful r page = MatchBool (changes_page r) (IsRedoable r 1 page → ⊥) (page ≡ None)
 
 abbrev pub IsPageRefusal : Record → Option PageState → NotTaken → Type 0
 IsPageRefusal r page Memory = Unit {0}
@@ -76,7 +76,7 @@ pub record Counted (r : Record) (old new : Replay) : Type 0 where
   pub next : new.next ≡ max old.next (suc (tx_of r))
   pub commits : new.commits ≡ old.commits + commits (r ∷ [])
   pub limit : new.limit ≡ (if is_format r then limit_of (r ∷ []) else old.limit)
-  pub writes : (t : ℕ) (ws : List Record) → count_of old.writes t ≡ length ws → count_of new.writes t ≡ length (open_step t r ws r)
+  pub writes : (t : ℕ) (ws : List Record) → count_of old.writes.counts t ≡ length ws → count_of new.writes.counts t ≡ length (open_step t r ws r)
   pub others : new ≡ record old { next = new.next; commits = new.commits; limit = new.limit; writes = new.writes }
 
 -- why a record isn't taken behind these

@@ -45,9 +45,9 @@ pub record KeepsLog {D : Type 0} (told : D → Kept) (may_leave : D → Kept →
 
 -- The devices stand for the log. What is asked of each stands in a field of its own: images on the data device, backups
 -- and archive runs in the vault join with the work that makes them.
-pub record DevicesStandFor {D : Type 0} (told : D → Kept) (may_leave : D → Kept → Type 0) (log_disk : D) (log : List Record) : Type 0 where
+pub record DevicesStandFor {D : Type 0} (told : D → Kept) (may_leave : D → Kept → Type 0) (disk : D) (log : List Record) : Type 0 where
   pub sound : IsSound log
-  pub log_disk : KeepsLog told may_leave log_disk log
+  pub log_disk : KeepsLog told may_leave disk log
 
 -- ---- what isn't built
 

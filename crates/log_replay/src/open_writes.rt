@@ -20,7 +20,7 @@ pub struct OpenWrites {
 
 impl OpenWrites {
     pub fn new(alloc: Global) -> OpenWrites
-        ensures { (t : ℕ) → count_of result t ≡ 0 }
+        ensures { (t : ℕ) → count_of result.counts t ≡ 0 }
     {
         OpenWrites {
             counts: HashMap::new(alloc),
@@ -29,8 +29,8 @@ impl OpenWrites {
 
     /// One record more.
     pub fn take(&mut self, entry: &Record) -> Result<(), Memory>
-        requires { (t : ℕ) → count_of self.old t < 2 ^ 64 - 1 }
-        ensures { OnOk result ((t : ℕ) (ws : List Record) → count_of self.old t ≡ length ws → count_of self.new t ≡ length (open_step t entry.now ws entry.now)) }
+        requires { (t : ℕ) → count_of self.old.counts t < 2 ^ 64 - 1 }
+        ensures { OnOk result ((t : ℕ) (ws : List Record) → count_of self.old.counts t ≡ length ws → count_of self.new.counts t ≡ length (open_step t entry.now ws entry.now)) }
     {
         match entry {
             Record::Write(write) => self.add(write.tx),
@@ -50,15 +50,15 @@ impl OpenWrites {
 
     /// Whether no transaction has any.
     pub fn is_empty(&self) -> bool
-        ensures none { result ≡ true → (t : ℕ) → count_of self.now t ≡ 0 }
-        ensures some { result ≡ false → (t : ℕ) × (1 ≤ count_of self.now t) }
+        ensures none { result ≡ true → (t : ℕ) → count_of self.now.counts t ≡ 0 }
+        ensures some { result ≡ false → (t : ℕ) × (1 ≤ count_of self.now.counts t) }
     {
         self.counts.is_empty()
     }
 
     fn add(&mut self, tx: TxId) -> Result<(), Memory>
-        requires { count_of self.old tx < 2 ^ 64 - 1 }
-        ensures { OnOk result (ChangesOnly self.old self.new tx (count_of self.old tx + 1)) }
+        requires { count_of self.old.counts tx < 2 ^ 64 - 1 }
+        ensures { OnOk result (ChangesOnly self.old.counts self.new.counts tx (count_of self.old.counts tx + 1)) }
     {
         let count = self.count(tx);
         self.counts.insert(tx, count + 1)?;
@@ -66,7 +66,7 @@ impl OpenWrites {
     }
 
     fn take_back(&mut self, tx: TxId) -> Result<(), Memory>
-        ensures { OnOk result (ChangesOnly self.old self.new tx (count_of self.old tx - 1)) }
+        ensures { OnOk result (ChangesOnly self.old.counts self.new.counts tx (count_of self.old.counts tx - 1)) }
     {
         let count = self.count(tx);
         if count <= 1 {
@@ -78,13 +78,13 @@ impl OpenWrites {
     }
 
     fn close(&mut self, tx: TxId)
-        ensures { ChangesOnly self.old self.new tx 0 }
+        ensures { ChangesOnly self.old.counts self.new.counts tx 0 }
     {
         self.counts.remove(&tx);
     }
 
     fn count(&self, tx: TxId) -> u64
-        ensures { result ≡ count_of self.now tx }
+        ensures { result ≡ count_of self.now.counts tx }
     {
         self.counts.get(&tx).copied().unwrap_or(0)
     }

@@ -2,7 +2,7 @@
 ghost use Rattle.std.specs.Prelude.{◌≡◌, ◌≢◌, ◌↔◌, ◌≤◌, ◌<◌, ◌+◌, ◌-◌, ◌^◌, ◌∷◌, ◌++◌, [], ℕ, List, None, drop, length, true, slice_index_or, OnOk, IfErr, IfOk, MatchResult};
 ghost use Rattle.std.specs.List.{All};
 ghost use Rattle.log_blocks.specs.Log.{Block, first_lsn};
-ghost use Rattle.log_blocks.specs.LogState.{AreNumbered, IsDurable, durable_lsn, firsts};
+ghost use Rattle.log_blocks.specs.LogState.{IsDurable, firsts};
 ghost use Rattle.wal_record.specs.Rules.{HasSpelling};
 ghost use Rattle.wal_record.specs.Spelling.{spelling};
 ghost use Rattle.wal_record.specs.Sound.{AreLawful, IsSound};
@@ -11,6 +11,7 @@ ghost use Rattle.log_manager.specs.Records.{AreRecordsOf, bytes_of};
 ghost use Rattle.log_replay.specs.Answers.{IsCaused, IsNotReplayed, IsUnread, Opens};
 ghost use Rattle.log_replay.specs.Replayed.{HasReplayed, IsReplayOf};
 ghost use Rattle.log_replay.specs.Standing.{HoldEnd};
+ghost use Rattle.log_replay.specs.declared.found.NotReplayed.TheVariants as refusals;
 
 use crate::found::{Found, NotReplayed};
 use crate::replaying::{NotTaken, Replay};
@@ -73,8 +74,9 @@ fn replay_all<L: Disk>(
     ensures cause { IfErr result (IsCaused (L.faults log.old.device) (L.faults log.new.device)) }
 {
     let mut replay = Replay::new(alloc);
+    let end = log.durable_lsn();
     for block in 0..log.blocks() {
-        let last = last_in(log, block);
+        let last = last_in(log, block, end);
         let mut payload = Vec::new(alloc);
         match log.read_block(block, &mut payload) {
             Ok(()) => {}
@@ -86,17 +88,17 @@ fn replay_all<L: Disk>(
     Ok(replay)
 }
 
-/// The LSN of the last record that a block counts.
-fn last_in<L: Disk>(log: &BlockLog<L>, block: u64) -> Lsn
+/// The LSN of the last record that a block counts, where the last one of the log has the LSN `end`.
+fn last_in<L: Disk>(log: &BlockLog<L>, block: u64, end: Lsn) -> Lsn
     requires { block < length log.now.places + length log.now.pending }
     ensures inner { block + 1 < length log.now.places + length log.now.pending → result ≡ slice_index_or (firsts log.now) (block + 1) 0 - 1 }
-    ensures last { length log.now.places + length log.now.pending ≤ block + 1 → result ≡ durable_lsn log.now.places }
-    ensures numbered { length log.now.places + length log.now.pending ≤ block + 1 → AreNumbered log.now }
+    ensures last { length log.now.places + length log.now.pending ≤ block + 1 → result ≡ end }
 {
-    if block + 1 < log.blocks() {
+    let blocks = log.blocks();
+    if block + 1 < blocks {
         log.first_of(block + 1).saturating_sub(1)
     } else {
-        log.durable_lsn()
+        end
     }
 }
 
@@ -138,8 +140,7 @@ fn replay_record(
     requires within { at < length payload.now }
     requires replayed { HasReplayed replay.old }
     ensures within { IfOk result (λ n. (1 ≤ n) × (at + n ≤ length payload.now)) }
-    ensures more { (log : List Record) → IsReplayOf log replay.old
-        → IfOk result (λ n. (r : Record) × (drop at payload.now ≡ spelling r ++ drop (at + n) payload.now) × IsReplayOf (log ++ r ∷ []) replay.new) }
+    ensures replayed { OnOk result (HasReplayed replay.new) }
     ensures met { (log : List Record) (r : Record) (rest : List ℕ) → IsReplayOf log replay.old → HasSpelling r → drop at payload.now ≡ spelling r ++ rest → AreLawful (log ++ r ∷ []) → length log < last
         → MatchResult result (λ n. (n ≡ length (spelling r)) × IsReplayOf (log ++ r ∷ []) replay.new) (IsUnread (r ∷ [])) }
     ensures cause { IfErr result (IsCaused 0 0) }
@@ -164,7 +165,7 @@ fn replay_record(
 
 fn bad(block: u64, at: usize) -> NotReplayed
     requires { at < 2 ^ 63 }
-    ensures { result ≡ NotReplayed.TheVariants.LogBad block (at + 23) }
+    ensures { result ≡ refusals.LogBad block (at + 23) }
 {
     NotReplayed::LogBad {
         block,

@@ -45,14 +45,6 @@ pub enum NotTaken {
     NotBuilt,
 }
 
-impl From<Memory> for NotTaken {
-    fn from(_memory: Memory) -> NotTaken
-        ensures { result ≡ NotTaken.Memory }
-    {
-        NotTaken::Memory
-    }
-}
-
 impl Replay {
     /// Of no record.
     pub fn new(alloc: Global) -> Replay
@@ -82,10 +74,17 @@ impl Replay {
         ensures more { (log : List Record) → IsReplayOf log self.old → OnOk result (IsReplayOf (log ++ entry.now ∷ []) self.new) }
         ensures refused { (log : List Record) → IsReplayOf log self.old → IfErr result (IsNotTaken log entry.now) }
     {
-        self.change_page(alloc, entry, operators)?;
-        self.count(entry)?;
-        self.last += 1;
-        Ok(())
+        match self.change_page(alloc, entry, operators) {
+            Ok(()) => {}
+            Err(refused) => return Err(refused),
+        }
+        match self.count(entry) {
+            Ok(()) => {
+                self.last += 1;
+                Ok(())
+            }
+            Err(_) => Err(NotTaken::Memory),
+        }
     }
 
     /// The record does to the page what it says.
@@ -110,18 +109,21 @@ impl Replay {
                 None => Err(NotTaken::Unlawful),
             };
         }
-        if !redo(alloc, &mut self.page, ROOT, entry, operators)? {
-            return Err(NotTaken::Unlawful);
+        match redo(alloc, &mut self.page, ROOT, entry, operators) {
+            Ok(true) => {
+                self.head = self.last + 1;
+                Ok(())
+            }
+            Ok(false) => Err(NotTaken::Unlawful),
+            Err(_) => Err(NotTaken::Memory),
         }
-        self.head = self.last + 1;
-        Ok(())
     }
 
     /// The record is counted.
     fn count(&mut self, entry: &Record) -> Result<(), Memory>
         requires commits { self.old.commits < 2 ^ 64 - 1 }
         requires number { tx_of entry.now < 2 ^ 64 - 1 }
-        requires writes { (t : ℕ) → count_of self.old.writes t < 2 ^ 64 - 1 }
+        requires writes { (t : ℕ) → count_of self.old.writes.counts t < 2 ^ 64 - 1 }
         ensures { OnOk result (Counted entry.now self.old self.new) }
     {
         match entry {

@@ -1,0 +1,6 @@
+use Rattle.std.proofs.Common.{rules, arith}
+use Rattle.log_replay.proofs.Counting.{some_counted}
+use Rattle.log_replay.proofs.open_writes.OpenWrites.is_empty.Goals as goal
+
+pub returns-clause-some : goal.returns-clause-some
+returns-clause-some c = λ no. some_counted c.args.self.now.counts c.args.self.now.positive (λ none. ?)
