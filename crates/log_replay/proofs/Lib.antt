@@ -4,3 +4,5 @@ pub mod Stepping
 pub mod Finding
 pub mod Blocks
 pub mod Payload
+pub mod ReadBlocks
+pub mod Opening

@@ -82,7 +82,7 @@ module _ (log : List Record) (r : Record) (old mid new : Replay) (o : IsReplayOf
       omega (arith, old_next, push, was, now)
 
   -- one record more was found
-  pub replay_more : IsReplayOf (log ++ r ∷ []) (record new { last = old.last + 1 })
+  pub replay_more : IsReplayOf (log ++ r ∷ []) (record new { last = new.last + 1 })
   replay_more = record {
     page = page_more;
     some = ap is_some (ap (λ (x : Replay). x.page) c.others) ∙ p.some ∙ sym (some_more log r);
@@ -93,7 +93,7 @@ module _ (log : List Record) (r : Record) (old mid new : Replay) (o : IsReplayOf
     commits = c.commits ∙ ap (λ (n : ℕ). n + commits (r ∷ [])) (ap (λ (x : Replay). x.commits) p.others ∙ o.commits) ∙ sym (commits_append log (r ∷ []));
     limit = limit_more;
     writes = λ t. c.writes t (open_writes log t) (ap (λ (x : Replay). count_of x.writes.counts t) p.others ∙ o.writes t) ∙ ap length (sym (open_push log r t));
-    last = ap (λ (n : ℕ). n + 1) o.last ∙ sym (length-append log (r ∷ []));
+    last = ap (λ (n : ℕ). n + 1) (ap (λ (x : Replay). x.last) c.others ∙ ap (λ (x : Replay). x.last) p.others ∙ o.last) ∙ sym (length-append log (r ∷ []));
     whole = list_any-append splits_page log (r ∷ []) ∙ ap (λ (b : Bool). b || (splits_page r || false)) o.whole ∙ ap (λ (b : Bool). b || false) (no_split r p.whole);
   }
 

@@ -48,7 +48,10 @@ pub fn replay<L: Disk>(
     if is_cut(log) {
         return Err(NotReplayed::NotBuilt);
     }
-    replay_all(alloc, log, operators)?.found()
+    match replay_all(alloc, log, operators) {
+        Ok(replay) => replay.found(),
+        Err(refused) => Err(refused),
+    }
 }
 
 /// Whether the first record was dropped.
@@ -83,7 +86,10 @@ fn replay_all<L: Disk>(
             Err(Fault::LogFault) => return Err(NotReplayed::LogFault),
             Err(_) => return Err(NotReplayed::Memory),
         }
-        replay_block(alloc, &mut replay, operators, block, &payload, last)?;
+        match replay_block(alloc, &mut replay, operators, block, &payload, last) {
+            Ok(()) => {}
+            Err(refused) => return Err(refused),
+        }
     }
     Ok(replay)
 }
@@ -119,7 +125,10 @@ fn replay_block(
 {
     let mut at = 0;
     while at < payload.len() {
-        at += replay_record(alloc, replay, operators, block, payload, at, last)?;
+        match replay_record(alloc, replay, operators, block, payload, at, last) {
+            Ok(length) => at += length,
+            Err(refused) => return Err(refused),
+        }
     }
     if replay.last != last {
         return Err(bad(block, at));

@@ -5,7 +5,7 @@ ghost use Rattle.wal_record.specs.Rules.{HasSpelling};
 ghost use Rattle.wal_record.specs.State.{KeepsState};
 ghost use Rattle.wal_record.specs.Sound.{AreLawful};
 ghost use Rattle.wal_record.specs.declared.record.Record.{Record};
-ghost use Rattle.log_replay.specs.Answers.{IsNotFound, Opens};
+ghost use Rattle.log_replay.specs.Answers.{IsCaused, IsNotFound, Opens};
 ghost use Rattle.log_replay.specs.Counts.{count_of};
 ghost use Rattle.log_replay.specs.Replayed.{Counted, HasReplayed, IsNotTaken, IsPageRefusal, IsReplayOf, PageChanged, changes_page, makes_page};
 
@@ -137,7 +137,8 @@ impl Replay {
 
     /// What all records make.
     pub fn found(self) -> Result<Found, NotReplayed>
-        ensures { (log : List Record) → IsReplayOf log self → AreLawful log → MatchResult result (Opens log) (IsNotFound log) }
+        ensures met { (log : List Record) → IsReplayOf log self → AreLawful log → MatchResult result (Opens log) (IsNotFound log) }
+        ensures cause { IfErr result (IsCaused 0 0) }
     {
         let Replay {
             page,
