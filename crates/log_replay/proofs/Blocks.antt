@@ -1,8 +1,8 @@
 -- The records of a log, block by block.
-use Rattle.std.proofs.Common.{◌≡◌, ℕ, zero, suc, ◌+◌, ◌-◌, ◌<◌, ◌≤◌, List, [], ◌∷◌, ◌++◌, length, get_or, drop, refl, sym, ◌∙◌, ap, subst, arith, append_assoc, append-nil, length-append}
-use Rattle.std.specs.Prelude.{map, max}
+use Rattle.std.proofs.Common.{◌≡◌, ℕ, zero, suc, ◌+◌, ◌<◌, ◌≤◌, List, [], ◌∷◌, ◌++◌, length, get_or, drop, refl, sym, ◌∙◌, ap, subst, arith, append_assoc, append-nil, length-append}
+use Rattle.std.specs.Prelude.{map}
 use Rattle.std.specs.List.{All}
-use Rattle.log_blocks.specs.Log.{Block, IsRun, IsSequence, first_lsn, next_lsn}
+use Rattle.log_blocks.specs.Log.{Block, IsRun, first_lsn, next_lsn}
 use Rattle.log_blocks.specs.LogState.{LogState, AreNumbered, firsts, lsn_behind, durable_lsn, payload_at}
 use Rattle.log_blocks.specs.Opening.{places}
 use Rattle.log_blocks.specs.declared.header.Place.{Place}

@@ -1,10 +1,8 @@
 -- What all records of a lawful log make.
-use Rattle.std.proofs.Common.{◌≡◌, ◌≢◌, ℕ, ◌+◌, ◌<◌, ◌≤◌, suc, Bool, true, false, cond, List, [], ◌∷◌, ◌++◌, length, Option, Some, None, refl, sym, ap, subst, ◌∙◌, arith}
+use Rattle.std.proofs.Common.{◌≡◌, ℕ, ◌≤◌, suc, true, false, List, [], ◌∷◌, length, Some, None, refl, sym, ap, subst, ◌∙◌, arith}
 use Rattle.std.specs.Prelude.{is_some}
 use Rattle.wal_record.specs.Chains.{head, greatest}
-use Rattle.wal_record.specs.OpenWrites.{open_writes, is_loser, has_items}
-use Rattle.wal_record.specs.Images.{image}
-use Rattle.wal_record.specs.Checkpoints.{commits}
+use Rattle.wal_record.specs.OpenWrites.{open_writes, has_items}
 use Rattle.wal_record.specs.Sound.{AreLawful}
 use Rattle.wal_record.specs.declared.page.PageState.{PageState}
 use Rattle.wal_record.specs.declared.record.Record.{Record}

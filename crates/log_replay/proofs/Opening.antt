@@ -1,6 +1,6 @@
 -- What opening a log answers, from what was read of it.
-use Rattle.std.proofs.Common.{◌≡◌, ◌≢◌, ℕ, ◌+◌, ◌<◌, ◌≤◌, suc, Bool, true, false, eqb, List, [], ◌∷◌, ◌++◌, length, get_or, Option, refl, sym, ap, subst, ◌∙◌, arith, inl, inr}
-use Rattle.std.specs.Prelude.{◌||◌, ◌⊎◌, Result, Ok, Err, OnOk, IfErr, MatchResult, map}
+use Rattle.std.proofs.Common.{◌≡◌, ◌≢◌, ℕ, ◌+◌, ◌<◌, ◌≤◌, suc, Bool, true, false, eqb, List, [], ◌∷◌, ◌++◌, length, get_or, refl, sym, ap, subst, ◌∙◌, arith, inl, inr}
+use Rattle.std.specs.Prelude.{◌||◌, Result, Ok, Err, OnOk, IfErr, MatchResult}
 use Rattle.std.specs.List.{list_any}
 use Rattle.std.proofs.lemmas.Bool.{eqb-true}
 use Rattle.std.proofs.lemmas.List.Folds.{list_any-append}
@@ -9,7 +9,6 @@ use Rattle.media.specs.Kept.{Kept}
 use Rattle.log_blocks.specs.Log.{Block, first_lsn}
 use Rattle.log_blocks.specs.LogState.{LogState, IsDurable, firsts}
 use Rattle.log_manager.specs.Records.{AreRecordsOf}
-use Rattle.log_manager.proofs.Finding.{first_of}
 use Rattle.wal_record.specs.Chains.{pages_step, pages}
 use Rattle.wal_record.specs.OpenWrites.{has_items}
 use Rattle.wal_record.specs.Sound.{is_format, IsLawful, AreLawful}

@@ -1,12 +1,12 @@
 -- What a record does to page 1.
-use Rattle.std.proofs.Common.{◌≡◌, ℕ, ◌+◌, ◌≤◌, Bool, true, false, cond, eqb, Option, Some, None, refl, sym, ap, subst, ◌∙◌}
-use Rattle.std.specs.Prelude.{◌||◌, ◌⊎◌, not, is_some, IfSome}
+use Rattle.std.proofs.Common.{◌≡◌, ◌+◌, Bool, true, false, cond, eqb, Option, Some, refl, sym, ap, ◌∙◌}
+use Rattle.std.specs.Prelude.{not, is_some, IfSome}
 use Rattle.std.proofs.Common.{inl, inr}
 use Rattle.std.proofs.lemmas.Bool.{eqb-true, or_cases}
-use Rattle.page_rows.specs.Redo.{IsRedoable, Redone}
+use Rattle.page_rows.specs.Redo.{Redone}
 use Rattle.wal_record.specs.State.{KeepsState}
 use Rattle.wal_record.specs.Chains.{names}
-use Rattle.wal_record.specs.Images.{applied, OnPage, CanApply, IsApplicable}
+use Rattle.wal_record.specs.Images.{applied, OnPage, CanApply}
 use Rattle.wal_record.specs.Sound.{is_format}
 use Rattle.wal_record.specs.declared.page.PageState.{PageState}
 use Rattle.wal_record.specs.declared.record.Record.{Record}

@@ -1,5 +1,5 @@
 -- Reading the blocks of an open log.
-use Rattle.std.proofs.Common.{◌≡◌, ℕ, suc, ◌+◌, ◌-◌, ◌<◌, ◌≤◌, Bool, true, false, List, [], ◌∷◌, ◌++◌, length, get_or, refl, sym, ◌∙◌, ap, subst, arith, length-append}
+use Rattle.std.proofs.Common.{◌≡◌, ℕ, suc, ◌+◌, ◌-◌, ◌<◌, ◌≤◌, Bool, true, false, List, [], ◌++◌, length, get_or, refl, ◌∙◌, ap, subst, arith}
 use Rattle.std.specs.Prelude.{nat_le, map}
 use Rattle.std.specs.List.{All}
 use Rattle.std.proofs.lemmas.Bool.{leb-true, leb-false}
@@ -7,7 +7,6 @@ use Rattle.media.specs.Kept.{Kept}
 use Rattle.log_blocks.specs.Log.{Block, first_lsn}
 use Rattle.log_blocks.specs.LogState.{LogState, IsDurable, AreNumbered, firsts, durable_lsn, payload_at}
 use Rattle.log_blocks.specs.Opening.{places}
-use Rattle.log_blocks.specs.declared.header.Place.{Place}
 use Rattle.log_manager.specs.Records.{AreRecordsOf, bytes_of}
 use Rattle.log_manager.proofs.Finding.{first_of}
 use Rattle.wal_record.specs.Rules.{HasSpelling}

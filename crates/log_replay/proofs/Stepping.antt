@@ -1,11 +1,9 @@
 -- One record more: what it makes of what was found, and why it may not be one.
-use Rattle.std.proofs.Common.{◌≡◌, ◌≢◌, ℕ, ◌+◌, ◌<◌, ◌≤◌, suc, Bool, true, false, cond, eqb, List, [], ◌∷◌, ◌++◌, length, Option, Some, None, refl, sym, ap, subst, ◌∙◌, arith, length-append}
-use Rattle.std.specs.Prelude.{◌||◌, ◌^◌, ◌-◌, max, not, is_some, nat_le, MatchBool, IfSome}
-use Rattle.std.specs.List.{list_any}
+use Rattle.std.proofs.Common.{◌≡◌, ℕ, ◌+◌, ◌<◌, suc, Bool, true, false, cond, eqb, List, [], ◌∷◌, ◌++◌, length, Option, None, refl, sym, ap, subst, ◌∙◌, arith, length-append}
+use Rattle.std.specs.Prelude.{◌||◌, ◌^◌, ◌-◌, not, is_some, nat_le, MatchBool, IfSome}
 use Rattle.std.proofs.lemmas.Bool.{and_parts}
 use Rattle.std.proofs.lemmas.Bool.Decides.{nat_tests}
 use Rattle.std.proofs.lemmas.List.Folds.{list_any-append}
-use Rattle.store_model.specs.Along.{along}
 use Rattle.page_rows.specs.Redo.{IsRedoable}
 use Rattle.wal_record.specs.State.{KeepsState}
 use Rattle.wal_record.specs.Rules.{is_number, HasSpelling}

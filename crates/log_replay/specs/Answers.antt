@@ -11,7 +11,7 @@ use Rattle.log_replay.specs.Replayed.{makes_page}
 use Rattle.log_replay.specs.Standing.{HasLoser, IsUnbuilt}
 use Rattle.log_replay.specs.declared.found.Found.{Found}
 use Rattle.log_replay.specs.declared.found.NotReplayed.{NotReplayed}
-use Rattle.log_replay.specs.declared.found.NotReplayed.TheVariants.{Memory, LogFault, LogBad, NotFormatted, NotBuilt}
+use Rattle.log_replay.specs.declared.found.NotReplayed.TheVariants.{LogFault, LogBad, NotFormatted, NotBuilt}
 
 -- a calm life may begin on the log with what was found
 pub record Opens (log : List Record) (found : Found) : Type 0 where

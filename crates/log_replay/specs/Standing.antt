@@ -1,5 +1,5 @@
 -- When devices stand for a log, and which of these logs an opening isn't built for.
-use Rattle.std.specs.Prelude.{◌≡◌, ◌≤◌, ◌+◌, ◌⊎◌, ℕ, suc, max, List, ◌++◌, length, true}
+use Rattle.std.specs.Prelude.{◌≡◌, ◌≤◌, ◌⊎◌, ℕ, suc, max, List, ◌++◌, length, true}
 use Rattle.std.specs.List.{All}
 use Rattle.media.specs.Crash.{Only}
 use Rattle.media.specs.Kept.{Kept}

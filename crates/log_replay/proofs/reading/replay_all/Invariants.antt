@@ -1,4 +1,4 @@
-use Rattle.std.proofs.Common.{◌≡◌, ◌≤◌, [], None, Option, List, ℕ}
+use Rattle.std.proofs.Common.{◌≡◌, ◌≤◌, None, Option, List, ℕ}
 use Rattle.log_blocks.specs.Log.{Block, first_lsn}
 use Rattle.log_blocks.specs.LogState.{IsDurable}
 use Rattle.wal_record.specs.Sound.{AreLawful}

@@ -1,4 +1,4 @@
-use Rattle.std.proofs.Common.{List, length, ap, sym, ◌∙◌}
+use Rattle.std.proofs.Common.{length, ap, sym, ◌∙◌}
 use Rattle.wal_record.specs.OpenWrites.{open_step}
 use Rattle.wal_record.specs.declared.record.Record.{Record}
 use Rattle.log_replay.proofs.Counting.{ok_map, taken_back}
