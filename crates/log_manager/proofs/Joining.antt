@@ -1,15 +1,17 @@
 -- Records that join blocks, and blocks that join a log.
-use Rattle.std.proofs.Common.{◌≡◌, ℕ, zero, suc, ◌+◌, ◌-◌, ◌≤◌, Bool, true, false, List, [], ◌∷◌, ◌++◌, length, take, drop, refl, sym, ◌∙◌, ap, subst, arith, append_assoc, append-nil, length-append}
+use Rattle.std.proofs.Common.{◌≡◌, inl, inr, ℕ, zero, suc, ◌+◌, ◌-◌, ◌≤◌, Bool, true, false, List, [], ◌∷◌, ◌++◌, length, take, drop, refl, sym, ◌∙◌, ap, subst, arith, append_assoc, append-nil, length-append}
 use Rattle.std.specs.Prelude.{if◌then◌else◌}
 use Rattle.std.specs.List.{All}
-use Rattle.std.proofs.lemmas.List.Elements.{All-append}
+use Rattle.std.proofs.lemmas.List.Elements.{All-append, All-cons, All-nil}
 use Rattle.std.proofs.lemmas.Grind.{flat_map-append}
 use Rattle.log_blocks.specs.Batch.{begun, joined, joins, numbered, records_in, with_group}
-use Rattle.log_blocks.specs.Log.{Block}
+use Rattle.log_blocks.specs.Log.{Block, IsRun, body, next_lsn, open_gate}
+use Rattle.log_blocks.specs.Opening.{places}
 use Rattle.wal_record.specs.Rules.{HasSpelling}
 use Rattle.wal_record.specs.Spelling.{spelling}
 use Rattle.wal_record.specs.declared.record.Record.{Record}
-use Rattle.log_manager.specs.Records.{AreIn, Holds, bytes_of, checkpoint_after, checkpoint_in, is_checkpoint}
+use Rattle.log_manager.specs.Managed.{records_at}
+use Rattle.log_manager.specs.Records.{AreIn, Holds, IsLastCheckpoint, bytes_of, checkpoint_after, checkpoint_in, is_checkpoint}
 
 -- ---- blocks one behind the other
 
@@ -50,19 +52,49 @@ drop_past (x ∷ xs) ys n = ap (λ m. drop m (x ∷ (xs ++ ys))) (far (length xs
     far m = omega arith
 
 -- some blocks from the front hold some records from the front
-pub in_take : (c m : ℕ) (xs : List Block) (rs : List Record) → AreIn c xs rs → (n : ℕ) × AreIn c (take m xs) (take n rs)
-in_take c zero xs rs a = (0, refl)
-in_take c (suc m) [] rs a = (0, refl)
+-- the first blocks have the first records
+pub in_take : (c m : ℕ) (xs : List Block) (rs : List Record) → AreIn c xs rs → AreIn c (take m xs) (take (records_in (take m xs)) rs)
+in_take c zero xs rs a = refl
+in_take c (suc m) [] rs a = refl
 in_take c (suc m) (x ∷ xs) rs a =
-    let t = in_take x.checkpoint m xs a.1 a.4 in
-    (length a.0 + t.0, (a.0, take t.0 a.1, ap (take (length a.0 + t.0)) a.2 ∙ take_past a.0 a.1 t.0, a.3, t.1))
+    let n = records_in (take m xs) in
+    let count : x.count + n ≡ length a.0 + n = ap (λ k. k + n) a.3.count in
+    (a.0, take n a.1, ap (take (x.count + n)) a.2 ∙ ap (λ k. take k (a.0 ++ a.1)) count ∙ take_past a.0 a.1 n, a.3, in_take x.checkpoint m xs a.1 a.4)
 
-pub in_drop : (c m : ℕ) (xs : List Block) (rs : List Record) → AreIn c xs rs → (n : ℕ) × AreIn (checkpoint_in c (take m xs)) (drop m xs) (drop n rs)
-in_drop c zero xs rs a = (0, a)
-in_drop c (suc m) [] rs a = (0, a)
+-- the other blocks have the others
+pub in_drop : (c m : ℕ) (xs : List Block) (rs : List Record) → AreIn c xs rs → AreIn (checkpoint_in c (take m xs)) (drop m xs) (drop (records_in (take m xs)) rs)
+in_drop c zero xs rs a = a
+in_drop c (suc m) [] rs a = a
 in_drop c (suc m) (x ∷ xs) rs a =
-    let t = in_drop x.checkpoint m xs a.1 a.4 in
-    (length a.0 + t.0, subst (AreIn (checkpoint_in x.checkpoint (take m xs)) (drop m xs)) (sym (ap (drop (length a.0 + t.0)) a.2 ∙ drop_past a.0 a.1 t.0)) t.1)
+    let n = records_in (take m xs) in
+    let count : x.count + n ≡ length a.0 + n = ap (λ k. k + n) a.3.count in
+    subst (AreIn (checkpoint_in x.checkpoint (take m xs)) (drop m xs)) (sym (ap (drop (x.count + n)) a.2 ∙ ap (λ k. drop k (a.0 ++ a.1)) count ∙ drop_past a.0 a.1 n)) (in_drop x.checkpoint m xs a.1 a.4)
+
+-- blocks have as many records as they say
+pub in_count : (c : ℕ) (xs : List Block) (rs : List Record) → AreIn c xs rs → records_in xs ≡ length rs
+in_count c [] rs a = sym (ap length a)
+in_count c (x ∷ xs) rs a = omega (arith, a.3.count, in_count x.checkpoint xs a.1 a.4, ap length a.2, length-append a.0 a.1)
+
+-- more blocks have no fewer records
+pub records_take : (m n : ℕ) (xs : List Block) → m ≤ n → records_in (take m xs) ≤ records_in (take n xs)
+records_take zero n xs le = omega arith
+records_take (suc m) zero xs le = absurd (omega (arith, le))
+records_take (suc m) (suc n) [] le = omega arith
+records_take (suc m) (suc n) (x ∷ xs) le = omega (arith, records_take m n xs (omega (arith, le)))
+
+pub records_most : (n : ℕ) (xs : List Block) → records_in (take n xs) ≤ records_in xs
+records_most zero xs = omega arith
+records_most (suc n) [] = omega arith
+records_most (suc n) (x ∷ xs) = omega (arith, records_most n xs)
+
+pub records_places : (at n : ℕ) (xs : List Block) → records_at (take n (places at xs)) ≡ records_in (take n xs)
+records_places at zero xs = refl
+records_places at (suc n) [] = refl
+records_places at (suc n) (x ∷ xs) = ap (λ k. x.count + k) (records_places (at + length (open_gate ∷ body x)) n xs)
+
+pub next_count : (n : ℕ) (xs : List Block) → next_lsn n xs ≡ n + records_in xs
+next_count n [] = omega arith
+next_count n (x ∷ xs) = omega (arith, next_count (n + x.count) xs)
 
 -- ---- records that join a block
 
@@ -71,6 +103,27 @@ checkpoint_after-append c n [] ss = ap (λ m. checkpoint_after c m ss) (omega ar
 checkpoint_after-append c n (r ∷ rs) ss =
     let d = if is_checkpoint r then n else c in
     checkpoint_after-append d (suc n) rs ss ∙ ap (λ m. checkpoint_after (checkpoint_after d (suc n) rs) m ss) (omega arith)
+
+-- what the fold over the records gives is the last Checkpoint
+pub last_is : (c n : ℕ) (rs : List Record) → IsLastCheckpoint c n rs (checkpoint_after c n rs)
+last_is c n [] = inl (refl, All-nil (λ r. is_checkpoint r ≡ false))
+last_is c n (r ∷ rs) = by (is_checkpoint r) refl (last_is (if is_checkpoint r then n else c) (suc n) rs)
+  where
+    by : (b : Bool) → is_checkpoint r ≡ b → IsLastCheckpoint (if b then n else c) (suc n) rs (checkpoint_after (if b then n else c) (suc n) rs)
+        → IsLastCheckpoint c n (r ∷ rs) (checkpoint_after (if b then n else c) (suc n) rs)
+    by true e (inl none) = inr (record { front = []; found = r; back = rs; is = refl; checkpoint = e; none_behind = none.1; place = omega (arith, none.0) })
+    by true e (inr l) = inr (record { front = r ∷ l.front; found = l.found; back = l.back; is = ap (λ (m : List Record). r ∷ m) l.is; checkpoint = l.checkpoint; none_behind = l.none_behind; place = omega (arith, l.place) })
+    by false e (inl none) = inl (none.0, All-cons (λ r. is_checkpoint r ≡ false) r rs e none.1)
+    by false e (inr l) = inr (record { front = r ∷ l.front; found = l.found; back = l.back; is = ap (λ (m : List Record). r ∷ m) l.is; checkpoint = l.checkpoint; none_behind = l.none_behind; place = omega (arith, l.place) })
+
+-- the Checkpoint that the last header tells is that of the records
+pub checkpoint_is : (c n : ℕ) (xs : List Block) (rs : List Record) → IsRun n xs → AreIn c xs rs → checkpoint_in c xs ≡ checkpoint_after c n rs
+checkpoint_is c n [] rs run a = sym (ap (checkpoint_after c n) a)
+checkpoint_is c n (x ∷ xs) rs run a =
+    let here : x.checkpoint ≡ checkpoint_after c n a.0 = a.3.checkpoint ∙ ap (λ m. checkpoint_after c m a.0) run.0 in
+    checkpoint_is x.checkpoint (n + x.count) xs a.1 run.2 a.4
+    ∙ ap (λ m. checkpoint_after m (n + x.count) a.1) here ∙ ap (λ m. checkpoint_after (checkpoint_after c n a.0) (n + m) a.1) a.3.count
+    ∙ sym (checkpoint_after-append c n a.0 a.1) ∙ ap (checkpoint_after c n) (sym a.2)
 
 -- the last Checkpoint stands among the records before
 pub checkpoint_below : (c n : ℕ) (rs : List Record) → c ≤ n - 1 → checkpoint_after c n rs ≤ n + length rs - 1
