@@ -85,7 +85,7 @@ module _ {D : Type 0} (told : D → Kept) (may_leave : D → Kept → Type 0) (l
             let count = count_now in
             let f = inner (omega (arith, count, less)) in
             let at_next : get_or (firsts now) (n + 1) 0 ≡ suc (length front + length h.own) =
-                ap (λ (l : List ℕ). get_or l (n + 1) 0) (firsts_are now start bs rs places_now pending_now) ∙ ap (λ (k : ℕ). get_or (map first_of bs) k 0) (let s : n + 1 ≡ suc n = omega arith in s) ∙ h.inner less in
+            ap (λ (l : List ℕ). get_or l (n + 1) 0) (firsts_are now start bs rs places_now pending_now) ∙ ap (λ (k : ℕ). get_or (map first_of bs) k 0) (let s : n + 1 ≡ suc n = omega arith in s) ∙ h.inner less in
             omega (arith, f, at_next)
 
     pub all_now : length now.places + length now.pending ≤ n → rs ≡ front

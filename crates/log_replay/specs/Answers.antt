@@ -45,3 +45,8 @@ IsNotReplayed log bs refused = Unit {0}
 abbrev pub IsCaused : ℕ → ℕ → NotReplayed → Type 0
 IsCaused before now LogFault = Rose before now
 IsCaused before now refused = Unit {0}
+
+-- the log disk failed
+abbrev pub IsLogFault : NotReplayed → Type 0
+IsLogFault LogFault = Unit {0}
+IsLogFault refused = ⊥

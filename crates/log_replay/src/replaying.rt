@@ -1,5 +1,5 @@
 //! What the records so far make, and what one more does to it.
-ghost use Rattle.std.specs.Prelude.{◌≡◌, ◌≤◌, ◌<◌, ◌+◌, ◌-◌, ◌^◌, ◌++◌, ◌∷◌, [], ℕ, List, OnOk, IfErr, IfSome, MatchResult};
+ghost use Rattle.std.specs.Prelude.{◌≡◌, ◌≤◌, ◌<◌, ◌+◌, ◌-◌, ◌^◌, ◌++◌, ◌∷◌, [], ℕ, List, OnOk, IfErr, IfOk, IfSome, MatchResult};
 ghost use Rattle.wal_record.specs.Chains.{tx_of};
 ghost use Rattle.wal_record.specs.Rules.{HasSpelling};
 ghost use Rattle.wal_record.specs.State.{KeepsState};
@@ -137,7 +137,10 @@ impl Replay {
 
     /// What all records make.
     pub fn found(self) -> Result<Found, NotReplayed>
+        requires { HasReplayed self }
         ensures met { (log : List Record) → IsReplayOf log self → AreLawful log → MatchResult result (Opens log) (IsNotFound log) }
+        ensures rules { IfOk result (λ found. KeepsState found.page) }
+        ensures number { IfOk result (λ found. 1 ≤ found.next) }
         ensures cause { IfErr result (IsCaused 0 0) }
     {
         let Replay {

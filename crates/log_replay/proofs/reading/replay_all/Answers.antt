@@ -1,5 +1,6 @@
 use Rattle.std.proofs.Common.{rules, ◌++◌, sym, subst, ◌∙◌, arith, List, append_assoc}
 use Rattle.wal_record.specs.declared.record.Record.{Record}
+use Rattle.media.proofs.Blaming.{then_more}
 use Rattle.log_replay.specs.Answers.{IsUnread}
 use Rattle.log_replay.specs.Replayed.{IsReplayOf}
 use Rattle.log_replay.proofs.Payload.{unread_more}
@@ -12,13 +13,14 @@ loop-block-preserved g c = record {
   live = (search rules);
   durable = (search rules);
   faults = (search rules);
+  fuse = then_more g.L.Disk.passes g.L.Disk.refused g.L.Disk.own _ _ _ ⊥ ⊥ c.loop-block.invariant.fuse (λ (x : ⊥). x) c.in-Ok.ensures.fuse;
   replayed = (search rules);
   met = λ t bs rs d a one lawful.
       let m = c.loop-block.invariant.met t bs rs d a one lawful in
       let read : IsReadNext bs rs c.loop-block.block m.0 c.deref.result.now c.last_in-last.result =
-          read_next g.L.Disk.told g.L.Disk.may_leave c.args.log.now c.loop-block.log bs rs d c.requires.fresh c.loop-block.invariant.same a one c.loop-block.block m.0 m.2 lawful
-          (omega (arith, same_count c.args.log.now c.loop-block.log c.loop-block.invariant.same, c.loop-block-test.true, c.blocks-block-end.ensures)) c.deref.result.now _ _ c.deref.ensures.value c.new-payload.ensures.items (c.in-Ok.ensures.payload t bs (c.loop-block.invariant.durable t bs d))
-          c.last_in-last.result c.durable_lsn-end.result c.last_in-last.ensures.inner c.last_in-last.ensures.last c.durable_lsn-end.ensures.value in
+      read_next g.L.Disk.told g.L.Disk.may_leave c.args.log.now c.loop-block.log bs rs d c.requires.fresh c.loop-block.invariant.same a one c.loop-block.block m.0 m.2 lawful
+      (omega (arith, same_count c.args.log.now c.loop-block.log c.loop-block.invariant.same, c.loop-block-test.true, c.blocks-block-end.ensures)) c.deref.result.now _ _ c.deref.ensures.value c.new-payload.ensures.items (c.in-Ok.ensures.payload t bs (c.loop-block.invariant.durable t bs d))
+      c.last_in-last.result c.durable_lsn-end.result c.last_in-last.ensures.inner c.last_in-last.ensures.last c.durable_lsn-end.ensures.value in
       (m.0 ++ read.own, c.in-Ok-replay_block.ensures.met m.0 read.own m.1 read.spelled read.payload_is read.lawful read.last_is, read.next);
 }
 
@@ -26,9 +28,9 @@ pub returns-in-Err-replay_block-clause-met : goal.returns-in-Err-replay_block-cl
 returns-in-Err-replay_block-clause-met g c = λ t bs rs d a one lawful.
     let m = c.loop-block.invariant.met t bs rs d a one lawful in
     let read : IsReadNext bs rs c.loop-block.block m.0 c.deref.result.now c.last_in-last.result =
-        read_next g.L.Disk.told g.L.Disk.may_leave c.args.log.now c.loop-block.log bs rs d c.requires.fresh c.loop-block.invariant.same a one c.loop-block.block m.0 m.2 lawful
-        (omega (arith, same_count c.args.log.now c.loop-block.log c.loop-block.invariant.same, c.loop-block-test.true, c.blocks-block-end.ensures)) c.deref.result.now _ _ c.deref.ensures.value c.new-payload.ensures.items (c.in-Ok.ensures.payload t bs (c.loop-block.invariant.durable t bs d))
-        c.last_in-last.result c.durable_lsn-end.result c.last_in-last.ensures.inner c.last_in-last.ensures.last c.durable_lsn-end.ensures.value in
+    read_next g.L.Disk.told g.L.Disk.may_leave c.args.log.now c.loop-block.log bs rs d c.requires.fresh c.loop-block.invariant.same a one c.loop-block.block m.0 m.2 lawful
+    (omega (arith, same_count c.args.log.now c.loop-block.log c.loop-block.invariant.same, c.loop-block-test.true, c.blocks-block-end.ensures)) c.deref.result.now _ _ c.deref.ensures.value c.new-payload.ensures.items (c.in-Ok.ensures.payload t bs (c.loop-block.invariant.durable t bs d))
+    c.last_in-last.result c.durable_lsn-end.result c.last_in-last.ensures.inner c.last_in-last.ensures.last c.durable_lsn-end.ensures.value in
     subst (λ (l : List Record). IsUnread l c.in-Err-replay_block.refused) (sym (read.is ∙ append_assoc m.0 read.own read.more))
     (unread_more m.0 read.own read.more c.in-Err-replay_block.refused (c.in-Err-replay_block.ensures.met m.0 read.own m.1 read.spelled read.payload_is read.lawful read.last_is))
 
