@@ -1,11 +1,11 @@
 -- Of a log that keeps its first record, all is on the disk.
-use Rattle.std.proofs.Common.{◌≡◌, ℕ, ◌+◌, ◌≤◌, suc, Bool, List, [], ◌∷◌, ◌++◌, length, refl, sym, ap, subst, ◌∙◌, arith}
-use Rattle.std.specs.Prelude.{zero, Option, Some, None}
+use Rattle.std.proofs.Common.{◌≡◌, ℕ, ◌≤◌, suc, List, [], ◌∷◌, refl, sym, subst, arith}
+use Rattle.std.specs.Prelude.{zero, Some}
 use Rattle.std.specs.List.{All}
 use Rattle.std.proofs.lemmas.List.Elements.{All-nil, All-cons}
 use Rattle.media.specs.Crash.{Only}
 use Rattle.media.specs.Kept.{Kept}
-use Rattle.log_blocks.specs.Log.{Block, StandsFor, first_lsn}
+use Rattle.log_blocks.specs.Log.{Block, first_lsn}
 use Rattle.log_manager.specs.Records.{AreRecordsOf, StandsForRecords}
 use Rattle.wal_record.specs.Chains.{record_with}
 use Rattle.wal_record.specs.OpenWrites.{open_writes, open_list}

@@ -5,7 +5,7 @@ ghost use Rattle.wal_record.specs.Rules.{HasSpelling};
 ghost use Rattle.wal_record.specs.State.{KeepsState};
 ghost use Rattle.wal_record.specs.Sound.{AreLawful};
 ghost use Rattle.wal_record.specs.declared.record.Record.{Record};
-ghost use Rattle.log_replay.specs.Answers.{IsCaused, IsNotFound, Opens};
+ghost use Rattle.log_replay.specs.Answers.{IsNotFound, IsOfRecords, Opens};
 ghost use Rattle.log_replay.specs.Counts.{count_of};
 ghost use Rattle.log_replay.specs.Replayed.{Counted, HasReplayed, IsNotTaken, IsPageRefusal, IsReplayOf, PageChanged, changes_page, makes_page};
 
@@ -141,7 +141,7 @@ impl Replay {
         ensures met { (log : List Record) → IsReplayOf log self → AreLawful log → MatchResult result (Opens log) (IsNotFound log) }
         ensures rules { IfOk result (λ found. KeepsState found.page) }
         ensures number { IfOk result (λ found. 1 ≤ found.next) }
-        ensures cause { IfErr result (IsCaused 0 0) }
+        ensures kind { IfErr result IsOfRecords }
     {
         let Replay {
             page,
