@@ -5,7 +5,7 @@ use Rattle.std.specs.List.{All}
 use Rattle.std.proofs.lemmas.List.Elements.{All-nil, All-cons}
 use Rattle.media.specs.Crash.{Only}
 use Rattle.media.specs.Kept.{Kept}
-use Rattle.log_blocks.specs.Log.{Block, first_lsn}
+use Rattle.log_blocks.specs.Log.{Block, StandsFor, first_lsn}
 use Rattle.log_manager.specs.Records.{AreRecordsOf, StandsForRecords}
 use Rattle.wal_record.specs.Chains.{record_with}
 use Rattle.wal_record.specs.OpenWrites.{open_writes, open_list}
@@ -44,3 +44,7 @@ keeps_stands told may_leave disk log s only = record { bs = s.bs; stands = s.sta
 
 pub stands_kept : {D : Type 0} (told : D → Kept) (may_leave : D → Kept → Type 0) (disk : D) (log : List Record) → KeepsLog told may_leave disk log → StandsForLog log (told disk)
 stands_kept told may_leave disk log k = record { bs = k.bs; stands = k.stands; records = k.records }
+
+-- the blocks that the bytes stand for hold the log for which they stand, since they stand for no others
+pub hold_these : ((bs cs : List Block) (k : Kept) → StandsFor bs k → StandsFor cs k → bs ≡ cs) → (log : List Record) (k : Kept) (bs : List Block) → StandsForLog log k → StandsFor bs k → HoldEnd log bs
+hold_these one log k bs s stands = subst (HoldEnd log) (one s.bs bs k s.stands stands) s.records
