@@ -1,5 +1,5 @@
 -- A calm life, worked by hand: a transaction puts apple = 1, gets it, commits, and is acknowledged.
-use Rattle.std.proofs.Common.{◌≡◌, take, drop, true, false, List, [], ◌∷◌, Some, None, refl, arith}
+use Rattle.std.proofs.Common.{◌≡◌, ℕ, Bool, cond, eqb, take, drop, true, false, List, [], ◌∷◌, Some, None, refl, arith}
 use Rattle.std.specs.FinMap.{empty, insert}
 use Rattle.store_model.specs.Along.{along}
 use Rattle.store_model.specs.Range.{point}
@@ -13,12 +13,17 @@ use Rattle.wal_record.specs.Serial.{serial}
 use Rattle.wal_record.specs.Left.{IsLeft}
 use Rattle.wal_record.specs.declared.entry.Entry.{Entry}
 use Rattle.wal_record.specs.declared.entry.Entry.TheVariants.{Rec, Lock, Said, Acked, Began}
-use Rattle.wal_record.proofs.ExampleLogs.{apple, x, one, put_apple, commit_apple}
+use Rattle.wal_record.proofs.ExampleLogs.{apple, x, one, put_apple, commit_apple, apple_log}
+use Rattle.wal_record.proofs.SoundExamples.{apple_sound}
+use Rattle.wal_record.specs.Images.{applied, image}
+use Rattle.wal_record.specs.declared.record.Record.{Record}
 use Rattle.wal_record.specs.Left.{Life}
 use Rattle.wal_record.specs.Chains.{greatest}
 use Rattle.wal_record.specs.declared.record.Record.TheVariants as kinds
 use Rattle.std.specs.Prelude.{map}
-use Rattle.life_laws.specs.Calm.{first_log}
+use Rattle.life_laws.specs.Calm.{first_log, only_leaf}
+use Rattle.life_laws.specs.Opening.{IsOpened}
+use Rattle.life_laws.proofs.Opened.{opening}
 use Rattle.life_laws.specs.Stops.{Commands, lives_from, MayAllStop, AreRight}
 use Rattle.life_laws.proofs.Reopening.{calm_stops}
 use Rattle.life_laws.specs.Commands.{Command, Begin, Get, Put, Commit, fresh, entries_from, standing_from, ArePossible}
@@ -96,3 +101,22 @@ may_stop = (
 
 right_lives : AreRight (first_log 16384) lives
 right_lives = calm_stops 16384 (first_life ∷ second_life ∷ []) refl may_stop
+
+-- ---- an opening
+
+-- no transaction of the apple's log has open writes
+none_open : (t : ℕ) → open_writes apple_log t ≡ []
+unfolding open_writes along
+none_open t = by (eqb 1 t)
+  where
+    by : (b : Bool) → cond {A = List Record} b [] (cond {A = List Record} b (put_apple ∷ []) []) ≡ []
+    by true = refl
+    by false = refl
+
+apple_opened : IsOpened apple_log
+apple_opened = opening apple_log (record { lawful = apple_sound.lawful; some = refl; settled = none_open; whole = refl })
+
+-- page 1 has the apple alone
+its_leaf : image apple_log 1 ≡ Some (only_leaf (record { key = apple; tombstone = false; value = one } ∷ []))
+unfolding image applied along
+its_leaf = refl
