@@ -1,1 +1,5 @@
+pub mod Claims
+pub mod Groups
+pub mod Hands
 pub mod Names
+pub mod Takes

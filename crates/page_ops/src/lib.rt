@@ -14,14 +14,26 @@
 //! total is the sum of the shares' amounts, so whoever holds all parts of a ledger knows its total.
 #![tactic(auto)]
 
+mod entering;
 mod ground;
+mod group;
+mod held;
 mod ledgers;
 mod life;
+mod outcome;
+mod rights;
+mod taken;
 mod unnamed;
 
+pub use entering::Entering;
 pub use ground::Ground;
+pub use group::{Group, Said};
+pub use held::Held;
 pub use ledgers::{DataFaults, Entries, LogFaults, NewLedger, SessionEntries, VaultFaults};
 pub use life::Life;
+pub use outcome::{Committed, Entered, Found, Grant, Survey};
+pub use rights::Rights;
+pub use taken::Taken;
 pub use unnamed::{Tokens, Unnamed};
 
 #[cfg(test)]
