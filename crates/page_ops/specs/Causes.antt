@@ -1,0 +1,103 @@
+-- Why a call is refused.
+use Rattle.std.specs.Prelude.{◌≡◌, ◌⊎◌, ℕ, ◌+◌, ◌^◌, ◌<◌, ◌≤◌, max, List, length, Option, Some, None, is_some, IsTrue, Result, Ok, Err}
+use Rattle.std.specs.List.{sum_by}
+use Rattle.store_model.specs.declared.fault.Fault.{Fault}
+use Rattle.store_model.specs.declared.fault.Fault.TheVariants as faults
+use Rattle.wal_record.specs.Chains.{greatest}
+use Rattle.wal_record.specs.Upkeep.{last_backup, last_run}
+use Rattle.wal_record.specs.Spelling.{spelling}
+use Rattle.wal_record.specs.History.{life_log, greatest_begun}
+use Rattle.wal_record.specs.declared.record.Record.{Record}
+use Rattle.wal_record.specs.declared.entry.Entry.{Entry}
+use Rattle.page_ops.specs.Names.{LedgerName}
+use Rattle.page_ops.specs.Seeing.{Account}
+
+-- ---- the end of a life
+
+-- the bytes of the log's blocks at most, where each record stands in a block of its own
+abbrev pub log_bytes : List Record → ℕ
+log_bytes log = sum_by (λ r. 24 + length (spelling r)) log
+
+-- a count has reached 2^62: bytes or records of the log, numbers of transactions, backups or runs, entries
+abbrev pub HasReachedLimit : List Record → List Entry → Type 0
+HasReachedLimit opening h =
+    let log = life_log opening h in
+    2 ^ 62 ≤ max (log_bytes log) (max (greatest log) (max (greatest_begun h) (max (last_backup log) (max (last_run log) (length h)))))
+
+-- the object doesn't know of an end, and met no fault of the log disk
+abbrev pub IsOpen : Account → Type 0
+IsOpen x = (x.ended ≡ None) × (x.log_faults.amount ≡ 0)
+
+-- Whoever has all parts of the ledger of the log disk's faults, none of which came, finds the life ended only where a
+-- count has reached its limit.
+abbrev pub EndCause : (List Record → Type 0) → LedgerName → Account → List Entry → Type 0
+EndCause opens log_faults x h = IsOpen x → x.log_faults.parts ≡ log_faults.parts → (opening : List Record) → opens opening → HasReachedLimit opening h
+
+-- In an ended life a call is refused for that alone, or for want of memory. The LSN is always the same. A fault of the
+-- log disk ends the life.
+abbrev pub EndsBy : (List Record → Type 0) → LedgerName → Account → Account → List Entry → Fault → Type 0
+EndsBy opens log_faults old new h faults.Memory = new.ended ≡ old.ended
+EndsBy opens log_faults old new h faults.LogFault = IsOpen old × IsTrue (is_some new.ended) × (old.log_faults.amount < new.log_faults.amount)
+EndsBy opens log_faults old new h (faults.Ended at) = (new.ended ≡ Some at) × ((old.ended ≡ None) ⊎ (old.ended ≡ Some at)) × EndCause opens log_faults old h
+EndsBy opens log_faults old new h _ = IsOpen old × (new.ended ≡ None)
+
+abbrev pub Ends : {T : Type 0} → (List Record → Type 0) → LedgerName → Account → Account → List Entry → Result T Fault → Type 0
+Ends opens log_faults old new h (Ok x) = IsOpen old × (new.ended ≡ None)
+Ends opens log_faults old new h (Err fault) = EndsBy opens log_faults old new h fault
+
+-- ---- which faults a call may answer
+
+-- no log is known with which the life may have begun
+abbrev pub IsUntold : (List Record → Type 0) → Type 0
+IsUntold opens = (opening : List Record) → opens opening → ⊥
+
+-- of a call that adds entries: want of memory, an ended life, and what else it names
+abbrev pub FailsToEnter : (Fault → Type 0) → Fault → Type 0
+FailsToEnter other faults.Memory = Unit {0}
+FailsToEnter other (faults.Ended at) = Unit {0}
+FailsToEnter other fault = other fault
+
+-- of one that flushes the log
+abbrev pub FailsToFlush : Fault → Type 0
+FailsToFlush faults.LogFault = Unit {0}
+FailsToFlush (faults.Ended at) = Unit {0}
+FailsToFlush fault = ⊥
+
+-- of one that reads the log: a block is bad only where the log isn't told
+abbrev pub FailsToRead : (List Record → Type 0) → Fault → Type 0
+FailsToRead opens faults.Memory = Unit {0}
+FailsToRead opens faults.LogFault = Unit {0}
+FailsToRead opens (faults.Ended at) = Unit {0}
+FailsToRead opens (faults.LogBad block byte) = IsUntold opens
+FailsToRead opens fault = ⊥
+
+-- of one that brings a page, with what it needs of the log disk, the vault and the life
+abbrev pub FailsToBring : (log vault bad : Type 0) → (ℕ → Type 0) → Fault → Type 0
+FailsToBring log vault bad ended faults.Memory = Unit {0}
+FailsToBring log vault bad ended faults.LogFault = log
+FailsToBring log vault bad ended faults.VaultFault = vault
+FailsToBring log vault bad ended (faults.Ended at) = ended at
+FailsToBring log vault bad ended (faults.LogBad block byte) = bad
+FailsToBring log vault bad ended (faults.VaultBad object byte) = bad
+FailsToBring log vault bad ended fault = ⊥
+
+-- no other fault
+abbrev pub NoOther : Fault → Type 0
+NoOther fault = ⊥
+
+abbrev pub OrFull : Fault → Type 0
+OrFull (faults.Full pages pending at) = Unit {0}
+OrFull fault = ⊥
+
+abbrev pub OrConflict : Fault → Type 0
+OrConflict (faults.Conflict holder range at) = Unit {0}
+OrConflict fault = ⊥
+
+abbrev pub OrTooMany : Fault → Type 0
+OrTooMany faults.TooManyActive = Unit {0}
+OrTooMany fault = ⊥
+
+-- the life has ended
+abbrev pub IsEnd : Fault → Type 0
+IsEnd (faults.Ended at) = Unit {0}
+IsEnd fault = ⊥
