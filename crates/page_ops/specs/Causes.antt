@@ -10,6 +10,7 @@ use Rattle.wal_record.specs.History.{life_log, greatest_begun}
 use Rattle.wal_record.specs.declared.record.Record.{Record}
 use Rattle.wal_record.specs.declared.entry.Entry.{Entry}
 use Rattle.page_ops.specs.Names.{LedgerName}
+use Rattle.page_ops.specs.Desks.{Desk}
 use Rattle.page_ops.specs.Seeing.{Account}
 
 -- ---- the end of a life
@@ -71,15 +72,23 @@ FailsToRead opens (faults.Ended at) = Unit {0}
 FailsToRead opens (faults.LogBad block byte) = IsUntold opens
 FailsToRead opens fault = ⊥
 
--- of one that brings a page, with what it needs of the log disk, the vault and the life
-abbrev pub FailsToBring : (log vault bad : Type 0) → (ℕ → Type 0) → Fault → Type 0
-FailsToBring log vault bad ended faults.Memory = Unit {0}
-FailsToBring log vault bad ended faults.LogFault = log
-FailsToBring log vault bad ended faults.VaultFault = vault
-FailsToBring log vault bad ended (faults.Ended at) = ended at
-FailsToBring log vault bad ended (faults.LogBad block byte) = bad
-FailsToBring log vault bad ended (faults.VaultBad object byte) = bad
-FailsToBring log vault bad ended fault = ⊥
+-- of one that brings a page by a desk and a journal, by what both knew before and after: one of their counts rose; the
+-- journal's object knows that the life has ended; bad blocks and objects come only where the log isn't told
+abbrev pub FailsToBring : (List Record → Type 0) → LedgerName → Desk → Desk → Account → Account → List Entry → Fault → Type 0
+FailsToBring opens log_faults desk desk_now old new h faults.Memory = Unit {0}
+FailsToBring opens log_faults desk desk_now old new h faults.LogFault = IsTrue (is_some new.ended) × ((desk.log_faults < desk_now.log_faults) ⊎ (old.log_faults.amount < new.log_faults.amount))
+FailsToBring opens log_faults desk desk_now old new h faults.VaultFault = desk.vault_faults < desk_now.vault_faults
+FailsToBring opens log_faults desk desk_now old new h (faults.Ended at) = (new.ended ≡ Some at) × EndCause opens log_faults old h
+FailsToBring opens log_faults desk desk_now old new h (faults.LogBad block byte) = IsUntold opens
+FailsToBring opens log_faults desk desk_now old new h (faults.VaultBad object byte) = IsUntold opens
+FailsToBring opens log_faults desk desk_now old new h fault = ⊥
+
+-- of one that makes a frame free, the same without the vault
+abbrev pub FailsToReserve : (List Record → Type 0) → LedgerName → Desk → Desk → Account → Account → List Entry → Fault → Type 0
+FailsToReserve opens log_faults desk desk_now old new h faults.VaultFault = ⊥
+FailsToReserve opens log_faults desk desk_now old new h (faults.LogBad block byte) = ⊥
+FailsToReserve opens log_faults desk desk_now old new h (faults.VaultBad object byte) = ⊥
+FailsToReserve opens log_faults desk desk_now old new h fault = FailsToBring opens log_faults desk desk_now old new h fault
 
 -- no other fault
 abbrev pub NoOther : Fault → Type 0

@@ -18,10 +18,6 @@ pub record KeepsFaults (old new : Desk) : Type 0 where
   pub log_faults : old.log_faults ≤ new.log_faults
   pub vault_faults : old.vault_faults ≤ new.vault_faults
 
--- one of two counts rose
-abbrev pub OneRose : ℕ → ℕ → ℕ → ℕ → Type 0
-OneRose old new other_old other_new = (old < new) ⊎ (other_old < other_new)
-
 -- the page is there after this history
 abbrev pub IsMade : (List Record → Type 0) → List Entry → ℕ → Type 0
 IsMade opens h page = (opening : List Record) → opens opening → IsTrue (is_some (image (life_log opening h) page))

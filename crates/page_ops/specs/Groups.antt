@@ -3,6 +3,7 @@ use Rattle.std.specs.Prelude.{◌≡◌, ◌≢◌, ◌⊎◌, ℕ, suc, ◌≤�
 use Rattle.std.specs.List.{list_any, list_all, All}
 use Rattle.std.specs.Option.{option_map_or}
 use Rattle.books.specs.Rights.{PageClaim, SessionClaim, MaintClaim}
+use Rattle.wal_record.specs.Rules.{HasSpelling}
 use Rattle.wal_record.specs.Chains.{PageLink, page_links, Link, link_of}
 use Rattle.wal_record.specs.History.{Live, phase}
 use Rattle.wal_record.specs.declared.record.Checkpoint.{Checkpoint}
@@ -64,6 +65,17 @@ AreFilledFrom made new [] [] = Unit {0}
 AreFilledFrom made new (r ∷ rs) (x ∷ xs) = ((n : Numbers) × (n.child ≡ new) × (x ≡ filled made n r)) × AreFilledFrom made new rs xs
 AreFilledFrom made new _ _ = ⊥
 
+-- a checkpoint of an empty log
+abbrev pub no_checkpoint : Checkpoint
+no_checkpoint = record { next_tx = 1; commits = 0; limit = 0; pages = []; transactions = []; lost = 0; unrestored = []; runs = []; next_backup = 1; next_run = 1 }
+
+abbrev pub least_numbers : Numbers
+least_numbers = record { prev = 0; page_prev = 0; other_prev = 0; child = 2; checkpoint = no_checkpoint; pages = 0 }
+
+-- the fields that the journal doesn't fill in keep their rules
+abbrev pub IsSpelled : Option ℕ → Record → Type 0
+IsSpelled made r = HasSpelling (filled made least_numbers r)
+
 -- the records of a group, filled in; `new` is the number of the page that they make, if they make one
 abbrev pub AreFilled : ℕ → List Record → List Record → Type 0
 AreFilled new asked now = AreFilledFrom (made_by asked) new asked now
@@ -113,6 +125,7 @@ told_by said (r ∷ rs) = not (is_write r) && told_by said rs
 pub record IsGroup (g : Group) : Type 0 where
   pub few : length g.recs ≤ 3
   pub kinds : IsTrue (list_all is_grouped g.recs)
+  pub spelled : All (IsSpelled (made_by g.recs)) g.recs
   -- an answer alone, or records with the answer of their write behind it
   pub told : IsTrue (told_by (is_some g.said) g.recs)
   pub alone : list_any is_checkpoint g.recs ≡ true → length g.recs ≡ 1

@@ -68,6 +68,13 @@ abbrev pub new_place : Option ℕ → ℕ → Option ℕ → Option ℕ
 new_place None new old = old
 new_place (Some child) new old = Some new
 
+-- Where the group isn't entered the rights are as before, but for the session's, where its request is declined.
+abbrev pub KeepsRights : Result Entered Fault → Claims → Claims → Type 0
+KeepsRights (Ok (entered.At pos)) old new = Unit {0}
+KeepsRights (Ok other) old new = new ≡ old
+KeepsRights (Err (faults.Full pages_then pending_then at)) old new = new ≡ record old { s = new.s }
+KeepsRights (Err fault) old new = new ≡ old
+
 -- the group is filled in, and the right to the page that it makes is there
 pub record IsFilledIn (asked now : Group) (old new : Claims) : Type 0 where
   pub child : ℕ

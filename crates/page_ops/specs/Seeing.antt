@@ -1,6 +1,6 @@
 -- What a caller of the journal knows, and what a call adds to it. The history grows under the journal's lock, and each
 -- call sees it whole at one moment.
-use Rattle.std.specs.Prelude.{◌≡◌, ◌⊎◌, IsTrue, ℕ, suc, ◌+◌, ◌≤◌, List, [], ◌∷◌, ◌++◌, length, Option, None, Bool, true, false, ◌==◌, if◌then◌else◌}
+use Rattle.std.specs.Prelude.{◌≡◌, ◌≢◌, ◌⊎◌, IsTrue, IfSome, Some, ℕ, suc, ◌+◌, ◌≤◌, List, [], ◌∷◌, ◌++◌, length, Option, None, Bool, true, false, ◌==◌, if◌then◌else◌}
 use Rattle.std.specs.List.{list_any, list_all}
 use Rattle.std.specs.Option.{option_map_or}
 use mathlib.Core.List.{IsPrefix}
@@ -18,11 +18,12 @@ use Rattle.page_ops.specs.Claims.{Claims, Agree, no_claims}
 
 -- ---- what is true of a history whenever the journal is free
 
--- whatever log the life began with, the history is legal after it, and the log of the life sound; each write was told,
--- and each split of a leaf has the write that it was made for
+-- Whatever log the life began with, the history is legal after it, and the log of the life sound and not empty. Each
+-- write was told, and each split of a leaf has the write that it was made for.
 pub record IsConsistent (opens : List Record → Type 0) (h : List Entry) : Type 0 where
   pub legal : (opening : List Record) → opens opening → IsLegal opening h
   pub sound : (opening : List Record) → opens opening → IsSound (life_log opening h)
+  pub some : (opening : List Record) → opens opening → life_log opening h ≢ []
   pub told : untold h ≡ None
   pub split : (opening : List Record) → opens opening → split_leaf opening h ≡ None
 
@@ -83,7 +84,7 @@ pub record Known : Type 0 where
 abbrev pub known : Account → List Entry → Claims → Known
 known account log claims = record { account = account; log = log; claims = claims }
 
--- parts don't change, and counts don't fall
+-- parts don't change, counts don't fall, and a known end stays
 pub record Keeps (old new : Account) : Type 0 where
   pub entry_parts : new.entries.parts ≡ old.entries.parts
   pub session_parts : new.session_entries.parts ≡ old.session_entries.parts
@@ -92,6 +93,7 @@ pub record Keeps (old new : Account) : Type 0 where
   pub log_faults : old.log_faults.amount ≤ new.log_faults.amount
   pub vault_faults : old.vault_faults.amount ≤ new.vault_faults.amount
   pub durable : old.durable ≤ new.durable
+  pub ended : IfSome old.ended (λ at. new.ended ≡ Some at)
 
 -- whoever has all parts of both ledgers of entries has entered all that its pass has seen
 pub record HasTotals (entries sessions : LedgerName) (x : Account) (h : List Entry) : Type 0 where

@@ -12,7 +12,7 @@ ghost use Rattle.page_ops.specs.Asking.{IsAskable, WasTimely};
 ghost use Rattle.page_ops.specs.Causes.{Ends, FailsToEnter, FailsToFlush, FailsToRead, NoOther, OrFull};
 ghost use Rattle.page_ops.specs.Claims.{page_alone};
 ghost use Rattle.page_ops.specs.Groups.{IsGroup, HasRights};
-ghost use Rattle.page_ops.specs.Outcomes.{EntersGroup, IsAnswer, IsFilledIn, IsFound, IsFull, OnEntered, repairs};
+ghost use Rattle.page_ops.specs.Outcomes.{EntersGroup, IsAnswer, IsFilledIn, IsFound, IsFull, KeepsRights, OnEntered, repairs};
 ghost use Rattle.page_ops.specs.Seeing.{Account, Enters, IsMoment, Looks, known};
 
 use crate::ground::Ground;
@@ -50,7 +50,7 @@ pub trait Entering<N: Life> {
     /// Enters a group: fills its records in, and raises the rights to their LSNs, and that of the session to its new
     /// numbers. The right to a page that the group makes is put into `c`. Refused with `Ended` and want of memory, and with
     /// `Full` where the group asks for room for a write and there is none, whereupon its request is entered as declined.
-    /// After a refusal, and where it isn't entered, the rights are as before.
+    /// Where it isn't entered the rights are as before, but for the number of entries of a session whose request is declined.
     fn enter<R: Wait>(
         &mut self,
         rt: &R,
@@ -68,7 +68,7 @@ pub trait Entering<N: Life> {
         ensures filled { OnEntered result (IsFilledIn group.old group.new rights.old rights.new) }
         ensures answer { IfOk result (IsAnswer N.opens pass.new.log group.old) }
         ensures full { IfErr result (IsFull N.opens pass.new.log group.old) }
-        ensures same { OnErr result ((rights.new.a ≡ rights.old.a) × (rights.new.b ≡ rights.old.b) × (rights.new.c ≡ rights.old.c) × (rights.new.m ≡ rights.old.m)) }
+        ensures same { KeepsRights result rights.old rights.new }
         ensures refused { IfErr result (FailsToEnter OrFull) }
         ensures ends { Ends N.opens N.log_faults (account self.old) (account self.new) pass.new.log result };
 

@@ -1,8 +1,8 @@
 ghost use Rattle.std.specs.Prelude.{◌≡◌, ℕ, List, Some, None, IsSome, true, false, ◌+◌, ◌-◌, ◌<◌, ◌^◌, min, OnOk, OnErr, IfOk, IfErr};
 ghost use Rattle.wal_record.specs.declared.record.Record.{Record};
-ghost use Rattle.page_ops.specs.Causes.{FailsToBring, IsUntold};
+ghost use Rattle.page_ops.specs.Causes.{FailsToBring, FailsToReserve};
 ghost use Rattle.page_ops.specs.Claims.{no_claims};
-ghost use Rattle.page_ops.specs.Desks.{Desk, IsMade, KeepsFaults, OneRose};
+ghost use Rattle.page_ops.specs.Desks.{Desk, IsMade, KeepsFaults};
 ghost use Rattle.page_ops.specs.Seeing.{Upholds, is_upkeep, known};
 ghost use Rattle.page_ops.specs.Takes.{IfPage, taken_of};
 
@@ -60,7 +60,7 @@ pub trait Pages<N: Life, J: Entering<N>> {
         ensures out { ((desk self.new).out ≡ 0) × ((desk self.new).reserves ≡ (desk self.old).reserves) }
         ensures faults { KeepsFaults (desk self.old) (desk self.new) }
         ensures entered { Upholds N.opens N.entries N.session_entries is_upkeep (known (J.account journal.old) pass.old.log no_claims) (known (J.account journal.new) pass.new.log no_claims) }
-        ensures refused { IfErr result (FailsToBring (OneRose (desk self.old).log_faults (desk self.new).log_faults (J.account journal.old).log_faults.amount (J.account journal.new).log_faults.amount) ((desk self.old).vault_faults < (desk self.new).vault_faults) (IsUntold N.opens) (λ at. (J.account journal.new).ended ≡ Some at)) };
+        ensures refused { IfErr result (FailsToBring N.opens N.log_faults (desk self.old) (desk self.new) (J.account journal.old) (J.account journal.new) pass.new.log) };
 
     /// Drops the page in hand and brings it from its backup or from nothing, and its chain, without a look at the data
     /// device. After a refusal it is in no frame.
@@ -78,7 +78,7 @@ pub trait Pages<N: Life, J: Entering<N>> {
         ensures out { ((desk self.new).out ≡ 0) × ((desk self.new).reserves ≡ (desk self.old).reserves) }
         ensures faults { KeepsFaults (desk self.old) (desk self.new) }
         ensures entered { Upholds N.opens N.entries N.session_entries is_upkeep (known (J.account journal.old) pass.old.log no_claims) (known (J.account journal.new) pass.new.log no_claims) }
-        ensures refused { IfErr result (FailsToBring (OneRose (desk self.old).log_faults (desk self.new).log_faults (J.account journal.old).log_faults.amount (J.account journal.new).log_faults.amount) ((desk self.old).vault_faults < (desk self.new).vault_faults) (IsUntold N.opens) (λ at. (J.account journal.new).ended ≡ Some at)) };
+        ensures refused { IfErr result (FailsToBring N.opens N.log_faults (desk self.old) (desk self.new) (J.account journal.old) (J.account journal.new) pass.new.log) };
 
     /// Puts the page back into its frame. It takes no memory.
     fn put_back<R: Wait>(&mut self, rt: &R, held: &mut Option<Held<N>>)
@@ -101,7 +101,7 @@ pub trait Pages<N: Life, J: Entering<N>> {
         ensures out { (desk self.new).out ≡ (desk self.old).out }
         ensures faults { KeepsFaults (desk self.old) (desk self.new) }
         ensures entered { Upholds N.opens N.entries N.session_entries is_upkeep (known (J.account journal.old) pass.old.log no_claims) (known (J.account journal.new) pass.new.log no_claims) }
-        ensures refused { IfErr result (FailsToBring (OneRose (desk self.old).log_faults (desk self.new).log_faults (J.account journal.old).log_faults.amount (J.account journal.new).log_faults.amount) ⊥ ⊥ (λ at. (J.account journal.new).ended ≡ Some at)) };
+        ensures refused { IfErr result (FailsToReserve N.opens N.log_faults (desk self.old) (desk self.new) (J.account journal.old) (J.account journal.new) pass.new.log) };
 
     /// Puts a new page into the reserved frame. It takes no memory.
     fn put_new<R: Wait>(&mut self, rt: &R, held: &mut Option<Held<N>>)
