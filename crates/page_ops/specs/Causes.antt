@@ -10,7 +10,7 @@ use Rattle.wal_record.specs.History.{life_log, greatest_begun}
 use Rattle.wal_record.specs.declared.record.Record.{Record}
 use Rattle.wal_record.specs.declared.entry.Entry.{Entry}
 use Rattle.page_ops.specs.Names.{LedgerName}
-use Rattle.page_ops.specs.Desks.{Desk}
+use Rattle.page_ops.specs.Desks.{Faults}
 use Rattle.page_ops.specs.Seeing.{Account}
 
 -- ---- the end of a life
@@ -72,23 +72,24 @@ FailsToRead opens (faults.Ended at) = Unit {0}
 FailsToRead opens (faults.LogBad block byte) = IsUntold opens
 FailsToRead opens fault = ⊥
 
--- of one that brings a page by a desk and a journal, by what both knew before and after: one of their counts rose; the
+-- of one that brings a page by device calls of its own and by a journal, with its faults and what the journal's object knew
+-- before and after: one of their counts rose; the
 -- journal's object knows that the life has ended; bad blocks and objects come only where the log isn't told
-abbrev pub FailsToBring : (List Record → Type 0) → LedgerName → Desk → Desk → Account → Account → List Entry → Fault → Type 0
-FailsToBring opens log_faults desk desk_now old new h faults.Memory = Unit {0}
-FailsToBring opens log_faults desk desk_now old new h faults.LogFault = IsTrue (is_some new.ended) × ((desk.log_faults < desk_now.log_faults) ⊎ (old.log_faults.amount < new.log_faults.amount))
-FailsToBring opens log_faults desk desk_now old new h faults.VaultFault = desk.vault_faults < desk_now.vault_faults
-FailsToBring opens log_faults desk desk_now old new h (faults.Ended at) = (new.ended ≡ Some at) × EndCause opens log_faults old h
-FailsToBring opens log_faults desk desk_now old new h (faults.LogBad block byte) = IsUntold opens
-FailsToBring opens log_faults desk desk_now old new h (faults.VaultBad object byte) = IsUntold opens
-FailsToBring opens log_faults desk desk_now old new h fault = ⊥
+abbrev pub FailsToBring : (List Record → Type 0) → LedgerName → Faults → Faults → Account → Account → List Entry → Fault → Type 0
+FailsToBring opens log_faults own own_now old new h faults.Memory = Unit {0}
+FailsToBring opens log_faults own own_now old new h faults.LogFault = IsTrue (is_some new.ended) × ((own.log < own_now.log) ⊎ (old.log_faults.amount < new.log_faults.amount))
+FailsToBring opens log_faults own own_now old new h faults.VaultFault = own.vault < own_now.vault
+FailsToBring opens log_faults own own_now old new h (faults.Ended at) = (new.ended ≡ Some at) × EndCause opens log_faults old h
+FailsToBring opens log_faults own own_now old new h (faults.LogBad block byte) = IsUntold opens
+FailsToBring opens log_faults own own_now old new h (faults.VaultBad object byte) = IsUntold opens
+FailsToBring opens log_faults own own_now old new h fault = ⊥
 
 -- of one that makes a frame free, the same without the vault
-abbrev pub FailsToReserve : (List Record → Type 0) → LedgerName → Desk → Desk → Account → Account → List Entry → Fault → Type 0
-FailsToReserve opens log_faults desk desk_now old new h faults.VaultFault = ⊥
-FailsToReserve opens log_faults desk desk_now old new h (faults.LogBad block byte) = ⊥
-FailsToReserve opens log_faults desk desk_now old new h (faults.VaultBad object byte) = ⊥
-FailsToReserve opens log_faults desk desk_now old new h fault = FailsToBring opens log_faults desk desk_now old new h fault
+abbrev pub FailsToReserve : (List Record → Type 0) → LedgerName → Faults → Faults → Account → Account → List Entry → Fault → Type 0
+FailsToReserve opens log_faults own own_now old new h faults.VaultFault = ⊥
+FailsToReserve opens log_faults own own_now old new h (faults.LogBad block byte) = ⊥
+FailsToReserve opens log_faults own own_now old new h (faults.VaultBad object byte) = ⊥
+FailsToReserve opens log_faults own own_now old new h fault = FailsToBring opens log_faults own own_now old new h fault
 
 -- no other fault
 abbrev pub NoOther : Fault → Type 0

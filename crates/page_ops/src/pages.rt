@@ -28,11 +28,11 @@ pub trait Pages<N: Life, J: Entering<N>> {
 
     /// How many faults of the log disk came at device calls made through it.
     fn log_faults(&self) -> u64
-        ensures { result ≡ min (desk self.now).log_faults (2 ^ 64 - 1) };
+        ensures { result ≡ min (desk self.now).faults.log (2 ^ 64 - 1) };
 
     /// How many faults of the vault came at device calls made through it.
     fn vault_faults(&self) -> u64
-        ensures { result ≡ min (desk self.now).vault_faults (2 ^ 64 - 1) };
+        ensures { result ≡ min (desk self.now).faults.vault (2 ^ 64 - 1) };
 
     /// The page, if it is in a frame. `Busy` where somebody holds it, `Away` where it is neither held nor in a frame.
     fn try_take<R: Wait>(&mut self, rt: &R, page: PageNo) -> Taken<Held<N>>
@@ -58,9 +58,9 @@ pub trait Pages<N: Life, J: Entering<N>> {
         requires none { (desk self.old).out ≡ 0 }
         requires made { IsMade N.opens pass.old.log page }
         ensures out { ((desk self.new).out ≡ 0) × ((desk self.new).reserves ≡ (desk self.old).reserves) }
-        ensures faults { KeepsFaults (desk self.old) (desk self.new) }
+        ensures faults { KeepsFaults (desk self.old).faults (desk self.new).faults }
         ensures entered { Upholds N.opens N.entries N.session_entries is_upkeep (known (J.account journal.old) pass.old.log no_claims) (known (J.account journal.new) pass.new.log no_claims) }
-        ensures refused { IfErr result (FailsToBring N.opens N.log_faults (desk self.old) (desk self.new) (J.account journal.old) (J.account journal.new) pass.new.log) };
+        ensures refused { IfErr result (FailsToBring N.opens N.log_faults (desk self.old).faults (desk self.new).faults (J.account journal.old) (J.account journal.new) pass.new.log) };
 
     /// Drops the page in hand and brings it from its backup or from nothing, and its chain, without a look at the data
     /// device. After a refusal it is in no frame.
@@ -76,9 +76,9 @@ pub trait Pages<N: Life, J: Entering<N>> {
         requires alone { (desk self.old).out ≡ 1 }
         ensures held { held.new ≡ None }
         ensures out { ((desk self.new).out ≡ 0) × ((desk self.new).reserves ≡ (desk self.old).reserves) }
-        ensures faults { KeepsFaults (desk self.old) (desk self.new) }
+        ensures faults { KeepsFaults (desk self.old).faults (desk self.new).faults }
         ensures entered { Upholds N.opens N.entries N.session_entries is_upkeep (known (J.account journal.old) pass.old.log no_claims) (known (J.account journal.new) pass.new.log no_claims) }
-        ensures refused { IfErr result (FailsToBring N.opens N.log_faults (desk self.old) (desk self.new) (J.account journal.old) (J.account journal.new) pass.new.log) };
+        ensures refused { IfErr result (FailsToBring N.opens N.log_faults (desk self.old).faults (desk self.new).faults (J.account journal.old) (J.account journal.new) pass.new.log) };
 
     /// Puts the page back into its frame. It takes no memory.
     fn put_back<R: Wait>(&mut self, rt: &R, held: &mut Option<Held<N>>)
@@ -99,9 +99,9 @@ pub trait Pages<N: Life, J: Entering<N>> {
         ensures reserved { OnOk result ((desk self.new).reserves ≡ true) }
         ensures same { OnErr result ((desk self.new).reserves ≡ (desk self.old).reserves) }
         ensures out { (desk self.new).out ≡ (desk self.old).out }
-        ensures faults { KeepsFaults (desk self.old) (desk self.new) }
+        ensures faults { KeepsFaults (desk self.old).faults (desk self.new).faults }
         ensures entered { Upholds N.opens N.entries N.session_entries is_upkeep (known (J.account journal.old) pass.old.log no_claims) (known (J.account journal.new) pass.new.log no_claims) }
-        ensures refused { IfErr result (FailsToReserve N.opens N.log_faults (desk self.old) (desk self.new) (J.account journal.old) (J.account journal.new) pass.new.log) };
+        ensures refused { IfErr result (FailsToReserve N.opens N.log_faults (desk self.old).faults (desk self.new).faults (J.account journal.old) (J.account journal.new) pass.new.log) };
 
     /// Puts a new page into the reserved frame. It takes no memory.
     fn put_new<R: Wait>(&mut self, rt: &R, held: &mut Option<Held<N>>)
