@@ -1,7 +1,7 @@
 -- What a group may ask of the journal, at whatever moment it comes: that it can be filled in to be legal there, that a
 -- page is in hand whose answer is told, that there is room, and that nobody came first.
-use Rattle.std.specs.Prelude.{◌≡◌, ◌≢◌, ◌⊎◌, ℕ, suc, ◌+◌, ◌≤◌, ◌<◌, List, [], ◌∷◌, ◌++◌, length, Option, Some, None, is_some, Bool, true, false, ◌&&◌, ◌==◌, if◌then◌else◌, IsTrue}
-use Rattle.std.specs.List.{list_any, list_all, All}
+use Rattle.std.specs.Prelude.{◌≡◌, ◌⊎◌, ℕ, suc, ◌+◌, ◌≤◌, ◌<◌, List, [], ◌∷◌, ◌++◌, length, Option, Some, None, Bool, true, false, ◌==◌, if◌then◌else◌, IsTrue}
+use Rattle.std.specs.List.{list_any, All}
 use mathlib.Core.List.{IsPrefix}
 use Rattle.books.specs.Rights.{PageClaim}
 use Rattle.store_model.specs.Along.{along}
@@ -9,7 +9,7 @@ use Rattle.store_model.specs.Range.{Interval, is_below, IsBelow}
 use Rattle.store_model.specs.declared.request.Request.{Request}
 use Rattle.store_model.specs.declared.request.Request.TheVariants as requests
 use Rattle.wal_record.specs.State.{leaf_rows, own_end}
-use Rattle.wal_record.specs.Chains.{finishes, is_link_of, link_of}
+use Rattle.wal_record.specs.Chains.{finishes}
 use Rattle.wal_record.specs.OpenWrites.{open_writes, is_loser}
 use Rattle.wal_record.specs.Upkeep.{unrestored}
 use Rattle.wal_record.specs.Checkpoints.{limit_of}
@@ -18,7 +18,6 @@ use Rattle.wal_record.specs.Sound.{UndoRule, used}
 use Rattle.wal_record.specs.History.{life_log}
 use Rattle.wal_record.specs.Legal.{IsLegal}
 use Rattle.wal_record.specs.declared.page.PageState.{PageState}
-use Rattle.wal_record.specs.declared.page.Rows.{Rows}
 use Rattle.wal_record.specs.declared.page.Rows.TheVariants.{Leaf}
 use Rattle.wal_record.specs.declared.record.Record.{Record}
 use Rattle.wal_record.specs.declared.record.Record.TheVariants as kinds

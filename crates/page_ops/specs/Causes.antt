@@ -1,5 +1,5 @@
 -- Why a call is refused.
-use Rattle.std.specs.Prelude.{◌≡◌, ◌⊎◌, ℕ, ◌+◌, ◌^◌, ◌<◌, ◌≤◌, max, List, length, Option, Some, None, is_some, IsTrue, Result, Ok, Err}
+use Rattle.std.specs.Prelude.{◌≡◌, ◌⊎◌, ℕ, ◌+◌, ◌^◌, ◌<◌, ◌≤◌, max, List, length, Some, None, is_some, IsTrue, Result, Ok, Err}
 use Rattle.std.specs.List.{sum_by}
 use Rattle.store_model.specs.declared.fault.Fault.{Fault}
 use Rattle.store_model.specs.declared.fault.Fault.TheVariants as faults
@@ -72,9 +72,9 @@ FailsToRead opens (faults.Ended at) = Unit {0}
 FailsToRead opens (faults.LogBad block byte) = IsUntold opens
 FailsToRead opens fault = ⊥
 
--- of one that brings a page by device calls of its own and by a journal, with its faults and what the journal's object knew
--- before and after: one of their counts rose; the
--- journal's object knows that the life has ended; bad blocks and objects come only where the log isn't told
+-- Of one that brings a page by device calls of its own and by a journal, with its faults and what the journal's object
+-- knew before and after. One of their counts rose. The journal's object knows that the life has ended. Bad blocks and
+-- objects come only where the log isn't told.
 abbrev pub FailsToBring : (List Record → Type 0) → LedgerName → Faults → Faults → Account → Account → List Entry → Fault → Type 0
 FailsToBring opens log_faults own own_now old new h faults.Memory = Unit {0}
 FailsToBring opens log_faults own own_now old new h faults.LogFault = IsTrue (is_some new.ended) × ((own.log < own_now.log) ⊎ (old.log_faults.amount < new.log_faults.amount))

@@ -1,8 +1,8 @@
 -- Groups of entries: which of their fields the journal fills in, which groups there are, and which rights they need.
-use Rattle.std.specs.Prelude.{◌≡◌, ◌≢◌, ◌⊎◌, ℕ, suc, ◌≤◌, List, [], ◌∷◌, ◌++◌, length, Option, Some, None, is_some, Bool, true, false, not, ◌&&◌, ◌||◌, ◌==◌, if◌then◌else◌, IsTrue, IfSome, IsSome}
+use Rattle.std.specs.Prelude.{◌≡◌, ℕ, suc, ◌≤◌, List, [], ◌∷◌, ◌++◌, length, Option, Some, None, is_some, Bool, true, false, not, ◌&&◌, ◌||◌, ◌==◌, if◌then◌else◌, IsTrue, IfSome, IsSome}
 use Rattle.std.specs.List.{list_any, list_all, All}
 use Rattle.std.specs.Option.{option_map_or}
-use Rattle.books.specs.Rights.{PageClaim, SessionClaim, MaintClaim}
+use Rattle.books.specs.Rights.{PageClaim, SessionClaim}
 use Rattle.wal_record.specs.Rules.{HasSpelling}
 use Rattle.wal_record.specs.Chains.{PageLink, page_links, Link, link_of}
 use Rattle.wal_record.specs.History.{Live, phase}

@@ -1,7 +1,7 @@
 -- What the answers of a journal's calls say of the history.
-use Rattle.std.specs.Prelude.{◌≡◌, ◌≢◌, ◌⊎◌, ℕ, zero, suc, min, ◌+◌, ◌<◌, ◌≤◌, List, [], ◌∷◌, ◌++◌, length, filter, fold, map, Option, Some, None, Bool, true, false, not, ◌==◌, if◌then◌else◌, IsTrue, Result, Ok, Err, IsSome}
+use Rattle.std.specs.Prelude.{◌≡◌, ◌≢◌, ◌⊎◌, ℕ, suc, min, ◌+◌, ◌<◌, ◌≤◌, List, [], ◌∷◌, ◌++◌, length, filter, fold, Option, Some, None, Bool, true, false, not, ◌==◌, if◌then◌else◌, IsTrue, Result, Ok, Err, IsSome}
 use Rattle.std.specs.List.{list_any, All}
-use Rattle.std.specs.Option.{option_map, option_map_or}
+use Rattle.std.specs.Option.{option_map}
 use Rattle.books.specs.Rights.{PageClaim, SessionClaim, MaintClaim}
 use Rattle.store_model.specs.Along.{along}
 use Rattle.store_model.specs.Range.{Interval, is_below}

@@ -95,12 +95,7 @@ pub trait Entering<N: Life> {
         ensures ended { (account self.new).ended ≡ (account self.old).ended };
 
     /// Makes the log durable up to this LSN, or whole where its last LSN is less. It enters nothing.
-    fn flush<R: Wait>(
-        &mut self,
-        rt: &R,
-        lsn: Lsn,
-        pass: &mut Pass<Entry, N>,
-    ) -> Result<(), Fault>
+    fn flush<R: Wait>(&mut self, rt: &R, lsn: Lsn, pass: &mut Pass<Entry, N>) -> Result<(), Fault>
         ensures seen { Looks N.opens N.entries N.session_entries (account self.old) pass.old.log (account self.new) pass.new.log }
         ensures durable { OnOk result ((opening : List Record) → N.opens opening → min lsn (length (life_log opening pass.new.log)) ≤ (account self.new).durable) }
         ensures refused { IfErr result FailsToFlush }
