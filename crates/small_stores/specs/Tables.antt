@@ -1,0 +1,1 @@
+-- A table of pages in memory.

@@ -1,0 +1,115 @@
+ghost use Rattle.std.specs.Prelude.{◌≡◌, ◌≢◌, ◌+◌, ◌<◌, ◌^◌, ℕ, List, [], ◌∷◌, ◌++◌, length, Some, None, IfSome, IfNone};
+ghost use Rattle.wal_record.specs.Chains.{pages};
+ghost use Rattle.wal_record.specs.OpenWrites.{pending};
+ghost use Rattle.wal_record.specs.History.{life_log};
+ghost use Rattle.wal_record.specs.Legal.{IsLegal};
+ghost use Rattle.wal_record.specs.Sound.{IsSound};
+ghost use Rattle.wal_record.specs.declared.record.Record.{Record};
+ghost use Rattle.wal_record.specs.declared.entry.Entry.{Entry};
+ghost use Rattle.page_ops.specs.Claims.{MaintAgrees, PageAgrees, SessionAgrees};
+ghost use Rattle.page_ops.specs.Seeing.{Enters, Looks, known};
+ghost use Rattle.small_stores.specs.History.{purge_entry};
+
+use crate::counts::Counts;
+use books::{Books, MaintRight, PageRight, SessionRight};
+use front::{Added, Board, Front, Pass};
+use page_ops::{Entries, Ground, Life, Rights, SessionEntries};
+use std::marker::{Brand, Model};
+use std::sync::ledger;
+use store_model::{Lsn, PageNo};
+use wal_record::Entry;
+
+const MOST: u64 = 1 << 62;
+
+/// A journal that keeps nothing but numbers and books. Contracts see it as its history.
+#[derive(Drop)]
+pub struct History<'a, N: Life> {
+    last: Lsn,
+    count: u64,
+    pages: u32,
+    pending: u32,
+    ground: &'a Ground<N>,
+    front: Front<Entry, N>,
+    books: Books<N>,
+    entries: ledger::Book<Entries<N>>,
+    session_entries: ledger::Book<SessionEntries<N>>,
+}
+
+impl<'a, N: Life> Model for History<'a, N> {
+    ghost use Rattle.std.specs.Prelude.{List};
+    ghost use Rattle.wal_record.specs.declared.entry.Entry.{Entry};
+    ghost use Rattle.small_stores.specs.History.{IsKept};
+
+    ghost Value = { List Entry };
+
+    ghost view = { λ h. h.front };
+
+    ghost invariant = { λ h. IsKept N.opens h.front (record { last = h.last; entries = h.count; pages = h.pages; pending = h.pending }) (record { pages = h.books.pages; sessions = h.books.sessions; maint = h.books.maint }) h.entries.total h.session_entries.total };
+}
+
+// The front adds this purge of a page.
+fn add<N: Life, A: Added<Entry>>(
+    board: &Board<Entry, N>,
+    front: &mut Front<Entry, N>,
+    lsn: Lsn,
+    page: PageNo,
+    prev: Lsn,
+)
+    requires entry { A.entries ≡ purge_entry lsn page prev ∷ [] }
+    requires fits { length front.old + 1 < 2 ^ 64 }
+    ensures { front.new ≡ front.old ++ purge_entry lsn page prev ∷ [] }
+{
+    front.advance::<A>(board, 1);
+}
+
+impl<'a, N: Life> History<'a, N> {
+    // The page's right comes back as it was, and agrees with the history.
+    fn see_page(&mut self, right: &mut Option<PageRight<N>>)
+        ensures same { self.new ≡ self.old }
+        ensures right { right.new ≡ right.old }
+        ensures agrees { IfSome right.old (PageAgrees N.opens self.old) }
+    {
+        if let Some(old) = right.take() {
+            let lsn = old.lsn();
+            let same = self
+                .books
+                .pages
+                .set(&self.ground.tables.pages, old.into_right(), lsn, 0);
+            *right = Some(PageRight::of(same));
+        }
+    }
+
+    // The session's right comes back as it was, and agrees with the history.
+    fn see_session(&mut self, right: &mut Option<SessionRight<N>>)
+        ensures same { self.new ≡ self.old }
+        ensures right { right.new ≡ right.old }
+        ensures agrees { IfSome right.old (SessionAgrees self.old) }
+    {
+        if let Some(old) = right.take() {
+            let (entries, tx) = (old.entries(), old.tx());
+            let same = self.books.sessions.set(
+                &self.ground.tables.sessions,
+                old.into_right(),
+                entries,
+                tx,
+            );
+            *right = Some(SessionRight::of(same));
+        }
+    }
+
+    // The right to maintenance comes back as it was, and agrees with the history.
+    fn see_maint(&mut self, right: &mut Option<MaintRight<N>>)
+        ensures same { self.new ≡ self.old }
+        ensures right { right.new ≡ right.old }
+        ensures agrees { IfSome right.old (MaintAgrees self.old) }
+    {
+        if let Some(old) = right.take() {
+            let lsn = old.lsn();
+            let same = self
+                .books
+                .maint
+                .set(&self.ground.tables.maint, old.into_right(), lsn, 0);
+            *right = Some(MaintRight::of(same));
+        }
+    }
+}
