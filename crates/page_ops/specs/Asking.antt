@@ -1,7 +1,7 @@
 -- What a group may ask of the journal, at whatever moment it comes: that it can be filled in to be legal there, that a
 -- page is in hand whose answer is told, that there is room, and that nobody came first.
 use Rattle.std.specs.Prelude.{◌≡◌, ◌⊎◌, ℕ, suc, ◌+◌, ◌≤◌, ◌<◌, List, [], ◌∷◌, ◌++◌, length, Option, Some, None, Bool, true, false, ◌==◌, if◌then◌else◌, IsTrue}
-use Rattle.std.specs.List.{list_any, All}
+use Rattle.std.specs.List.{list_any}
 use mathlib.Core.List.{IsPrefix}
 use Rattle.books.specs.Rights.{PageClaim}
 use Rattle.store_model.specs.Along.{along}
@@ -25,7 +25,7 @@ use Rattle.wal_record.specs.declared.entry.Entry.{Entry}
 use Rattle.wal_record.specs.declared.entry.Entry.TheVariants as entries
 use Rattle.page_ops.specs.declared.group.Said.{Said}
 use Rattle.page_ops.specs.declared.group.Group.{Group}
-use Rattle.page_ops.specs.Groups.{AreFilled, group_entries}
+use Rattle.page_ops.specs.Groups.{Each, AreFilled, group_entries}
 
 -- ---- nobody came first
 
@@ -116,4 +116,4 @@ pub record MayFollow (opening : List Record) (h : List Entry) (g : Group) : Type
 -- what the group asks at the moment at which it comes
 pub record IsAskable (opening : List Record) (h : List Entry) (a : Option PageClaim) (g : Group) : Type 0 where
   pub leaf : HasLeaf opening h g.recs g.said a
-  pub follows : All (IsTimely opening h) g.recs → HasRoomFor opening h g → MayFollow opening h g
+  pub follows : Each (IsTimely opening h) g.recs → HasRoomFor opening h g → MayFollow opening h g

@@ -1,6 +1,6 @@
 -- Groups of entries: which of their fields the journal fills in, which groups there are, and which rights they need.
 use Rattle.std.specs.Prelude.{◌≡◌, ℕ, suc, ◌≤◌, List, [], ◌∷◌, ◌++◌, length, Option, Some, None, is_some, Bool, true, false, not, ◌&&◌, ◌||◌, ◌==◌, if◌then◌else◌, IsTrue, IfSome, IsSome}
-use Rattle.std.specs.List.{list_any, list_all, All}
+use Rattle.std.specs.List.{list_any, list_all}
 use Rattle.std.specs.Option.{option_map_or}
 use Rattle.books.specs.Rights.{PageClaim, SessionClaim}
 use Rattle.wal_record.specs.Rules.{HasSpelling}
@@ -15,6 +15,11 @@ use Rattle.store_model.specs.declared.reply.Outcome.{Outcome}
 use Rattle.page_ops.specs.declared.group.Said.{Said}
 use Rattle.page_ops.specs.declared.group.Group.{Group}
 use Rattle.page_ops.specs.Claims.{Claims}
+
+-- it holds of each item
+abbrev pub Each : {A : Type 0} → (A → Type 0) → List A → Type 0
+Each P [] = Unit {0}
+Each P (x ∷ xs) = P x × Each P xs
 
 -- ---- what the journal fills in
 
@@ -125,7 +130,7 @@ told_by said (r ∷ rs) = not (is_write r) && told_by said rs
 pub record IsGroup (g : Group) : Type 0 where
   pub few : length g.recs ≤ 3
   pub kinds : IsTrue (list_all is_grouped g.recs)
-  pub spelled : All (IsSpelled (made_by g.recs)) g.recs
+  pub spelled : Each (IsSpelled (made_by g.recs)) g.recs
   -- an answer alone, or records with the answer of their write behind it
   pub told : IsTrue (told_by (is_some g.said) g.recs)
   pub alone : list_any is_checkpoint g.recs ≡ true → length g.recs ≡ 1
@@ -162,6 +167,6 @@ pub record HasRights (h : List Entry) (x : Claims) (g : Group) : Type 0 where
   pub pages : IsTrue (list_all (has_rights (made_by g.recs) x) g.recs)
   -- the place of the right to the page that the group makes is free
   pub new : IsSome (made_by g.recs) → x.c ≡ None
-  pub owners : All (λ r. HasOwner h x (link_of r)) g.recs
+  pub owners : Each (λ r. HasOwner h x (link_of r)) g.recs
   pub speaker : HasSpeaker x.s g.said
   pub maintenance : list_any needs_maintenance g.recs ≡ true → IsSome x.m

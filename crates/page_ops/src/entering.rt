@@ -1,5 +1,4 @@
 ghost use Rattle.std.specs.Prelude.{◌≡◌, ℕ, List, [], None, Some, length, min, ◌≤◌, ◌-◌, ◌^◌, OnOk, OnErr, IfOk, IfErr, IfSome, IfNone};
-ghost use Rattle.std.specs.List.{All};
 ghost use Rattle.wal_record.specs.Books.{page_book};
 ghost use Rattle.wal_record.specs.Chains.{pages};
 ghost use Rattle.wal_record.specs.History.{life_log};
@@ -11,7 +10,7 @@ ghost use Rattle.wal_record.specs.declared.entry.Entry.{Entry};
 ghost use Rattle.page_ops.specs.Asking.{IsAskable, WasTimely};
 ghost use Rattle.page_ops.specs.Causes.{Ends, FailsToEnter, FailsToFlush, FailsToRead, NoOther, OrFull};
 ghost use Rattle.page_ops.specs.Claims.{page_alone};
-ghost use Rattle.page_ops.specs.Groups.{IsGroup, HasRights};
+ghost use Rattle.page_ops.specs.Groups.{Each, IsGroup, HasRights};
 ghost use Rattle.page_ops.specs.Outcomes.{EntersGroup, IsAnswer, IsFilledIn, IsFound, IsFull, KeepsRights, OnEntered, repairs};
 ghost use Rattle.page_ops.specs.Seeing.{Account, Enters, IsMoment, Looks, known};
 
@@ -63,7 +62,7 @@ pub trait Entering<N: Life> {
         requires rights { HasRights pass.old.log rights.old group.old }
         requires askable { (opening : List Record) (h : List Entry) → N.opens opening → IsMoment N.opens pass.old.log rights.old h → IsAskable opening h rights.old.a group.old }
         // The loser's write was its last open one, or the segment unrestored, when the caller saw it.
-        requires timely { (opening : List Record) → N.opens opening → All (WasTimely opening pass.old.log) group.old.recs }
+        requires timely { (opening : List Record) → N.opens opening → Each (WasTimely opening pass.old.log) group.old.recs }
         ensures entered { EntersGroup N.opens N.entries N.session_entries group.old group.new result (known (account self.old) pass.old.log rights.old) (known (account self.new) pass.new.log rights.new) }
         ensures filled { OnEntered result (IsFilledIn group.old group.new rights.old rights.new) }
         ensures answer { IfOk result (IsAnswer N.opens pass.new.log group.old) }
