@@ -1,12 +1,13 @@
 -- What the calls keep.
 use Rattle.std.proofs.Common.{◌≡◌, ◌≢◌, ℕ, zero, suc, eqb, cond, ◌+◌, ◌<◌, ◌≤◌, ◌^◌, List, [], ◌∷◌, ◌++◌, length, Option, Some, None, Bool, true, false, refl, sym, ap, ◌∙◌, subst, arith, length-append}
-use Rattle.std.specs.Prelude.{if◌then◌else◌}
+use Rattle.std.specs.Prelude.{if◌then◌else◌, IfSome}
 use Rattle.std.proofs.lemmas.Bool.Decides.{nat_tests}
 use native.Mathlib.Decide.{ℕ_discrete}
 use mathlib.Core.Logic.{dite}
 use mathlib.Core.List.{IsPrefix}
 use Rattle.books.specs.Booking.{entry, entry_of, replaced}
 use Rattle.books.specs.declared.entry.BookEntry.{BookEntry}
+use Rattle.books.specs.Rights.{PageClaim, page_entry}
 use Rattle.books.proofs.Keeping.{entry_of-other, entry_of-replaced}
 use Rattle.wal_record.specs.Books.{page_book, maintenance_book, session_entries, unless_over, session_transaction}
 use Rattle.wal_record.specs.Chains.{head, pages}
@@ -39,29 +40,56 @@ same_entries es es' right first second there now one two n x is =
     let at : entry_of n (replaced new es) ≡ Some x = ap (λ l. entry_of n l) (sym now) ∙ is in
     dite (ℕ_discrete n right.number)
     (λ here. let found = entry_of-replaced new es right there in
-        ap (λ k. entry_of k es) here ∙ there ∙ ap Some (sym same) ∙ sym found ∙ ap (λ k. entry_of k (replaced new es)) (sym here) ∙ at)
+    ap (λ k. entry_of k es) here ∙ there ∙ ap Some (sym same) ∙ sym found ∙ ap (λ k. entry_of k (replaced new es)) (sym here) ∙ at)
     (λ apart. sym (entry_of-other n new es apart) ∙ at)
 
 pub kept_pages : (opens : List Record → Type 0) (h : List Entry) (n : Numbers) (ps ps' ss ms : List BookEntry) (total of_session : ℕ) (right : BookEntry) (first second : ℕ)
     → IsKept opens h n (record { pages = ps; sessions = ss; maint = ms }) total of_session → entry_of right.number ps ≡ Some right → ps' ≡ replaced (entry right.number first second) ps → first ≡ right.first → second ≡ right.second
     → IsKept opens h n (record { pages = ps'; sessions = ss; maint = ms }) total of_session
 kept_pages opens h n ps ps' ss ms total of_session right first second k there now one two =
-    record { consistent = k.consistent; last = k.last; entries = k.entries; room = k.room; pages = k.pages; pending = k.pending; counted = k.counted; sessions_counted = k.sessions_counted;
-      books = record { pages = λ m x is. k.books.pages m x (same_entries ps ps' right first second there now one two m x is); sessions = k.books.sessions; maint = k.books.maint } }
+    record {
+      consistent = k.consistent;
+      last = k.last;
+      entries = k.entries;
+      room = k.room;
+      pages = k.pages;
+      pending = k.pending;
+      counted = k.counted;
+      sessions_counted = k.sessions_counted;
+      books = record { pages = λ m x is. k.books.pages m x (same_entries ps ps' right first second there now one two m x is); sessions = k.books.sessions; maint = k.books.maint };
+    }
 
 pub kept_sessions : (opens : List Record → Type 0) (h : List Entry) (n : Numbers) (ps ss ss' ms : List BookEntry) (total of_session : ℕ) (right : BookEntry) (first second : ℕ)
     → IsKept opens h n (record { pages = ps; sessions = ss; maint = ms }) total of_session → entry_of right.number ss ≡ Some right → ss' ≡ replaced (entry right.number first second) ss → first ≡ right.first → second ≡ right.second
     → IsKept opens h n (record { pages = ps; sessions = ss'; maint = ms }) total of_session
 kept_sessions opens h n ps ss ss' ms total of_session right first second k there now one two =
-    record { consistent = k.consistent; last = k.last; entries = k.entries; room = k.room; pages = k.pages; pending = k.pending; counted = k.counted; sessions_counted = k.sessions_counted;
-      books = record { pages = k.books.pages; sessions = λ m x is. k.books.sessions m x (same_entries ss ss' right first second there now one two m x is); maint = k.books.maint } }
+    record {
+      consistent = k.consistent;
+      last = k.last;
+      entries = k.entries;
+      room = k.room;
+      pages = k.pages;
+      pending = k.pending;
+      counted = k.counted;
+      sessions_counted = k.sessions_counted;
+      books = record { pages = k.books.pages; sessions = λ m x is. k.books.sessions m x (same_entries ss ss' right first second there now one two m x is); maint = k.books.maint };
+    }
 
 pub kept_maint : (opens : List Record → Type 0) (h : List Entry) (n : Numbers) (ps ss ms ms' : List BookEntry) (total of_session : ℕ) (right : BookEntry) (first second : ℕ)
     → IsKept opens h n (record { pages = ps; sessions = ss; maint = ms }) total of_session → entry_of right.number ms ≡ Some right → ms' ≡ replaced (entry right.number first second) ms → first ≡ right.first → second ≡ right.second
     → IsKept opens h n (record { pages = ps; sessions = ss; maint = ms' }) total of_session
 kept_maint opens h n ps ss ms ms' total of_session right first second k there now one two =
-    record { consistent = k.consistent; last = k.last; entries = k.entries; room = k.room; pages = k.pages; pending = k.pending; counted = k.counted; sessions_counted = k.sessions_counted;
-      books = record { pages = k.books.pages; sessions = k.books.sessions; maint = λ m x is. k.books.maint m x (same_entries ms ms' right first second there now one two m x is) } }
+    record {
+      consistent = k.consistent;
+      last = k.last;
+      entries = k.entries;
+      room = k.room;
+      pages = k.pages;
+      pending = k.pending;
+      counted = k.counted;
+      sessions_counted = k.sessions_counted;
+      books = record { pages = k.books.pages; sessions = k.books.sessions; maint = λ m x is. k.books.maint m x (same_entries ms ms' right first second there now one two m x is) };
+    }
 
 -- ---- the purge of a page
 
@@ -124,9 +152,10 @@ module _ (opens : List Record → Type 0) (h : List Entry) (n : Numbers) (b : Bo
       grind (arith, nat_tests, apart, at, was))
 
   sessions_kept : (m : ℕ) → (session_entries now m ≡ session_entries h m) × (session_transaction now m ≡ session_transaction h m)
-  sessions_kept m =
-      (session_entries_push h (purge_entry (n.last + 1) page prev) m,
-        ap (λ x. unless_over now x) (last_begun_push h (purge_entry (n.last + 1) page prev) m) ∙ over_same h now (last_begun h m) (λ t. phase_push h (purge_entry (n.last + 1) page prev) t))
+  sessions_kept m = (
+    session_entries_push h (purge_entry (n.last + 1) page prev) m,
+    ap (λ x. unless_over now x) (last_begun_push h (purge_entry (n.last + 1) page prev) m) ∙ over_same h now (last_begun h m) (λ t. phase_push h (purge_entry (n.last + 1) page prev) t),
+  )
 
   pub kept_purged : IsKept opens h n b total of_session → entry_of page b.pages ≡ Some (entry page prev 0) → GoesOn
       → IsKept opens now (record n { last = n.last + 1; entries = n.entries + 1 }) (record b { pages = replaced (entry page (n.last + 1) 0) b.pages }) (total + 1) of_session
@@ -149,3 +178,29 @@ module _ (opens : List Record → Type 0) (h : List Entry) (n : Numbers) (b : Bo
     counted = omega (arith, k.counted, length-append h (purge_entry (n.last + 1) page prev ∷ []));
     sessions_counted = k.sessions_counted ∙ sym (of_sessions_push h (purge_entry (n.last + 1) page prev));
   }
+
+-- the same, after the calls
+pub kept_entered : (opens : List Record → Type 0) (h h' : List Entry) (last count made waiting total total' of_session page prev : ℕ) (ps ps' ss ms : List BookEntry) (old : PageClaim) (right : BookEntry)
+    → IsKept opens h (record { last = last; entries = count; pages = made; pending = waiting }) (record { pages = ps; sessions = ss; maint = ms }) total of_session
+    → (old.page ≡ page) × ((opening : List Record) → opens opening → IsLegal opening (h ++ purge_entry (suc (length (life_log opening h))) page old.lsn ∷ []))
+    → right ≡ page_entry old → entry_of right.number ps ≡ Some right → ps' ≡ replaced (entry right.number (last + 1) 0) ps
+    → prev ≡ old.lsn → h' ≡ h ++ purge_entry (last + 1) page prev ∷ [] → total' ≡ total + 1
+    → IsKept opens h' (record { last = last + 1; entries = count + 1; pages = made; pending = waiting }) (record { pages = ps'; sessions = ss; maint = ms }) total' of_session
+kept_entered opens h h' last count made waiting total total' of_session page prev ps ps' ss ms old right k ask is there book same now sum =
+    let n : Numbers = record { last = last; entries = count; pages = made; pending = waiting } in
+    let b : BooksOf = record { pages = ps; sessions = ss; maint = ms } in
+    let found : entry_of old.page ps ≡ Some (entry old.page old.lsn 0) = subst (λ r. entry_of r.number ps ≡ Some r) is there in
+    let on = subst (λ p. (opening : List Record) → opens opening → IsLegal opening (h ++ purge_entry (suc (length (life_log opening h))) p old.lsn ∷ [])) (sym ask.0) ask.1 in
+    let done = kept_purged opens h n b total of_session old.page old.lsn k found on in
+    let books : replaced (entry old.page (last + 1) 0) ps ≡ ps' = sym (book ∙ ap (λ (r : BookEntry). replaced (entry r.number (last + 1) 0) ps) is) in
+    let history : h ++ purge_entry (last + 1) old.page old.lsn ∷ [] ≡ h' = sym (now ∙ (λ i. h ++ purge_entry (last + 1) (sym ask.0 i) (same i) ∷ [])) in
+    subst (λ (x : List Entry × List BookEntry × ℕ). IsKept opens x.0 (record { last = last + 1; entries = count + 1; pages = made; pending = waiting }) (record { pages = x.1; sessions = ss; maint = ms }) x.2 of_session)
+    (λ i. (history i, books i, sym sum i)) done
+
+pub ask_at : (opens : List Record → Type 0) (asked h : List Entry) (page : ℕ) (old : PageClaim) → h ≡ asked
+    → (old.page ≡ page) × ((opening : List Record) → opens opening → IsLegal opening (asked ++ purge_entry (suc (length (life_log opening asked))) page old.lsn ∷ []))
+    → (old.page ≡ page) × ((opening : List Record) → opens opening → IsLegal opening (h ++ purge_entry (suc (length (life_log opening h))) page old.lsn ∷ []))
+ask_at opens asked h page old same ask = subst (λ l. (old.page ≡ page) × ((opening : List Record) → opens opening → IsLegal opening (l ++ purge_entry (suc (length (life_log opening l))) page old.lsn ∷ []))) (sym same) ask
+
+pub if_some : {A : Type 0} (fact : A → Type 0) (found : Option A) (x : A) → found ≡ Some x → IfSome found fact → fact x
+if_some fact found x is f = subst (λ o. IfSome o fact) is f

@@ -1,4 +1,4 @@
-ghost use Rattle.std.specs.Prelude.{◌≡◌, ◌≢◌, ◌+◌, ◌<◌, ◌^◌, ℕ, List, [], ◌∷◌, ◌++◌, length, Some, None, IfSome, IfNone};
+ghost use Rattle.std.specs.Prelude.{◌≡◌, ◌≢◌, ◌+◌, ◌<◌, ◌^◌, ℕ, List, [], ◌∷◌, ◌++◌, length, suc, Some, None, IfSome, IfNone, IsSome};
 ghost use Rattle.wal_record.specs.Chains.{pages};
 ghost use Rattle.wal_record.specs.OpenWrites.{pending};
 ghost use Rattle.wal_record.specs.History.{life_log};
@@ -7,7 +7,8 @@ ghost use Rattle.wal_record.specs.Sound.{IsSound};
 ghost use Rattle.wal_record.specs.declared.record.Record.{Record};
 ghost use Rattle.wal_record.specs.declared.entry.Entry.{Entry};
 ghost use Rattle.page_ops.specs.Claims.{MaintAgrees, PageAgrees, SessionAgrees};
-ghost use Rattle.page_ops.specs.Seeing.{Enters, Looks, known};
+ghost use mathlib.Core.List.{IsPrefix};
+ghost use Rattle.page_ops.specs.Seeing.{Enters, HasTotals, IsConsistent, known};
 ghost use Rattle.small_stores.specs.History.{purge_entry};
 
 use crate::counts::Counts;
@@ -111,5 +112,70 @@ impl<'a, N: Life> History<'a, N> {
                 .set(&self.ground.tables.maint, old.into_right(), lsn, 0);
             *right = Some(MaintRight::of(same));
         }
+    }
+
+    // Shows the pass the whole history. The shares count what they counted.
+    fn look(&mut self, pass: &mut Pass<Entry, N>, counts: &mut Counts<N>)
+        ensures same { self.new ≡ self.old }
+        ensures counts { counts.new ≡ counts.old }
+        ensures pass { pass.new.log ≡ self.old }
+        ensures begins { IsPrefix pass.old.log self.old }
+        ensures consistent { IsConsistent N.opens self.old }
+        ensures totals { HasTotals N.entries N.session_entries counts.old self.old }
+    {
+        self.front.meet(&self.ground.board, pass);
+        self.entries.audit(&mut counts.entries);
+        self.session_entries.audit(&mut counts.session_entries);
+    }
+
+    /// As `Entering::see`.
+    pub fn see(&mut self, rights: &mut Rights<N>, pass: &mut Pass<Entry, N>, counts: &mut Counts<N>)
+        ensures same { self.new ≡ self.old }
+        ensures rights { rights.new ≡ rights.old }
+        ensures counts { counts.new ≡ counts.old }
+        ensures pass { pass.new.log ≡ self.old }
+        ensures seen { Enters N.opens N.entries N.session_entries (known counts.old pass.old.log rights.old) [] (known counts.new pass.new.log rights.new) }
+    {
+        self.see_page(&mut rights.a);
+        self.see_page(&mut rights.b);
+        self.see_page(&mut rights.c);
+        self.see_session(&mut rights.s);
+        self.see_maint(&mut rights.m);
+        self.look(pass, counts);
+    }
+
+    // Enters the purge of a page by its right, unless too many entries are there. Gives its LSN.
+    fn purge(
+        &mut self,
+        page: PageNo,
+        right: &mut Option<PageRight<N>>,
+        pass: &mut Pass<Entry, N>,
+        counts: &mut Counts<N>,
+    ) -> Option<Lsn>
+        requires right { IfSome right.old (λ r. (r.page ≡ page) × ((opening : List Record) → N.opens opening → IsLegal opening (self.old ++ purge_entry (suc (length (life_log opening self.old))) page r.lsn ∷ []))) }
+        requires there { IsSome right.old }
+        ensures none { IfNone result ((self.new ≡ self.old) × (right.new ≡ right.old) × (pass.new ≡ pass.old) × (counts.new ≡ counts.old)) }
+        ensures entered { IfSome result (λ lsn. IfSome right.old (λ r. self.new ≡ self.old ++ purge_entry lsn page r.lsn ∷ [])) }
+        ensures right { IfSome result (λ lsn. right.new ≡ Some (record { page = page; lsn = lsn })) }
+        ensures counts { IfSome result (λ lsn. counts.new ≡ record counts.old { entries = record { parts = counts.old.entries.parts; amount = counts.old.entries.amount + 1 } }) }
+    {
+        let Some(old) = right.take() else {
+            unreachable!()
+        };
+        if self.last >= MOST {
+            *right = Some(old);
+            return None;
+        }
+        let (lsn, prev) = (self.last + 1, old.lsn());
+        let raised = self
+            .books
+            .pages
+            .set(&self.ground.tables.pages, old.into_right(), lsn, 0);
+        *right = Some(PageRight::of(raised));
+        add::<N, Brand>(&self.ground.board, &mut self.front, lsn, page, prev);
+        self.last = lsn;
+        self.count += 1;
+        self.entries.add(&mut counts.entries, 1);
+        Some(lsn)
     }
 }
