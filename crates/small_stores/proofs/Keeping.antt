@@ -93,7 +93,7 @@ kept_maint opens h n ps ss ms ms' total of_session right first second k there no
 
 -- ---- the purge of a page
 
-of_sessions_push : (h : List Entry) (e : Entry) → of_sessions (h ++ e ∷ []) ≡ cond (is_of_session h e) (suc (of_sessions h)) (of_sessions h)
+pub of_sessions_push : (h : List Entry) (e : Entry) → of_sessions (h ++ e ∷ []) ≡ cond (is_of_session h e) (suc (of_sessions h)) (of_sessions h)
 unfolding of_sessions
 of_sessions_push h e = along_push _ _ h e
 

@@ -1,5 +1,5 @@
 -- What a small journal keeps of its history.
-use Rattle.std.specs.Prelude.{◌≡◌, ℕ, ◌+◌, ◌^◌, ◌<◌, ◌≤◌, List, length, Some}
+use Rattle.std.specs.Prelude.{◌≡◌, ℕ, ◌≤◌, List, [], ◌∷◌, ◌++◌, length, Some, None, false}
 use Rattle.books.specs.Booking.{entry_of}
 use Rattle.books.specs.declared.entry.BookEntry.{BookEntry}
 use Rattle.wal_record.specs.Books.{page_book, maintenance_book, session_entries, session_transaction}
@@ -10,6 +10,9 @@ use Rattle.wal_record.specs.declared.record.Record.{Record}
 use Rattle.wal_record.specs.declared.record.Record.TheVariants as kinds
 use Rattle.wal_record.specs.declared.entry.Entry.{Entry}
 use Rattle.wal_record.specs.declared.entry.Entry.TheVariants.{Rec}
+use Rattle.wal_record.specs.declared.record.Purge.{Purge}
+use Rattle.page_ops.specs.Claims.{Claims}
+use Rattle.page_ops.specs.declared.group.Group.{Group}
 use Rattle.page_ops.specs.Seeing.{IsConsistent, of_sessions}
 
 -- the numbers that it counts: the last LSN, the entries, the pages and the pending writes
@@ -46,3 +49,16 @@ pub record IsKept (opens : List Record → Type 0) (h : List Entry) (n : Numbers
 -- the purge of a page, whose record before has this LSN
 abbrev pub purge_entry : ℕ → ℕ → ℕ → Entry
 purge_entry lsn page prev = Rec lsn (kinds.Purge (record { page = page; page_prev = prev }))
+
+-- the group asks for the purge of this page alone, and not for room
+pub record AsksPurge (g : Group) (page : ℕ) : Type 0 where
+  pub purge : Purge
+  pub same : purge.page ≡ page
+  pub is : g ≡ record { recs = kinds.Purge purge ∷ []; said = None; room = false }
+
+-- the purge is filled in and entered, and the first right raised
+pub record EntersPurge (page prev : ℕ) (asked now : Group) (old new : Claims) (h after : List Entry) : Type 0 where
+  pub lsn : ℕ
+  pub history : after ≡ h ++ purge_entry lsn page prev ∷ []
+  pub group : now ≡ record { recs = kinds.Purge (record { page = page; page_prev = prev }) ∷ []; said = None; room = false }
+  pub rights : new ≡ record old { a = Some (record { page = page; lsn = lsn }) }

@@ -1,4 +1,4 @@
-ghost use Rattle.std.specs.Prelude.{◌≡◌, ◌≢◌, ◌+◌, ◌<◌, ◌^◌, ℕ, List, [], ◌∷◌, ◌++◌, length, suc, Some, None, IfSome, IfNone, IsSome};
+ghost use Rattle.std.specs.Prelude.{◌≡◌, ◌≢◌, ◌+◌, ◌<◌, ◌^◌, ℕ, List, [], ◌∷◌, ◌++◌, length, suc, Some, None, IfSome, IfNone, IsSome, IfOk, IfErr, OnOk, OnErr};
 ghost use Rattle.wal_record.specs.Chains.{pages};
 ghost use Rattle.wal_record.specs.OpenWrites.{pending};
 ghost use Rattle.wal_record.specs.History.{life_log};
@@ -8,17 +8,21 @@ ghost use Rattle.wal_record.specs.declared.record.Record.{Record};
 ghost use Rattle.wal_record.specs.declared.entry.Entry.{Entry};
 ghost use Rattle.page_ops.specs.Claims.{MaintAgrees, PageAgrees, SessionAgrees};
 ghost use mathlib.Core.List.{IsPrefix};
-ghost use Rattle.page_ops.specs.Seeing.{Enters, HasTotals, IsConsistent, known};
-ghost use Rattle.small_stores.specs.History.{purge_entry};
+ghost use Rattle.page_ops.specs.Asking.{IsAskable};
+ghost use Rattle.page_ops.specs.Outcomes.{EntersGroup, IsFilledIn, OnEntered};
+ghost use Rattle.page_ops.specs.Seeing.{Enters, HasTotals, IsConsistent, IsMoment, known};
+ghost use Rattle.page_ops.specs.declared.outcome.Entered.TheVariants as entered;
+ghost use Rattle.store_model.specs.declared.fault.Fault.TheVariants as faults;
+ghost use Rattle.small_stores.specs.History.{AsksPurge, EntersPurge, purge_entry};
 
 use crate::counts::Counts;
 use books::{Books, MaintRight, PageRight, SessionRight};
 use front::{Added, Board, Front, Pass};
-use page_ops::{Entries, Ground, Life, Rights, SessionEntries};
+use page_ops::{Entered, Entries, Ground, Group, Life, Rights, SessionEntries};
 use std::marker::{Brand, Model};
 use std::sync::ledger;
-use store_model::{Lsn, PageNo};
-use wal_record::Entry;
+use store_model::{Fault, Lsn, PageNo};
+use wal_record::{Entry, Purge, Record};
 
 const MOST: u64 = 1 << 62;
 
@@ -177,5 +181,81 @@ impl<'a, N: Life> History<'a, N> {
         self.count += 1;
         self.entries.add(&mut counts.entries, 1);
         Some(lsn)
+    }
+
+    // Enters the purge that the group asks for.
+    fn enter_purge(
+        &mut self,
+        page: PageNo,
+        prev: Lsn,
+        group: &mut Group,
+        rights: &mut Rights<N>,
+        pass: &mut Pass<Entry, N>,
+        counts: &mut Counts<N>,
+    ) -> Result<Entered, Fault>
+        requires group { AsksPurge group.old page }
+        requires right { rights.old.a ≡ Some (record { page = page; lsn = prev }) }
+        requires seen { pass.old.log ≡ self.old }
+        requires legal { (opening : List Record) → N.opens opening → IsLegal opening (self.old ++ purge_entry (suc (length (life_log opening self.old))) page prev ∷ []) }
+        ensures none { OnErr result ((self.new ≡ self.old) × (rights.new ≡ rights.old) × (pass.new ≡ pass.old) × (counts.new ≡ counts.old)) }
+        ensures memory { IfErr result (λ fault. fault ≡ faults.Memory) }
+        ensures place { IfOk result (λ x. x ≡ entered.At (length self.new)) }
+        ensures entered { OnOk result (EntersPurge page prev group.old group.new rights.old rights.new self.old pass.new.log) }
+        ensures history { OnOk result (self.new ≡ pass.new.log) }
+        ensures counts { OnOk result (counts.new ≡ record counts.old { entries = record { parts = counts.old.entries.parts; amount = counts.old.entries.amount + 1 } }) }
+        ensures after { OnOk result (Enters N.opens N.entries N.session_entries (known counts.new pass.old.log rights.new) [] (known counts.new pass.new.log rights.new)) }
+    {
+        let Some(_) = self.purge(page, &mut rights.a, pass, counts) else {
+            return Err(Fault::Memory);
+        };
+        group.recs.replace(
+            0,
+            Record::Purge(Purge {
+                page,
+                page_prev: prev,
+            }),
+        );
+        self.see(rights, pass, counts);
+        Ok(Entered::At(self.count))
+    }
+
+    /// As `Entering::enter`. It knows the purge of a page to which the first right is; at every other group it says that it
+    /// wants memory.
+    pub fn enter(
+        &mut self,
+        group: &mut Group,
+        rights: &mut Rights<N>,
+        pass: &mut Pass<Entry, N>,
+        counts: &mut Counts<N>,
+    ) -> Result<Entered, Fault>
+        requires askable { (opening : List Record) (h : List Entry) → N.opens opening → IsMoment N.opens pass.old.log rights.old h → IsAskable opening h rights.old.a group.old }
+        ensures entered { EntersGroup N.opens N.entries N.session_entries group.old group.new result (known counts.old pass.old.log rights.old) (known counts.new pass.new.log rights.new) }
+        ensures filled { OnEntered result (IsFilledIn group.old group.new rights.old rights.new) }
+        ensures place { IfOk result (λ x. x ≡ entered.At (length pass.new.log)) }
+        ensures same { OnErr result (rights.new ≡ rights.old) }
+        ensures memory { IfErr result (λ fault. fault ≡ faults.Memory) }
+    {
+        self.see(rights, pass, counts);
+        let Some((page, prev)) = purged_page(group, &rights.a) else {
+            return Err(Fault::Memory);
+        };
+        self.enter_purge(page, prev, group, rights, pass, counts)
+    }
+}
+
+// The page that the group asks to purge, if it asks for that alone, and its head by the right to it.
+fn purged_page<N: Life>(group: &Group, right: &Option<PageRight<N>>) -> Option<(PageNo, Lsn)>
+    ensures group { IfSome result (λ found. AsksPurge group.now found.0) }
+    ensures right { IfSome result (λ found. right.now ≡ Some (record { page = found.0; lsn = found.1 })) }
+{
+    if group.room || group.said.is_some() {
+        return None;
+    }
+    let [Record::Purge(purge)] = group.recs.as_slice() else {
+        return None;
+    };
+    match right {
+        Some(right) if right.page() == purge.page => Some((right.page(), right.lsn())),
+        _ => None,
     }
 }
