@@ -2,7 +2,9 @@
 #![tactic(auto)]
 
 mod counts;
+mod frames;
 mod history;
 
 pub use counts::Counts;
+pub use frames::Frames;
 pub use history::History;
