@@ -19,9 +19,6 @@ no_claims = record { a = None; b = None; c = None; s = None; m = None }
 abbrev pub session_alone : SessionClaim → Claims
 session_alone s = record { a = None; b = None; c = None; s = Some s; m = None }
 
-abbrev pub page_alone : PageClaim → Claims
-page_alone p = record { a = Some p; b = None; c = None; s = None; m = None }
-
 -- the right to a page has its head
 abbrev pub PageAgrees : (List Record → Type 0) → List Entry → PageClaim → Type 0
 PageAgrees opens h p = (opening : List Record) → opens opening → p.lsn ≡ page_book opening h p.page

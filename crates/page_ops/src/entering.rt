@@ -9,7 +9,7 @@ ghost use Rattle.wal_record.specs.declared.record.Record.{Record};
 ghost use Rattle.wal_record.specs.declared.entry.Entry.{Entry};
 ghost use Rattle.page_ops.specs.Asking.{IsAskable, WasTimely};
 ghost use Rattle.page_ops.specs.Causes.{Ends, FailsToEnter, FailsToFlush, FailsToRead, NoOther, OrFull};
-ghost use Rattle.page_ops.specs.Claims.{page_alone};
+ghost use Rattle.page_ops.specs.Claims.{no_claims};
 ghost use Rattle.page_ops.specs.Groups.{Each, IsGroup, HasRights};
 ghost use Rattle.page_ops.specs.Outcomes.{EntersGroup, IsAnswer, IsFilledIn, IsFound, IsFull, KeepsRights, OnEntered, repairs};
 ghost use Rattle.page_ops.specs.Seeing.{Account, Enters, IsMoment, Looks, known};
@@ -80,7 +80,7 @@ pub trait Entering<N: Life> {
         right: &PageRight<N>,
         pass: &mut Pass<Entry, N>,
     ) -> Result<Option<Pos>, Fault>
-        ensures entered { Enters N.opens N.entries N.session_entries (known (account self.old) pass.old.log (page_alone right.now)) (repairs right.now.page result) (known (account self.new) pass.new.log (page_alone right.now)) }
+        ensures entered { Enters N.opens N.entries N.session_entries (known (account self.old) pass.old.log no_claims) (repairs right.now.page result) (known (account self.new) pass.new.log no_claims) }
         ensures place { IfOk result (λ pos. IfSome pos (λ p. p ≡ length pass.new.log)) }
         ensures none { IfOk result (λ pos. IfNone pos ((opening : List Record) → N.opens opening → written (life_log opening pass.new.log) right.now.page ≡ 0)) }
         ensures refused { IfErr result (FailsToEnter NoOther) }

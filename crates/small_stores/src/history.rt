@@ -1,4 +1,4 @@
-ghost use Rattle.std.specs.Prelude.{◌≡◌, ◌≢◌, ◌+◌, ◌<◌, ◌^◌, ℕ, List, [], ◌∷◌, ◌++◌, length, suc, Some, None, IfSome, IfNone, IsSome, IfOk, IfErr, OnOk, OnErr};
+ghost use Rattle.std.specs.Prelude.{◌≡◌, ◌≢◌, ◌+◌, ◌<◌, ◌≤◌, ◌^◌, ℕ, List, [], ◌∷◌, ◌++◌, length, suc, Some, None, IfSome, IfNone, IsSome, IfOk, IfErr, OnOk, OnErr};
 ghost use Rattle.wal_record.specs.Chains.{pages};
 ghost use Rattle.wal_record.specs.OpenWrites.{pending};
 ghost use Rattle.wal_record.specs.History.{life_log};
@@ -9,8 +9,9 @@ ghost use Rattle.wal_record.specs.declared.entry.Entry.{Entry};
 ghost use Rattle.page_ops.specs.Claims.{MaintAgrees, PageAgrees, SessionAgrees};
 ghost use mathlib.Core.List.{IsPrefix};
 ghost use Rattle.page_ops.specs.Asking.{IsAskable};
+ghost use Rattle.page_ops.specs.Causes.{IsOpen};
 ghost use Rattle.page_ops.specs.Outcomes.{EntersGroup, IsFilledIn, OnEntered};
-ghost use Rattle.page_ops.specs.Seeing.{Enters, HasTotals, IsConsistent, IsMoment, known};
+ghost use Rattle.page_ops.specs.Seeing.{Enters, HasTotals, IsConsistent, IsMoment, Looks, known};
 ghost use Rattle.page_ops.specs.declared.outcome.Entered.TheVariants as entered;
 ghost use Rattle.store_model.specs.declared.fault.Fault.TheVariants as faults;
 ghost use Rattle.small_stores.specs.History.{AsksPurge, EntersPurge, purge_entry};
@@ -126,6 +127,7 @@ impl<'a, N: Life> History<'a, N> {
         ensures begins { IsPrefix pass.old.log self.old }
         ensures consistent { IsConsistent N.opens self.old }
         ensures totals { HasTotals N.entries N.session_entries counts.old self.old }
+        ensures fresh { IsOpen counts.old }
     {
         self.front.meet(&self.ground.board, pass);
         self.entries.audit(&mut counts.entries);
@@ -139,6 +141,7 @@ impl<'a, N: Life> History<'a, N> {
         ensures counts { counts.new ≡ counts.old }
         ensures pass { pass.new.log ≡ self.old }
         ensures seen { Enters N.opens N.entries N.session_entries (known counts.old pass.old.log rights.old) [] (known counts.new pass.new.log rights.new) }
+        ensures fresh { IsOpen counts.old }
     {
         self.see_page(&mut rights.a);
         self.see_page(&mut rights.b);
@@ -233,6 +236,7 @@ impl<'a, N: Life> History<'a, N> {
         ensures filled { OnEntered result (IsFilledIn group.old group.new rights.old rights.new) }
         ensures place { IfOk result (λ x. x ≡ entered.At (length pass.new.log)) }
         ensures same { OnErr result (rights.new ≡ rights.old) }
+        ensures fresh { IsOpen counts.old × (counts.new.ended ≡ None) }
         ensures memory { IfErr result (λ fault. fault ≡ faults.Memory) }
     {
         self.see(rights, pass, counts);
@@ -240,6 +244,49 @@ impl<'a, N: Life> History<'a, N> {
             return Err(Fault::Memory);
         };
         self.enter_purge(page, prev, group, rights, pass, counts)
+    }
+
+    /// What the threads of the life share.
+    pub fn ground(&self) -> &Ground<N> {
+        self.ground
+    }
+
+    /// Shows the pass the history, and says nothing of it: what is asked for is kept nowhere.
+    pub fn watch(&mut self, pass: &mut Pass<Entry, N>, counts: &mut Counts<N>)
+        ensures counts { counts.new ≡ counts.old }
+        ensures seen { Looks N.opens N.entries N.session_entries counts.old pass.old.log counts.new pass.new.log }
+    {
+        self.look(pass, counts);
+    }
+
+    /// As `Entering::flush`. There is no disk, so all is durable.
+    pub fn flush(&mut self, pass: &mut Pass<Entry, N>, counts: &mut Counts<N>)
+        ensures seen { Looks N.opens N.entries N.session_entries counts.old pass.old.log counts.new pass.new.log }
+        ensures durable { (opening : List Record) → N.opens opening → length (life_log opening pass.new.log) ≤ counts.new.durable }
+        ensures fresh { IsOpen counts.old × (counts.new.ended ≡ None) }
+    {
+        self.look(pass, counts);
+        counts.durable = counts.durable.max(self.last);
+    }
+
+    /// As `Entering::pages`.
+    pub fn pages(&mut self, pass: &mut Pass<Entry, N>, counts: &mut Counts<N>) -> u32
+        ensures counts { counts.new ≡ counts.old }
+        ensures seen { Looks N.opens N.entries N.session_entries counts.old pass.old.log counts.new pass.new.log }
+        ensures count { (opening : List Record) → N.opens opening → result ≡ pages (life_log opening pass.new.log) }
+    {
+        self.look(pass, counts);
+        self.pages
+    }
+
+    /// As `Entering::pending`.
+    pub fn pending(&mut self, pass: &mut Pass<Entry, N>, counts: &mut Counts<N>) -> u32
+        ensures counts { counts.new ≡ counts.old }
+        ensures seen { Looks N.opens N.entries N.session_entries counts.old pass.old.log counts.new pass.new.log }
+        ensures count { (opening : List Record) → N.opens opening → result ≡ pending (life_log opening pass.new.log) }
+    {
+        self.look(pass, counts);
+        self.pending
     }
 }
 

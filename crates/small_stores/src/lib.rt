@@ -4,7 +4,9 @@
 mod counts;
 mod frames;
 mod history;
+mod own;
 
 pub use counts::Counts;
 pub use frames::Frames;
 pub use history::History;
+pub use own::OwnJournal;
