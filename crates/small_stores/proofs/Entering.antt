@@ -1,5 +1,5 @@
 -- What the entering of a purge makes of what a caller knows.
-use Rattle.std.proofs.Common.{◌≡◌, ◌≢◌, ℕ, zero, suc, cond, ◌+◌, ◌<◌, ◌≤◌, List, [], ◌∷◌, ◌++◌, length, Option, Some, None, Bool, true, false, refl, sym, ap, ◌∙◌, subst, arith, length-append, append_assoc}
+use Rattle.std.proofs.Common.{◌≡◌, ◌≢◌, ℕ, zero, suc, cond, ◌+◌, ◌<◌, ◌≤◌, List, [], ◌∷◌, ◌++◌, length, Option, Some, None, Bool, true, false, refl, sym, ap, ◌∙◌, subst, arith, length-append, append-nil, append_assoc}
 use mathlib.Core.List.{IsPrefix}
 use Rattle.front.specs.Seen.{PassSeen}
 use Rattle.front.proofs.Keeping.{prefix_trans}
@@ -18,7 +18,7 @@ use Rattle.books.specs.Rights.{PageClaim, SessionClaim, MaintClaim}
 use Rattle.store_model.specs.declared.fault.Fault.{Fault}
 use Rattle.store_model.specs.declared.fault.Fault.TheVariants as faults
 use Rattle.page_ops.specs.Names.{LedgerName}
-use Rattle.page_ops.specs.Claims.{Claims, PageAgrees}
+use Rattle.page_ops.specs.Claims.{Claims, Agree, PageAgrees, no_claims}
 use Rattle.page_ops.specs.declared.group.Group.{Group}
 use Rattle.page_ops.specs.declared.group.Said.{Said}
 use Rattle.page_ops.specs.declared.outcome.Entered.{Entered}
@@ -26,7 +26,7 @@ use Rattle.page_ops.specs.declared.outcome.Entered.TheVariants as entered
 use Rattle.page_ops.specs.Groups.{Numbers, filled, no_checkpoint, made_by, AreFilledFrom, AreFilled, group_entries}
 use Rattle.page_ops.specs.Outcomes.{EntersGroup, IsFilledIn, OnEntered, page_of, new_place}
 use Rattle.page_ops.specs.Asking.{MayFollow, IsAskable}
-use Rattle.page_ops.specs.Seeing.{Account, Known, known, Keeps, Enters, IsMoment, of_sessions}
+use Rattle.page_ops.specs.Seeing.{Account, Known, known, Keeps, Enters, Looks, Upholds, IsMoment, of_sessions}
 use Rattle.small_stores.specs.History.{AsksPurge, EntersPurge, purge_entry}
 use Rattle.small_stores.proofs.Keeping.{of_sessions_push, if_some}
 
@@ -132,3 +132,37 @@ module _ (asked now : Group) (page prev : ℕ) (s3 h1 : List Entry) (x0 x1 x3 : 
   on_entered (Ok (entered.At pos)) p claims asks right = filled_in p claims asks right
   on_entered (Ok entered.NoRoom) p claims asks right = tt
   on_entered (Ok (entered.Late pos)) p claims asks right = tt
+
+-- ---- calls that look
+
+-- whose right is not handed in is of no account
+pub looked : (opens : List Record → Type 0) (entries sessions : LedgerName) (a a' : Account) (s s' : List Entry) (x x' : Claims) → Enters opens entries sessions (known a s x) [] (known a' s' x') → Looks opens entries sessions a s a' s'
+looked opens entries sessions a a' s s' x x' e =
+    let none : (h : List Entry) → Agree opens h no_claims = λ h. record { a = tt; b = tt; c = tt; s = tt; m = tt } in
+    record {
+      moment = e.moment;
+      found = record { begins = e.found.begins; consistent = e.found.consistent; rights = none e.moment };
+      is = e.is;
+      now = record { begins = e.now.begins; consistent = e.now.consistent; rights = none s' };
+      keeps = e.keeps;
+      counted = e.counted;
+      sessions_counted = e.sessions_counted;
+      totals = e.totals;
+    }
+
+-- a call that looks enters nothing of its own
+pub upheld : (opens : List Record → Type 0) (entries sessions : LedgerName) (kind : Entry → Bool) (a a' : Account) (s s' : List Entry) → Looks opens entries sessions a s a' s' → Upholds opens entries sessions kind (known a s no_claims) (known a' s' no_claims)
+upheld opens entries sessions kind a a' s s' e =
+    let same : of_sessions s' ≡ of_sessions e.moment = ap of_sessions (e.is ∙ append-nil e.moment) in
+    record {
+      gained = e.now.begins.0;
+      is = sym e.now.begins.1;
+      own = [];
+      among = tt;
+      kinds = refl;
+      consistent = e.now.consistent;
+      keeps = e.keeps;
+      counted = e.counted;
+      sessions_counted = omega (arith, same, e.sessions_counted);
+      totals = e.totals;
+    }
