@@ -1,5 +1,5 @@
 -- What the calls keep.
-use Rattle.std.proofs.Common.{◌≡◌, ◌≢◌, ℕ, zero, suc, eqb, cond, ◌+◌, ◌<◌, ◌≤◌, ◌^◌, List, [], ◌∷◌, ◌++◌, length, Option, Some, None, Bool, true, false, refl, sym, ap, ◌∙◌, subst, arith, length-append}
+use Rattle.std.proofs.Common.{◌≡◌, ◌≢◌, ℕ, zero, suc, eqb, cond, ◌+◌, ◌<◌, ◌≤◌, ◌^◌, List, [], ◌∷◌, ◌++◌, length, Option, Some, None, Bool, true, false, refl, sym, ap, ◌∙◌, subst, arith, length-append, append-nil}
 use Rattle.std.specs.Prelude.{if◌then◌else◌, IfSome}
 use Rattle.std.proofs.lemmas.Bool.Decides.{nat_tests}
 use native.Mathlib.Decide.{ℕ_discrete}
@@ -22,9 +22,11 @@ use Rattle.wal_record.specs.declared.entry.Entry.{Entry}
 use Rattle.wal_record.specs.declared.entry.Entry.TheVariants.{Rec}
 use Rattle.wal_record.proofs.Along.{along_push}
 use Rattle.wal_record.proofs.Pushes.{head_push, pages_push, open_push, lawful_back, legal_front, log_more, untold_push, split_leaf_push, last_begun_push, phase_push, maintenance_push, session_entries_push}
+use Rattle.store_model.specs.Along as Along
 use Rattle.log_laws.proofs.Pending.{pending_change}
+use Rattle.life_laws.proofs.Start.{nothing_told, nothing_legal}
 use Rattle.page_ops.specs.Seeing.{IsConsistent, is_of_session, of_sessions}
-use Rattle.small_stores.specs.History.{Numbers, BooksOf, AreKept, IsKept, purge_entry}
+use Rattle.small_stores.specs.History.{Numbers, BooksOf, AreKept, IsKept, Opens, purge_entry}
 
 some_is : {A : Type 0} (a b : A) → Some a ≡ Some b → a ≡ b
 some_is a b e = cc e
@@ -204,3 +206,35 @@ ask_at opens asked h page old same ask = subst (λ l. (old.page ≡ page) × ((o
 
 pub if_some : {A : Type 0} (fact : A → Type 0) (found : Option A) (x : A) → found ≡ Some x → IfSome found fact → fact x
 if_some fact found x is f = subst (λ o. IfSome o fact) is f
+
+-- ---- the start
+
+nothing_split : (opening : List Record) → split_leaf opening [] ≡ None
+unfolding split_leaf Along.along
+nothing_split opening = refl
+
+nothing_of_sessions : 0 ≡ of_sessions []
+unfolding of_sessions Along.along
+nothing_of_sessions = refl
+
+pub kept_new : (opens : List Record → Type 0) (b : BooksOf) (last made waiting : ℕ) → AreKept opens [] b → ((opening : List Record) → opens opening → Opens opening last made waiting)
+    → IsKept opens [] (record { last = last; entries = 0; pages = made; pending = waiting }) b 0 0
+kept_new opens b last made waiting books opened =
+    let same : (opening : List Record) → life_log opening [] ≡ opening = λ opening. append-nil opening in
+    record {
+      consistent = record {
+        legal = λ opening stands. nothing_legal opening;
+        sound = λ opening stands. subst IsSound (sym (same opening)) (opened opening stands).sound;
+        some = λ opening stands is. (opened opening stands).some (sym (same opening) ∙ is);
+        told = nothing_told;
+        split = λ opening stands. nothing_split opening;
+      };
+      last = λ opening stands. (opened opening stands).count ∙ ap (λ (l : List Record). length l) (sym (same opening));
+      entries = refl;
+      room = omega arith;
+      pages = λ opening stands. (opened opening stands).pages ∙ ap pages (sym (same opening));
+      pending = λ opening stands. (opened opening stands).pending ∙ ap pending (sym (same opening));
+      books = books;
+      counted = refl;
+      sessions_counted = nothing_of_sessions;
+    }

@@ -1,5 +1,5 @@
 -- What a small journal keeps of its history.
-use Rattle.std.specs.Prelude.{◌≡◌, ℕ, ◌≤◌, List, [], ◌∷◌, ◌++◌, length, Some, None, false}
+use Rattle.std.specs.Prelude.{◌≡◌, ◌≢◌, ℕ, ◌≤◌, List, [], ◌∷◌, ◌++◌, length, Some, None, false}
 use Rattle.books.specs.Booking.{entry_of}
 use Rattle.books.specs.declared.entry.BookEntry.{BookEntry}
 use Rattle.wal_record.specs.Books.{page_book, maintenance_book, session_entries, session_transaction}
@@ -11,6 +11,7 @@ use Rattle.wal_record.specs.declared.record.Record.TheVariants as kinds
 use Rattle.wal_record.specs.declared.entry.Entry.{Entry}
 use Rattle.wal_record.specs.declared.entry.Entry.TheVariants.{Rec}
 use Rattle.wal_record.specs.declared.record.Purge.{Purge}
+use Rattle.wal_record.specs.Sound.{IsSound}
 use Rattle.page_ops.specs.Claims.{Claims}
 use Rattle.page_ops.specs.declared.group.Group.{Group}
 use Rattle.page_ops.specs.Seeing.{IsConsistent, of_sessions}
@@ -62,3 +63,11 @@ pub record EntersPurge (page prev : ℕ) (asked now : Group) (old new : Claims) 
   pub history : after ≡ h ++ purge_entry lsn page prev ∷ []
   pub group : now ≡ record { recs = kinds.Purge (record { page = page; page_prev = prev }) ∷ []; said = None; room = false }
   pub rights : new ≡ record old { a = Some (record { page = page; lsn = lsn }) }
+
+-- a sound log that isn't empty, with these numbers of records, pages and pending writes
+pub record Opens (opening : List Record) (last made waiting : ℕ) : Type 0 where
+  pub sound : IsSound opening
+  pub some : opening ≢ []
+  pub count : last ≡ length opening
+  pub pages : made ≡ pages opening
+  pub pending : waiting ≡ pending opening

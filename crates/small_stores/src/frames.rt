@@ -27,7 +27,15 @@ impl<N: Life> Model for Frames<N> {
 }
 
 impl<N: Life> Frames<N> {
-    /// Where the page has its place, if it has one.
+    /// The pages in frames, and those that are put away, each list from page 1 on.
+    pub fn new(frames: Vec<Option<Held<N>>>, away: Vec<Option<Held<N>>>) -> Frames<N>
+        requires same { length away.items ≡ length frames.items }
+        ensures { result ≡ record { frames = frames.items; away = away.items } }
+    {
+        Frames { frames, away }
+    }
+
+    // Where the page has its place, if it has one.
     fn place_of(&self, page: PageNo) -> Option<usize>
         ensures inside { IfSome result (λ place. (place ≡ page - 1) × (place < length self.now.frames) × (1 ≤ page)) }
         ensures outside { IfNone result (IsIn self.now page → ⊥) }

@@ -14,7 +14,7 @@ ghost use Rattle.page_ops.specs.Outcomes.{EntersGroup, IsFilledIn, OnEntered};
 ghost use Rattle.page_ops.specs.Seeing.{Enters, HasTotals, IsConsistent, IsMoment, Looks, known};
 ghost use Rattle.page_ops.specs.declared.outcome.Entered.TheVariants as entered;
 ghost use Rattle.store_model.specs.declared.fault.Fault.TheVariants as faults;
-ghost use Rattle.small_stores.specs.History.{AsksPurge, EntersPurge, purge_entry};
+ghost use Rattle.small_stores.specs.History.{AreKept, AsksPurge, EntersPurge, Opens, purge_entry};
 
 use crate::counts::Counts;
 use books::{Books, MaintRight, PageRight, SessionRight};
@@ -69,6 +69,45 @@ fn add<N: Life, A: Added<Entry>>(
 }
 
 impl<'a, N: Life> History<'a, N> {
+    /// The journal of an empty history, of a life that began with a log with these numbers of records, pages and pending
+    /// writes. The books have the rights to the pages.
+    pub fn new(
+        ground: &'a Ground<N>,
+        front: Front<Entry, N>,
+        books: Books<N>,
+        entries: ledger::Book<Entries<N>>,
+        session_entries: ledger::Book<SessionEntries<N>>,
+        last: Lsn,
+        pages: u32,
+        pending: u32,
+    ) -> History<'a, N>
+        requires empty { (front ≡ []) × (entries.total ≡ 0) × (session_entries.total ≡ 0) }
+        requires books { AreKept N.opens [] (record { pages = books.pages; sessions = books.sessions; maint = books.maint }) }
+        requires opening { (opening : List Record) → N.opens opening → Opens opening last pages pending }
+        ensures { result ≡ [] }
+    {
+        History {
+            last,
+            count: 0,
+            pages,
+            pending,
+            ground,
+            front,
+            books,
+            entries,
+            session_entries,
+        }
+    }
+
+    /// How many entries it has. Whoever has all parts of the ledger of entries has entered as many.
+    pub fn total(&mut self, counts: &mut Counts<N>) -> u64
+        ensures length { result ≡ length self.old }
+        ensures whole { counts.old.entries.parts ≡ N.entries.parts → result ≡ counts.old.entries.amount }
+    {
+        self.entries.audit(&mut counts.entries);
+        self.count
+    }
+
     // The page's right comes back as it was, and agrees with the history.
     fn see_page(&mut self, right: &mut Option<PageRight<N>>)
         ensures same { self.new ≡ self.old }
