@@ -32,3 +32,47 @@ impl<N: Life> Model for Counts<N> {
 
     ghost invariant = { λ c. (0 < c.entries.parts) × (0 < c.session_entries.parts) × (c.log_faults.amount ≡ 0) × (c.vault_faults.amount ≡ 0) };
 }
+
+impl<N: Life> Counts<N> {
+    ghost use Rattle.std.specs.Prelude.{◌≡◌, ◌<◌, ◌+◌};
+
+    /// One part of each share, with which nothing was counted yet.
+    pub fn split(&mut self) -> Counts<N>
+        requires entries { 1 < self.old.entries.parts }
+        requires session_entries { 1 < self.old.session_entries.parts }
+        requires log_faults { 1 < self.old.log_faults.parts }
+        requires vault_faults { 1 < self.old.vault_faults.parts }
+        ensures entries { (self.new.entries.parts + 1 ≡ self.old.entries.parts) × (self.new.entries.amount ≡ self.old.entries.amount) }
+        ensures session_entries { self.new.session_entries.parts + 1 ≡ self.old.session_entries.parts }
+        ensures log_faults { self.new.log_faults.parts + 1 ≡ self.old.log_faults.parts }
+        ensures vault_faults { self.new.vault_faults.parts + 1 ≡ self.old.vault_faults.parts }
+        ensures part { (result.entries.parts ≡ 1) × (result.entries.amount ≡ 0) }
+    {
+        Counts {
+            entries: self.entries.split_off(1, 0),
+            session_entries: self.session_entries.split_off(1, 0),
+            log_faults: self.log_faults.split_off(1, 0),
+            vault_faults: self.vault_faults.split_off(1, 0),
+            durable: self.durable,
+        }
+    }
+
+    /// Takes a part of each share back, with what was counted with it.
+    pub fn join(&mut self, other: Counts<N>)
+        ensures parts { self.new.entries.parts ≡ self.old.entries.parts + other.entries.parts }
+        ensures amount { self.new.entries.amount ≡ self.old.entries.amount + other.entries.amount }
+    {
+        let Counts {
+            entries,
+            session_entries,
+            log_faults,
+            vault_faults,
+            durable,
+        } = other;
+        self.entries.merge(entries);
+        self.session_entries.merge(session_entries);
+        self.log_faults.merge(log_faults);
+        self.vault_faults.merge(vault_faults);
+        self.durable = self.durable.max(durable);
+    }
+}

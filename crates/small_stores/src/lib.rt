@@ -16,3 +16,6 @@ pub use history::History;
 pub use own::{OwnJournal, OwnPages};
 pub use seeing::see_page;
 pub use shared::{JournalDesk, PageDesk, Store};
+
+#[cfg(test)]
+mod tests;

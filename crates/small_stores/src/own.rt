@@ -110,7 +110,9 @@ pub struct OwnPages<N: Life> {
 
 impl<N: Life> OwnPages<N> {
     /// None of the pages is in hand.
-    pub fn new(frames: Frames<N>) -> OwnPages<N> {
+    pub fn new(frames: Frames<N>) -> OwnPages<N>
+        ensures { result.out ≡ 0 }
+    {
         OwnPages {
             frames,
             out: 0,

@@ -33,6 +33,11 @@ impl<'a, N: Life> Store<'a, N> {
             freed: Condvar::new(),
         }
     }
+
+    /// The history, when no thread uses the store any more.
+    pub fn into_history(self) -> History<'a, N> {
+        self.history.into_inner()
+    }
 }
 
 /// A thread's way to the journal of a store that threads share.
@@ -46,6 +51,11 @@ impl<'s, 'a, N: Life> JournalDesk<'s, 'a, N> {
     /// It counts in these shares.
     pub fn new(store: &'s Store<'a, N>, counts: Counts<N>) -> JournalDesk<'s, 'a, N> {
         JournalDesk { store, counts }
+    }
+
+    /// The shares.
+    pub fn into_counts(self) -> Counts<N> {
+        self.counts
     }
 }
 
