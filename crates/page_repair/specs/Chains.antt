@@ -2,7 +2,6 @@
 use Rattle.std.specs.Prelude.{◌≡◌, ℕ, ◌<◌, List, take, Option, Some, is_some, IsTrue, Result, Ok, Err}
 use Rattle.store_model.specs.declared.fault.Fault.{Fault}
 use Rattle.store_model.specs.declared.fault.Fault.TheVariants as faults
-use Rattle.wal_record.specs.State.{KeepsState}
 use Rattle.wal_record.specs.Images.{image}
 use Rattle.wal_record.specs.Upkeep.{page_backup}
 use Rattle.wal_record.specs.declared.record.Record.{Record}

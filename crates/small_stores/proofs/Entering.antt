@@ -1,6 +1,5 @@
 -- What the entering of a purge makes of what a caller knows.
-use Rattle.std.proofs.Common.{◌≡◌, ◌≢◌, ℕ, zero, suc, cond, ◌+◌, ◌<◌, ◌≤◌, List, [], ◌∷◌, ◌++◌, length, Option, Some, None, Bool, true, false, refl, sym, ap, ◌∙◌, subst, arith, length-append, append-nil, append_assoc}
-use mathlib.Core.List.{IsPrefix}
+use Rattle.std.proofs.Common.{◌≡◌, ℕ, suc, ◌+◌, List, [], ◌∷◌, ◌++◌, length, Option, Some, None, Bool, false, refl, sym, ap, ◌∙◌, subst, arith, append-nil}
 use Rattle.front.specs.Seen.{PassSeen}
 use Rattle.front.proofs.Keeping.{prefix_trans}
 use Rattle.wal_record.specs.Chains.{head}
@@ -10,7 +9,6 @@ use Rattle.wal_record.specs.declared.record.Purge.{Purge}
 use Rattle.wal_record.specs.declared.record.Record.{Record}
 use Rattle.wal_record.specs.declared.record.Record.TheVariants as kinds
 use Rattle.wal_record.specs.declared.entry.Entry.{Entry}
-use Rattle.wal_record.specs.declared.entry.Entry.TheVariants.{Rec}
 use Rattle.wal_record.proofs.Pushes.{legal_front}
 use Rattle.std.specs.Prelude.{Result, Ok, Err, IfSome, IfOk, IfErr, OnOk, OnErr}
 use Rattle.std.specs.Option.{option_map}
@@ -26,7 +24,7 @@ use Rattle.page_ops.specs.declared.outcome.Entered.TheVariants as entered
 use Rattle.page_ops.specs.Groups.{Numbers, filled, no_checkpoint, made_by, AreFilledFrom, AreFilled, group_entries}
 use Rattle.page_ops.specs.Outcomes.{EntersGroup, IsFilledIn, OnEntered, page_of, new_place}
 use Rattle.page_ops.specs.Asking.{MayFollow, IsAskable}
-use Rattle.page_ops.specs.Seeing.{Account, Known, known, Keeps, Enters, Looks, Upholds, IsMoment, of_sessions}
+use Rattle.page_ops.specs.Seeing.{Account, known, Keeps, Enters, Looks, Upholds, IsMoment, of_sessions}
 use Rattle.small_stores.specs.History.{AsksPurge, EntersPurge, purge_entry}
 use Rattle.small_stores.proofs.Keeping.{of_sessions_push, if_some}
 

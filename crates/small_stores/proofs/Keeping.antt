@@ -1,25 +1,23 @@
 -- What the calls keep.
-use Rattle.std.proofs.Common.{◌≡◌, ◌≢◌, ℕ, zero, suc, eqb, cond, ◌+◌, ◌<◌, ◌≤◌, ◌^◌, List, [], ◌∷◌, ◌++◌, length, Option, Some, None, Bool, true, false, refl, sym, ap, ◌∙◌, subst, arith, length-append, append-nil}
-use Rattle.std.specs.Prelude.{if◌then◌else◌, IfSome}
+use Rattle.std.proofs.Common.{◌≡◌, ℕ, suc, eqb, cond, ◌+◌, ◌≤◌, List, [], ◌∷◌, ◌++◌, length, Option, Some, None, refl, sym, ap, ◌∙◌, subst, arith, length-append, append-nil}
+use Rattle.std.specs.Prelude.{IfSome}
 use Rattle.std.proofs.lemmas.Bool.Decides.{nat_tests}
 use native.Mathlib.Decide.{ℕ_discrete}
 use mathlib.Core.Logic.{dite}
-use mathlib.Core.List.{IsPrefix}
 use Rattle.books.specs.Booking.{entry, entry_of, replaced}
 use Rattle.books.specs.declared.entry.BookEntry.{BookEntry}
 use Rattle.books.specs.Rights.{PageClaim, page_entry}
 use Rattle.books.proofs.Keeping.{entry_of-other, entry_of-replaced}
-use Rattle.wal_record.specs.Books.{page_book, maintenance_book, session_entries, unless_over, session_transaction}
+use Rattle.wal_record.specs.Books.{page_book, session_entries, unless_over, session_transaction}
 use Rattle.wal_record.specs.Chains.{head, pages}
 use Rattle.wal_record.specs.OpenWrites.{pending}
 use Rattle.wal_record.specs.History.{life_log, phase, is_over, last_begun}
-use Rattle.wal_record.specs.Legal.{IsLegal, untold, split_leaf}
+use Rattle.wal_record.specs.Legal.{IsLegal, split_leaf}
 use Rattle.wal_record.specs.Sound.{IsSound, AreLawful, used}
 use Rattle.wal_record.specs.Checkpoints.{limit_of}
 use Rattle.wal_record.specs.declared.record.Record.{Record}
 use Rattle.wal_record.specs.declared.record.Record.TheVariants as kinds
 use Rattle.wal_record.specs.declared.entry.Entry.{Entry}
-use Rattle.wal_record.specs.declared.entry.Entry.TheVariants.{Rec}
 use Rattle.wal_record.proofs.Along.{along_push}
 use Rattle.wal_record.proofs.Pushes.{head_push, pages_push, open_push, lawful_back, legal_front, log_more, untold_push, split_leaf_push, last_begun_push, phase_push, maintenance_push, session_entries_push}
 use Rattle.store_model.specs.Along as Along

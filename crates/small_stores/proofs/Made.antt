@@ -1,6 +1,6 @@
 -- A page that is made stays so.
 use Rattle.std.proofs.Common.{◌≡◌, ℕ, eqb, cond, List, [], ◌∷◌, ◌++◌, Option, Some, None, Bool, true, false, refl, sym, ap, ◌∙◌, subst, append_assoc, append-nil}
-use Rattle.std.specs.Prelude.{is_some, IsTrue}
+use Rattle.std.specs.Prelude.{is_some}
 use Rattle.wal_record.specs.Chains.{names}
 use Rattle.wal_record.specs.History.{log_of, life_log}
 use Rattle.wal_record.specs.Images.{applied, image}

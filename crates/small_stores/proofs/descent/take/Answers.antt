@@ -1,4 +1,3 @@
-use Rattle.std.proofs.Common.{◌≡◌}
 use Rattle.small_stores.proofs.Made.{made_upheld}
 use Rattle.small_stores.proofs.descent.take.Goals as goal
 

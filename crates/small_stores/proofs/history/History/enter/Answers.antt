@@ -1,4 +1,4 @@
-use Rattle.std.proofs.Common.{◌≡◌, sym, ap, ◌∙◌}
+use Rattle.std.proofs.Common.{sym, ap, ◌∙◌}
 use Rattle.small_stores.proofs.Entering.{may_purge, at_moment, head_by, entered_group, on_entered, err_logs}
 use Rattle.small_stores.proofs.history.History.enter.Goals as goal
 

@@ -1,4 +1,3 @@
-use Rattle.std.proofs.Common.{◌≡◌, sym}
 use Rattle.small_stores.proofs.Keeping.{kept_new}
 use Rattle.small_stores.proofs.history.History.new.Goals as goal
 

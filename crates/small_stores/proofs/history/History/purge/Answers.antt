@@ -1,4 +1,4 @@
-use Rattle.std.proofs.Common.{◌≡◌, Some, sym, ◌∙◌}
+use Rattle.std.proofs.Common.{sym, ◌∙◌}
 use Rattle.small_stores.proofs.Keeping.{kept_entered, ask_at, if_some}
 use Rattle.small_stores.proofs.history.History.purge.Goals as goal
 

@@ -1,4 +1,4 @@
-use Rattle.std.proofs.Common.{◌≡◌, ap, sym, ◌∙◌}
+use Rattle.std.proofs.Common.{ap, sym, ◌∙◌}
 use Rattle.small_stores.proofs.Keeping.{kept_maint}
 use Rattle.small_stores.proofs.history.History.see_maint.Goals as goal
 
