@@ -1,1 +1,10 @@
+pub mod Asking
+pub mod Causes
+pub mod Claims
+pub mod Desks
+pub mod Groups
+pub mod Hands
 pub mod Names
+pub mod Outcomes
+pub mod Seeing
+pub mod Takes

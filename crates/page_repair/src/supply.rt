@@ -1,0 +1,68 @@
+ghost use Rattle.std.specs.Prelude.{◌≡◌, ◌-◌, ◌^◌, ◌≤◌, ℕ, List, min, IfOk, IfErr, IfSome, OnOk};
+ghost use Rattle.page_ops.specs.Causes.{FailsToBring};
+ghost use Rattle.page_ops.specs.Claims.{no_claims};
+ghost use Rattle.page_ops.specs.Desks.{Faults, IsMade, KeepsFaults};
+ghost use Rattle.page_ops.specs.Seeing.{Upholds, is_none, known};
+ghost use Rattle.page_repair.specs.Supplies.{IsBase, IsHead, IsReady, IsRebuilt, KeepsSpoiled, Restores, is_restored};
+
+use front::Pass;
+use media::PageDevice;
+use page_image::Sealed;
+use page_ops::{Journaling, Life};
+use std::alloc::Global;
+use std::sync::Wait;
+use store_model::{Fault, Lsn, PageNo};
+use wal_record::Entry;
+
+/// What a pool needs beside its data device.
+pub trait Supply<N: Life, J: Journaling<N>> {
+    /// How many faults of the log disk and of the vault came at device calls made through it.
+    ghost faults: { Self → Faults };
+
+    /// How many faults of the log disk came at device calls made through it.
+    fn log_faults(&self) -> u64
+        ensures { result ≡ min (faults self.now).log (2 ^ 64 - 1) };
+
+    /// How many faults of the vault came at device calls made through it.
+    fn vault_faults(&self) -> u64
+        ensures { result ≡ min (faults self.now).vault (2 ^ 64 - 1) };
+
+    /// Restores the page's segment onto the device, if it is unrestored, and enters that. It writes images of that segment
+    /// alone, each as the log has it.
+    fn ready<D: PageDevice, R: Wait>(
+        &mut self,
+        rt: &R,
+        alloc: Global,
+        journal: &mut J,
+        device: &mut D,
+        page: PageNo,
+        pass: &mut Pass<Entry, N>,
+    ) -> Result<(), Fault>
+        requires made { IsMade N.opens pass.old.log page }
+        ensures ready { OnOk result (IsReady N.opens pass.new.log page) }
+        ensures images { D.tells → Restores N.opens D.told D.newest pass.new.log page device.old device.new }
+        ensures spoiled { D.tells → KeepsSpoiled D.spoiled page device.old device.new }
+        ensures device { D.faults device.old ≤ D.faults device.new }
+        ensures faults { KeepsFaults (faults self.old) (faults self.new) }
+        ensures entered { Upholds N.opens N.entries N.session_entries is_restored (known (J.account journal.old) pass.old.log no_claims) (known (J.account journal.new) pass.new.log no_claims) }
+        ensures refused { IfErr result (FailsToBring N.opens N.log_faults (faults self.old) (faults self.new) (J.account journal.old) (J.account journal.new) pass.new.log) };
+
+    /// The page at this head, from the base or else from its last backup, or from nothing where it has none, and from
+    /// the records of its chain that came later. It enters nothing.
+    fn rebuilt<R: Wait>(
+        &mut self,
+        rt: &R,
+        alloc: Global,
+        journal: &mut J,
+        page: PageNo,
+        base: Option<Sealed>,
+        head: Lsn,
+        pass: &mut Pass<Entry, N>,
+    ) -> Result<Sealed, Fault>
+        requires base { IfSome base (IsBase N.opens pass.old.log page head) }
+        requires head { IsHead N.opens pass.old.log page head }
+        ensures rebuilt { IfOk result (IsRebuilt N.opens pass.new.log page head) }
+        ensures faults { KeepsFaults (faults self.old) (faults self.new) }
+        ensures entered { Upholds N.opens N.entries N.session_entries is_none (known (J.account journal.old) pass.old.log no_claims) (known (J.account journal.new) pass.new.log no_claims) }
+        ensures refused { IfErr result (FailsToBring N.opens N.log_faults (faults self.old) (faults self.new) (J.account journal.old) (J.account journal.new) pass.new.log) };
+}

@@ -1,0 +1,316 @@
+//! Pages taken, purged and put back through either store, by one thread and by two.
+ghost use Rattle.std.specs.Prelude.{◌≡◌, ◌<◌, ◌≤◌, List, [], Some, None, vec_len, length, IfOk};
+ghost use Rattle.page_ops.specs.Names.{life_names};
+ghost use Rattle.wal_record.specs.declared.record.Record.{Record};
+
+use super::*;
+use books::{Book, Books, PageBook, PageRight};
+use front::Pass;
+use page_ops::{Entered, Entering, Ground, Group, Held, Life, Pages, Rights, Tokens, Unnamed};
+use std::alloc::Global;
+use std::marker::Brand;
+use std::sync::Wait;
+use std::test::*;
+use std::thread;
+use std::thread::Threads;
+use store_model::{Bound, Fault, List, Memory, PageNo};
+use wal_record::{Entry, PageState, Purge, Record, Rows};
+
+const ROUNDS: u32 = 100;
+
+const PAGES: u32 = 3;
+
+// Enters the purge of the page in hand. Whether it was entered.
+fn purge<N: Life, J: Entering<N>, R: Wait>(
+    rt: &R,
+    alloc: Global,
+    journal: &mut J,
+    held: &mut Held<N>,
+    pass: &mut Pass<Entry, N>,
+) -> Result<bool, Fault>
+    requires untold { (opening : List Record) → N.opens opening → ⊥ }
+    requires page { (1 ≤ held.old.page) × (held.old.page ≤ 16384) }
+    ensures page { held.new.page ≡ held.old.page }
+{
+    let mut recs = List::new(alloc);
+    recs.push(Record::Purge(Purge {
+        page: held.page,
+        page_prev: 0,
+    }))?;
+    let mut group = Group {
+        recs,
+        said: None,
+        room: false,
+    };
+    let mut rights = Rights::none();
+    rights.a = held.right.take();
+    let entered = journal.enter(rt, alloc, &mut group, &mut rights, pass);
+    held.right = rights.a.take();
+    if let Some(right) = &held.right {
+        held.lsn = right.lsn();
+    }
+    match entered? {
+        Entered::At(_) => Ok(true),
+        _ => Ok(false),
+    }
+}
+
+// Takes, purges and puts back page after page. How many purges it entered.
+fn work<N: Life, J: Entering<N>, P: Pages<N, J>, R: Wait>(
+    rt: &R,
+    alloc: Global,
+    pages: &mut P,
+    journal: &mut J,
+    pass: &mut Pass<Entry, N>,
+) -> Result<u64, Fault>
+    requires untold { (opening : List Record) → N.opens opening → ⊥ }
+    requires none { (P.desk pages.old).out ≡ 0 }
+    ensures none { IfOk result (λ entered. (P.desk pages.new).out ≡ 0) }
+{
+    let mut entered = 0;
+    for round in 0..ROUNDS {
+        let mut held = take(rt, alloc, pages, journal, round % PAGES + 1, pass)?;
+        let done = purge(rt, alloc, journal, &mut held, pass);
+        pages.put_back(rt, &mut Some(held));
+        if done? && entered < u64::MAX {
+            entered += 1;
+        }
+    }
+    Ok(entered)
+}
+
+// An empty page with all keys.
+fn empty_page<N: Life>(
+    alloc: Global,
+    page: PageNo,
+    right: PageRight<N>,
+    pass: Pass<Entry, N>,
+) -> Option<Held<N>>
+    requires untold { (opening : List Record) → N.opens opening → ⊥ }
+    requires right { right ≡ record { page = page; lsn = 0 } }
+{
+    let low = Bound::at(&[])?;
+    Some(Held {
+        page,
+        lsn: 0,
+        state: PageState {
+            level: 0,
+            low,
+            high: Bound::top(),
+            foster: None,
+            rows: Rows::Leaf(List::new(alloc)),
+        },
+        dirty: false,
+        right: Some(right),
+        pass,
+    })
+}
+
+// What a run begins with: a history, the pages, all shares, and a first pass. Page 1 is in its frame, the others are put away.
+#[derive(Drop)]
+struct Begun<'a, N: Life> {
+    history: History<'a, N>,
+    frames: Frames<N>,
+    counts: Counts<N>,
+    pass: Pass<Entry, N>,
+    ghost whole: { (counts.entries.parts ≡ 3) × (counts.session_entries.parts ≡ 3) × (counts.log_faults.parts ≡ 3) × (counts.vault_faults.parts ≡ 3) },
+}
+
+fn begin<'a, N: Life>(
+    alloc: Global,
+    ground: &'a Ground<N>,
+    tokens: Tokens<N>,
+) -> Result<Begun<'a, N>, Memory>
+    requires untold { (opening : List Record) → N.opens opening → ⊥ }
+    requires parts { (N.entries.parts ≡ 3) × (N.session_entries.parts ≡ 3) × (N.log_faults.parts ≡ 3) × (N.vault_faults.parts ≡ 3) }
+    requires front { tokens.front ≡ [] }
+    requires pages { tokens.books.pages ≡ [] }
+    requires sessions { tokens.books.sessions ≡ [] }
+    requires maint { tokens.books.maint ≡ [] }
+{
+    let Tokens {
+        front,
+        mut pass,
+        mut books,
+        entries,
+        session_entries,
+        log_faults,
+        vault_faults,
+        data_faults: _,
+    } = tokens;
+    let first = PageRight::of(books.pages.open(&ground.tables.pages, 1));
+    let second = PageRight::of(books.pages.open(&ground.tables.pages, 2));
+    let third = PageRight::of(books.pages.open(&ground.tables.pages, 3));
+    let frames = vec![in alloc;
+        empty_page(alloc, 1, first, pass.copy(&ground.board)),
+        None,
+        None,
+    ]?;
+    let away = vec![in alloc;
+        None,
+        empty_page(alloc, 2, second, pass.copy(&ground.board)),
+        empty_page(alloc, 3, third, pass.copy(&ground.board)),
+    ]?;
+    let (entries_book, entries) = entries.open();
+    let (session_book, session_entries) = session_entries.open();
+    let (_, log_faults) = log_faults.open();
+    let (_, vault_faults) = vault_faults.open();
+    Ok(Begun {
+        history: History::new(ground, front, books, entries_book, session_book, 0, 3, 0),
+        frames: Frames::new(frames, away),
+        counts: Counts {
+            entries,
+            session_entries,
+            log_faults,
+            vault_faults,
+            durable: 0,
+        },
+        pass,
+    })
+}
+
+// One thread works on its own store. What it entered, and the length of the history.
+fn own_run<N: Life, R: Wait>(
+    rt: &R,
+    alloc: Global,
+    ground: &Ground<N>,
+    tokens: Tokens<N>,
+) -> Result<[u64; 2], Fault>
+    requires untold { (opening : List Record) → N.opens opening → ⊥ }
+    requires parts { (N.entries.parts ≡ 3) × (N.session_entries.parts ≡ 3) × (N.log_faults.parts ≡ 3) × (N.vault_faults.parts ≡ 3) }
+    requires front { tokens.front ≡ [] }
+    requires pages { tokens.books.pages ≡ [] }
+    requires sessions { tokens.books.sessions ≡ [] }
+    requires maint { tokens.books.maint ≡ [] }
+{
+    let Begun {
+        history,
+        frames,
+        counts,
+        mut pass,
+    } = begin(alloc, ground, tokens)?;
+    let mut journal = OwnJournal { history, counts };
+    let mut pages = OwnPages::new(frames);
+    let entered = work(rt, alloc, &mut pages, &mut journal, &mut pass)?;
+    let OwnJournal {
+        mut history,
+        mut counts,
+    } = journal;
+    Ok([entered, history.total(&mut counts)])
+}
+
+fn own_life<N: Life, R: Wait>(rt: &R, alloc: Global, unnamed: Unnamed) -> Result<[u64; 2], Fault>
+    requires untold { (opening : List Record) → N.opens opening → ⊥ }
+    requires named { unnamed ≡ life_names N.count N.pages N.sessions N.maint N.entries N.session_entries N.log_faults N.vault_faults N.data_faults }
+    requires parts { (N.entries.parts ≡ 3) × (N.session_entries.parts ≡ 3) × (N.log_faults.parts ≡ 3) × (N.vault_faults.parts ≡ 3) }
+{
+    let (ground, tokens) = unnamed.split::<N>();
+    own_run(rt, alloc, &ground, tokens)
+}
+
+#[test]
+fn one_thread_purges_its_pages(rt: HostRuntime) -> Result<(), Fail> {
+    let unnamed = Unnamed::new(rt.alloc(), 3)?;
+    let done = own_life::<Brand, HostRuntime>(&rt, rt.alloc(), unnamed)?;
+    assert_eq!(rt; done, [100, 100]);
+    Ok(())
+}
+
+// A thread of a shared store.
+#[derive(Drop)]
+struct Worker<'s, 'a, N: Life> {
+    journal: JournalDesk<'s, 'a, N>,
+    pages: PageDesk<'s, 'a, N>,
+    pass: Pass<Entry, N>,
+    entered: u64,
+}
+
+fn work_on<'s, 'a, N: Life>(rt: &impl Wait, alloc: Global, worker: &mut Worker<'s, 'a, N>)
+    requires untold { (opening : List Record) → N.opens opening → ⊥ }
+{
+    let Worker {
+        journal,
+        pages,
+        pass,
+        entered,
+    } = worker;
+    if Pages::<N, JournalDesk<'s, 'a, N>>::out(pages) > 0 {
+        return;
+    }
+    if let Ok(done) = work(rt, alloc, pages, journal, pass) {
+        *entered = done;
+    }
+}
+
+// Two threads work on one store. What they entered, and the length of the history.
+fn shared_run<N: Life + Send + Sync, R: Threads + Wait + Sync>(
+    rt: &R,
+    alloc: Global,
+    ground: &Ground<N>,
+    tokens: Tokens<N>,
+) -> Result<[u64; 2], Fault>
+    requires untold { (opening : List Record) → N.opens opening → ⊥ }
+    requires parts { (N.entries.parts ≡ 3) × (N.session_entries.parts ≡ 3) × (N.log_faults.parts ≡ 3) × (N.vault_faults.parts ≡ 3) }
+    requires front { tokens.front ≡ [] }
+    requires pages { tokens.books.pages ≡ [] }
+    requires sessions { tokens.books.sessions ≡ [] }
+    requires maint { tokens.books.maint ≡ [] }
+{
+    let Begun {
+        history,
+        frames,
+        mut counts,
+        mut pass,
+    } = begin(alloc, ground, tokens)?;
+    let (one, other) = (counts.split(), counts.split());
+    let store = Store::new(ground, history, frames);
+    let mut workers = vec![in alloc;
+        Worker {
+            journal: JournalDesk::new(&store, one),
+            pages: PageDesk::new(&store),
+            pass: pass.copy(&ground.board),
+            entered: 0,
+        },
+        Worker {
+            journal: JournalDesk::new(&store, other),
+            pages: PageDesk::new(&store),
+            pass: pass.copy(&ground.board),
+            entered: 0,
+        },
+    ]?;
+    thread::for_each_mut(
+        rt,
+        workers.as_mut_slice(),
+        2,
+        &|_, worker|
+            requires { (opening : List Record) → N.opens opening → ⊥ }
+        { work_on(rt, alloc, worker) },
+    );
+    let mut entered: u64 = 0;
+    for worker in workers {
+        entered = entered.saturating_add(worker.entered);
+        counts.join(worker.journal.into_counts());
+    }
+    Ok([entered, store.into_history().total(&mut counts)])
+}
+
+fn shared_life<N: Life + Send + Sync, R: Threads + Wait + Sync>(
+    rt: &R,
+    alloc: Global,
+    unnamed: Unnamed,
+) -> Result<[u64; 2], Fault>
+    requires untold { (opening : List Record) → N.opens opening → ⊥ }
+    requires named { unnamed ≡ life_names N.count N.pages N.sessions N.maint N.entries N.session_entries N.log_faults N.vault_faults N.data_faults }
+    requires parts { (N.entries.parts ≡ 3) × (N.session_entries.parts ≡ 3) × (N.log_faults.parts ≡ 3) × (N.vault_faults.parts ≡ 3) }
+{
+    let (ground, tokens) = unnamed.split::<N>();
+    shared_run(rt, alloc, &ground, tokens)
+}
+
+#[test]
+fn two_threads_purge_the_pages_of_one_store(rt: HostRuntime) -> Result<(), Fail> {
+    let unnamed = Unnamed::new(rt.alloc(), 3)?;
+    let done = shared_life::<Brand, HostRuntime>(&rt, rt.alloc(), unnamed)?;
+    assert_eq!(rt; done, [200, 200]);
+    Ok(())
+}
