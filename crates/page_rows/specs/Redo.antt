@@ -54,6 +54,10 @@ abbrev pub Placed : LeafRow → Spot → ℕ → List LeafRow → List LeafRow �
 Placed row spot free old new true = (sum_by leaf_row_size (placed row spot old) ≤ sum_by leaf_row_size old + free) × (new ≡ placed row spot old)
 Placed row spot free old new false = (sum_by leaf_row_size old + free < sum_by leaf_row_size (placed row spot old)) × (new ≡ old)
 
+-- the rows of a leaf are no longer with this row at the spot of its key
+abbrev pub IsNoLonger : LeafRow → Spot → PageState → Type 0
+IsNoLonger row spot s = sum_by leaf_row_size (placed row spot (leaf_rows s.rows)) ≤ sum_by leaf_row_size (leaf_rows s.rows)
+
 abbrev pub with_row : LeafRow → Spot → PageState → PageState
 with_row row spot s = record s { rows = Leaf (placed row spot (leaf_rows s.rows)) }
 

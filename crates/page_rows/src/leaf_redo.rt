@@ -1,12 +1,12 @@
 //! Records that change rows of a leaf.
-ghost use Rattle.std.specs.Prelude.{◌≡◌, ◌≤◌, ◌<◌, ◌+◌, ◌↔◌, length, filter, IfOk, OnErr, IfSome, IfNone, Some, None, true, is_some, ◌||◌, IsTrue, option_and_then, slice_get, if◌then◌else◌};
+ghost use Rattle.std.specs.Prelude.{◌≡◌, ◌≤◌, ◌<◌, ◌+◌, ◌↔◌, ◌⊎◌, length, filter, IfOk, OnErr, IfSome, IfNone, Some, None, true, is_some, ◌||◌, IsTrue, option_and_then, slice_get, if◌then◌else◌};
 ghost use Rattle.std.specs.Option.{option_copied};
 ghost use Rattle.std.specs.List.{sum_by, list_any};
 ghost use Rattle.store_model.specs.Operator.{meaning};
 ghost use Rattle.wal_record.specs.State.{KeepsState, has_own, own_end, leaf_row_size, leaf_rows, live_value, row_of, state_size, page_room};
 ghost use Rattle.wal_record.specs.Images.{IsLeafOf, CanWrite, CanUndo, CanPurge, with_value, purged, is_live_row};
 ghost use Rattle.page_rows.specs.Rows.{IsLeaf, IsSpot, row_count, IsWithin};
-ghost use Rattle.page_rows.specs.Redo.{Changed, Always, placed, with_row, live_in, CanApplyTo, Placed, is_tombstone};
+ghost use Rattle.page_rows.specs.Redo.{Changed, Always, placed, with_row, live_in, CanApplyTo, Placed, IsNoLonger, is_tombstone};
 
 use crate::sizes::{PAGE_ROOM, leaf_row_bytes, state_bytes};
 use crate::spot::{Spot, leaf_spot};
@@ -171,10 +171,39 @@ fn put_row(state: &mut PageState, spot: Spot, row: LeafRow) -> Result<bool, Memo
     ensures done { IfOk result (Changed Always (with_row row spot) state.old state.new) }
     ensures err { OnErr result (state.new ≡ state.old) }
 {
-    let free = PAGE_ROOM - state_bytes(state);
+    let free = room_for(state, spot, &row);
     match &mut state.rows {
         Rows::Leaf(rows) => place(rows, free, spot, row),
         Rows::Branch(_) => Ok(false),
+    }
+}
+
+/// By how many bytes the rows may grow where this row is put at its spot. A row that makes them no longer needs no room,
+/// and the state isn't counted for it.
+fn room_for(state: &PageState, spot: Spot, row: &LeafRow) -> usize
+    requires leaf { IsLeaf state.now.rows }
+    requires size { state_size state.now ≤ page_room }
+    requires place { IsWithin spot (row_count state.now.rows) }
+    ensures most { state_size state.now + result ≤ page_room }
+    ensures all { (state_size state.now + result ≡ page_room) ⊎ IsNoLonger row.now spot state.now }
+{
+    if is_no_longer(state, spot, row) {
+        0
+    } else {
+        PAGE_ROOM - state_bytes(state)
+    }
+}
+
+/// Whether a row takes the place of one that is as long.
+fn is_no_longer(state: &PageState, spot: Spot, row: &LeafRow) -> bool
+    ensures { result ≡ true → IsNoLonger row.now spot state.now }
+{
+    match (&state.rows, spot) {
+        (Rows::Leaf(rows), Spot::Here(i)) => match rows.as_slice().get(i) {
+            Some(old) => leaf_row_bytes(row) <= leaf_row_bytes(old),
+            None => false,
+        },
+        _ => false,
     }
 }
 
