@@ -9,6 +9,8 @@
 //! - [`OwnJournal`] and [`OwnPages`] belong to one thread. A [`Store`] is shared, by a [`JournalDesk`] and a [`PageDesk`]
 //!   for each thread.
 //! - [`take`] takes a page from any pool: it waits for who holds it, brings it where it is in no frame, and tries again.
+//! - [`find_leaf`] goes from page 1 through branch rows and foster children to the leaf of a key. No page is let go before
+//!   the next one is in hand.
 //!
 //! What holds of the journal behind its lock is `specs/History`: the history is consistent for every log with which the
 //! life may have begun, the books are those of the history, and the ledgers count its entries.
@@ -18,6 +20,7 @@ mod counts;
 mod descent;
 mod frames;
 mod history;
+mod leaf;
 mod own;
 mod seeing;
 mod shared;
@@ -26,8 +29,9 @@ pub use counts::Counts;
 pub use descent::take;
 pub use frames::Frames;
 pub use history::History;
+pub use leaf::{Way, find_leaf, way_from};
 pub use own::{OwnJournal, OwnPages};
-pub use seeing::see_page;
+pub use seeing::{see_image, see_page};
 pub use shared::{JournalDesk, PageDesk, Store};
 
 #[cfg(test)]
