@@ -1,17 +1,25 @@
 -- Where a descent goes on to from a page.
-use Rattle.std.specs.Prelude.{◌≡◌, ℕ, ◌≤◌, List, Option, Some, None, false, IsTrue}
-use Rattle.wal_record.specs.State.{has_within}
+use Rattle.std.specs.Prelude.{◌≡◌, ◌⊎◌, ℕ, List, Option, Some, None, false, IsTrue}
+use Rattle.std.specs.Option.{option_map}
+use Rattle.wal_record.specs.State.{has_own, has_within, branch_rows, child_at}
 use Rattle.wal_record.specs.Images.{IsLeafOf}
-use Rattle.wal_record.specs.Tree.{count_to, pointers}
 use Rattle.wal_record.specs.declared.page.PageState.{PageState}
 use Rattle.page_ops.specs.Hands.{Hand}
 use Rattle.small_stores.specs.declared.leaf.Way.{Way}
 use Rattle.small_stores.specs.declared.leaf.Way.TheVariants.{Here, To, Back}
 
--- it is the leaf of the key; it has the key between its fence keys, and a pointer to the page; or it hasn't the key
+-- to the child of the row that covers the key
+abbrev pub IsToChild : List ℕ → PageState → ℕ → Type 0
+IsToChild key s page = IsTrue (has_own s key) × (child_at key (branch_rows s.rows) ≡ Some page)
+
+-- to the foster child, where the key is behind the page's own part
+abbrev pub IsToFoster : List ℕ → PageState → ℕ → Type 0
+IsToFoster key s page = IsTrue (has_within s key) × (has_own s key ≡ false) × (option_map (λ f. f.child) s.foster ≡ Some page)
+
+-- it is the leaf of the key; or it leads on; or the key isn't between its fence keys
 abbrev pub IsWay : List ℕ → PageState → Way → Type 0
 IsWay key s Here = IsLeafOf key s
-IsWay key s (To page) = IsTrue (has_within s key) × (1 ≤ count_to page (pointers s))
+IsWay key s (To page) = IsToChild key s page ⊎ IsToFoster key s page
 IsWay key s Back = has_within s key ≡ false
 
 -- how many pages are in hand

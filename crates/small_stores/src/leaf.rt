@@ -1,22 +1,19 @@
 //! The leaf of a key, by a descent from page 1 that is generic over both stores.
-ghost use Rattle.std.specs.Prelude.{◌≡◌, ℕ, ◌≤◌, List, Option, length, IfOk, IfErr, IfSome};
+ghost use Rattle.std.specs.Prelude.{◌≡◌, List, IfOk, IfErr, IfSome};
 ghost use Rattle.std.specs.FinMap as finite;
 ghost use mathlib.Core.List.{IsPrefix};
-ghost use Rattle.wal_record.specs.State.{KeepsState, live, leaf_rows};
+ghost use Rattle.wal_record.specs.State.{KeepsState, child_at, live, leaf_rows};
 ghost use Rattle.wal_record.specs.Contents.{current};
 ghost use Rattle.wal_record.specs.History.{life_log};
 ghost use Rattle.wal_record.specs.Images.{IsLeafOf};
-ghost use Rattle.wal_record.specs.Tree.{count_to, row_pointers};
 ghost use Rattle.wal_record.specs.declared.record.Record.{Record};
 ghost use Rattle.page_ops.specs.Desks.{IsMade};
-ghost use Rattle.page_rows.specs.Rows.{IsWithin};
 ghost use Rattle.small_stores.specs.Ways.{IsWay, pages_in};
 
 use crate::descent::take;
 use crate::seeing::see_image;
 use front::Pass;
 use page_ops::{Entering, Held, Life, Pages, Taken};
-use page_rows::{Spot, search};
 use std::alloc::Global;
 use std::sync::Wait;
 use store_model::{Fault, Key, PageNo};
@@ -26,7 +23,7 @@ use wal_record::{BranchRow, Entry, PageState, Rows};
 pub enum Way {
     /// It is the leaf whose own part has the key.
     Here,
-    /// To this page, to which it has a pointer.
+    /// To this page: its foster child, or the child of one of its rows.
     To(PageNo),
     /// Back to page 1: the key isn't between its fence keys.
     Back,
@@ -138,20 +135,23 @@ pub fn way_from(state: &PageState, key: &Key) -> Way
     }
     match &state.rows {
         Rows::Leaf(_) => Way::Here,
-        Rows::Branch(rows) => Way::To(child_at(rows.as_slice(), search(state, key))),
+        Rows::Branch(rows) => match child_at(rows.as_slice(), key) {
+            Some(child) => Way::To(child),
+            None => Way::Back,
+        },
     }
 }
 
-// The child of the row at this spot, or of the row before it.
-#[tactic(auto, using(crate::proofs::Pointed::row_pointed))]
-fn child_at(rows: &[BranchRow], spot: Spot) -> PageNo
-    requires some { 1 ≤ length rows.now }
-    requires within { IsWithin spot (length rows.now) }
-    ensures { (level : ℕ) (end : Option (List ℕ)) → 1 ≤ count_to result (row_pointers level end rows.now) }
+// The child of the last row that isn't above the key.
+fn child_at(rows: &[BranchRow], key: &Key) -> Option<PageNo>
+    ensures { result ≡ child_at key.now rows.now }
 {
-    let place = match spot {
-        Spot::Here(i) => i,
-        Spot::Gap(i) => i.saturating_sub(1),
-    };
-    rows[place].child
+    let (first, rest) = rows.split_first()?;
+    if first.low.is_above(key) {
+        return None;
+    }
+    match child_at(rest, key) {
+        Some(child) => Some(child),
+        None => Some(first.child),
+    }
 }

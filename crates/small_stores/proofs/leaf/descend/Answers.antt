@@ -17,7 +17,7 @@ returns-in-Back-clause-made g c = made_since _ _ _ _ c.see_image.ensures.begins 
 pub step-requires-clause-made : goal.step-requires-clause-made
 step-requires-clause-made g c =
     let see = c.see_image.ensures in
-    child_made _ _ see.consistent _ _ _ see.same see.image c.held.view_is _ c.in-To.ensures.1
+    child_made _ _ see.consistent _ _ _ see.same see.image c.held.view_is _ _ c.in-To.ensures
 
 pub returns-in_err-next-clause-made : goal.returns-in_err-next-clause-made
 returns-in_err-next-clause-made g c = made_since _ _ _ _ c.step.ensures.seen (made_since _ _ _ _ c.see_image.ensures.begins c.loop.invariant.3)
