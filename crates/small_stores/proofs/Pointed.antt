@@ -1,16 +1,14 @@
 -- What a descent knows of the pages to which it goes.
-use Rattle.std.proofs.Common.{◌≡◌, ℕ, Bool, true, false, cond, List, [], ◌∷◌, Option, Some, None, refl, sym, ap, ◌∙◌, subst, inl, inr}
+use Rattle.std.proofs.Common.{◌≡◌, ℕ, true, List, Option, Some, refl, sym, ap, ◌∙◌, subst, inl, inr}
 use Rattle.std.specs.Prelude.{◌⊎◌, is_some}
 use Rattle.std.specs.Option.{option_map}
 use Rattle.std.specs.FinMap as finite
 use mathlib.Core.List.{IsPrefix}
-use Rattle.store_model.specs.Range.{is_below}
-use Rattle.wal_record.specs.State.{KeepsState, KeepsRows, IsFirst, own_part, live, leaf_rows, branch_rows, child_at, or_child}
+use Rattle.wal_record.specs.State.{live, leaf_rows, branch_rows, child_at}
 use Rattle.wal_record.specs.Contents.{current}
 use Rattle.wal_record.specs.History.{life_log}
 use Rattle.wal_record.specs.Images.{image, IsLeafOf}
 use Rattle.wal_record.specs.declared.page.PageState.{PageState}
-use Rattle.wal_record.specs.declared.page.BranchRow.{BranchRow}
 use Rattle.wal_record.specs.declared.page.Foster.{Foster}
 use Rattle.wal_record.specs.declared.page.Rows.{Rows}
 use Rattle.wal_record.specs.declared.page.Rows.TheVariants.{Leaf, Branch}

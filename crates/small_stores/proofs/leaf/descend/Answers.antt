@@ -1,4 +1,4 @@
-use Rattle.std.proofs.Common.{◌≡◌, ap, ◌∙◌}
+use Rattle.std.proofs.Common.{ap, ◌∙◌}
 use Rattle.small_stores.specs.Ways.{pages_in}
 use Rattle.small_stores.proofs.Pointed.{child_made, leaf_value, made_since}
 use Rattle.small_stores.proofs.leaf.descend.Goals as goal
