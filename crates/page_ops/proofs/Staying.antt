@@ -1,5 +1,5 @@
 -- A page stays as it is while its head does: each record that names it raises its head.
-use Rattle.std.proofs.Common.{◌≡◌, ℕ, Bool, true, false, cond, List, [], ◌∷◌, ◌++◌, Option, Some, refl, sym, ap, ◌∙◌, subst, arith, append_assoc, append-nil, length-append}
+use Rattle.std.proofs.Common.{◌≡◌, ℕ, Bool, true, false, cond, List, [], ◌∷◌, ◌++◌, Option, Some, refl, sym, ap, ◌∙◌, arith, append_assoc, append-nil, length-append}
 use Rattle.std.specs.Prelude.{◌≤◌, ◌+◌, length}
 use mathlib.Core.List.{IsPrefix}
 use Rattle.wal_record.specs.Chains.{names, head}

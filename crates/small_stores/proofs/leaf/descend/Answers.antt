@@ -1,6 +1,6 @@
 use Rattle.std.proofs.Common.{ap, ◌∙◌}
 use Rattle.small_stores.specs.Ways.{pages_in}
-use Rattle.small_stores.proofs.Pointed.{child_made, leaf_value, made_since}
+use Rattle.small_stores.proofs.Ways.{child_made, leaf_value, made_since}
 use Rattle.small_stores.proofs.leaf.descend.Goals as goal
 
 pub returns-in-Here-clause-value : goal.returns-in-Here-clause-value
