@@ -27,7 +27,8 @@
 //!    right stands for, nobody else has changed since.
 //! 4. A group is refused for want of room, for lateness and for the end of the life exactly where its answer says so
 //!    (`specs/Outcomes`, `specs/Causes`).
-//! 5. A page in hand is the image that the log makes of it, at its head (`IsInHand`).
+//! 5. A page in hand is the image that the log makes of it, at its head (`IsInHand`). It is so after each later history with
+//!    which its right agrees (`proofs/Staying`).
 //! 6. Whoever holds all parts of the ledger of entries, and has seen what was entered, is alone: the history gains what it
 //!    enters itself, and nothing else (`proofs/Alone`).
 #![tactic(auto)]

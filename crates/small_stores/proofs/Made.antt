@@ -43,7 +43,7 @@ after_records : (more log : List Record) (p : ℕ) → is_some (image log p) ≡
 after_records [] log p made = subst (λ l. is_some (image l p) ≡ true) (sym (append-nil log)) made
 after_records (r ∷ rs) log p made = subst (λ l. is_some (image l p) ≡ true) (append_assoc log (r ∷ []) rs) (after_records rs (log ++ r ∷ []) p (after_record log r p made))
 
-made_later : (opens : List Record → Type 0) (h t h' : List Entry) (p : ℕ) → h' ≡ h ++ t → IsMade opens h p → IsMade opens h' p
+pub made_later : (opens : List Record → Type 0) (h t h' : List Entry) (p : ℕ) → h' ≡ h ++ t → IsMade opens h p → IsMade opens h' p
 made_later opens h t h' p is made opening stands =
     let longer : life_log opening h' ≡ life_log opening h ++ log_of t = ap (life_log opening) is ∙ ap (λ l. opening ++ l) (log_of_append h t) ∙ sym (append_assoc opening (log_of h) (log_of t)) in
     subst (λ l. is_some (image l p) ≡ true) (sym longer) (after_records (log_of t) (life_log opening h) p (made opening stands))

@@ -22,6 +22,7 @@ pub fn take<N: Life, J: Entering<N>, P: Pages<N, J>, R: Wait>(
     ensures page { IfOk result (λ held. held.page ≡ page) }
     ensures taken { IfOk result (λ held. (P.desk pages.new).out ≡ 1) }
     ensures none { IfErr result (λ fault. (P.desk pages.new).out ≡ 0) }
+    ensures made { IsMade N.opens pass.new.log page }
 {
     for _ in rt.forever() {
         match pages.try_take(rt, page) {

@@ -1,6 +1,7 @@
 //! Pages taken, purged and put back through either store, by one thread and by two.
-ghost use Rattle.std.specs.Prelude.{◌≡◌, ◌<◌, ◌≤◌, List, [], Some, None, vec_len, length, IfOk};
+ghost use Rattle.std.specs.Prelude.{◌≡◌, ◌<◌, ◌≤◌, List, [], Some, None, vec_len, length, IfOk, IfSome};
 ghost use Rattle.page_ops.specs.Names.{life_names};
+ghost use Rattle.wal_record.specs.State.{KeepsState};
 ghost use Rattle.wal_record.specs.declared.record.Record.{Record};
 
 use super::*;
@@ -13,12 +14,12 @@ use std::sync::Wait;
 use std::test::*;
 use std::thread;
 use std::thread::Threads;
-use store_model::{Bound, Fault, List, Memory, PageNo};
-use wal_record::{Entry, PageState, Purge, Record, Rows};
+use store_model::{Bound, Fault, Key, List, Memory, PageNo};
+use wal_record::{BranchRow, Entry, Foster, PageState, Purge, Record, Rows};
 
 const ROUNDS: u32 = 100;
 
-const PAGES: u32 = 3;
+const LEAVES: u32 = 2;
 
 // Enters the purge of the page in hand. Whether it was entered.
 fn purge<N: Life, J: Entering<N>, R: Wait>(
@@ -55,7 +56,7 @@ fn purge<N: Life, J: Entering<N>, R: Wait>(
     }
 }
 
-// Takes, purges and puts back page after page. How many purges it entered.
+// Goes down to leaf after leaf, takes it, purges it and puts it back. How many purges it entered of leaves to which it came.
 fn work<N: Life, J: Entering<N>, P: Pages<N, J>, R: Wait>(
     rt: &R,
     alloc: Global,
@@ -69,37 +70,98 @@ fn work<N: Life, J: Entering<N>, P: Pages<N, J>, R: Wait>(
 {
     let mut entered = 0;
     for round in 0..ROUNDS {
-        let mut held = take(rt, alloc, pages, journal, round % PAGES + 1, pass)?;
+        let page = round % LEAVES + 2;
+        let key: &[u8] = if page == 2 { b"a" } else { b"z" };
+        let found = leaf_page(rt, alloc, pages, journal, key, pass)?;
+        let mut held = take(rt, alloc, pages, journal, page, pass)?;
         let done = purge(rt, alloc, journal, &mut held, pass);
         pages.put_back(rt, &mut Some(held));
-        if done? && entered < u64::MAX {
+        if done? && found == Some(page) && entered < u64::MAX {
             entered += 1;
         }
     }
     Ok(entered)
 }
 
-// An empty page with all keys.
-fn empty_page<N: Life>(
+// The page of the leaf of a key, which is put back.
+fn leaf_page<N: Life, J: Entering<N>, P: Pages<N, J>, R: Wait>(
+    rt: &R,
     alloc: Global,
+    pages: &mut P,
+    journal: &mut J,
+    key: &[u8],
+    pass: &mut Pass<Entry, N>,
+) -> Result<Option<PageNo>, Fault>
+    requires untold { (opening : List Record) → N.opens opening → ⊥ }
+    requires none { (P.desk pages.old).out ≡ 0 }
+    ensures none { IfOk result (λ page. (P.desk pages.new).out ≡ 0) }
+{
+    let Some(key) = Key::new(key) else {
+        return Ok(None);
+    };
+    let leaf = find_leaf(rt, alloc, pages, journal, &key, pass)?;
+    let page = leaf.page;
+    pages.put_back(rt, &mut Some(leaf));
+    Ok(Some(page))
+}
+
+// A branch with all keys. Its one child is page 2.
+fn root_state(alloc: Global) -> Option<PageState>
+    ensures { IfSome result KeepsState }
+{
+    let mut rows = List::new(alloc);
+    let low = Bound::at(&[])?;
+    rows.push(BranchRow { low, child: 2 }).ok()?;
+    Some(PageState {
+        level: 1,
+        low: Bound::at(&[])?,
+        high: Bound::top(),
+        foster: None,
+        rows: Rows::Branch(rows),
+    })
+}
+
+// An empty leaf with all keys. Those from m on are its foster child's, page 3.
+fn lower_state(alloc: Global) -> Option<PageState>
+    ensures { IfSome result KeepsState }
+{
+    let key = Key::new(b"m")?;
+    Some(PageState {
+        level: 0,
+        low: Bound::at(&[])?,
+        high: Bound::top(),
+        foster: Some(Foster { key, child: 3 }),
+        rows: Rows::Leaf(List::new(alloc)),
+    })
+}
+
+// An empty leaf with the keys from m on.
+fn upper_state(alloc: Global) -> Option<PageState>
+    ensures { IfSome result KeepsState }
+{
+    Some(PageState {
+        level: 0,
+        low: Bound::at(b"m")?,
+        high: Bound::top(),
+        foster: None,
+        rows: Rows::Leaf(List::new(alloc)),
+    })
+}
+
+fn page_with<N: Life>(
     page: PageNo,
+    state: Option<PageState>,
     right: PageRight<N>,
     pass: Pass<Entry, N>,
 ) -> Option<Held<N>>
     requires untold { (opening : List Record) → N.opens opening → ⊥ }
     requires right { right ≡ record { page = page; lsn = 0 } }
+    requires rules { IfSome state KeepsState }
 {
-    let low = Bound::at(&[])?;
     Some(Held {
         page,
         lsn: 0,
-        state: PageState {
-            level: 0,
-            low,
-            high: Bound::top(),
-            foster: None,
-            rows: Rows::Leaf(List::new(alloc)),
-        },
+        state: state?,
         dirty: false,
         right: Some(right),
         pass,
@@ -142,14 +204,14 @@ fn begin<'a, N: Life>(
     let second = PageRight::of(books.pages.open(&ground.tables.pages, 2));
     let third = PageRight::of(books.pages.open(&ground.tables.pages, 3));
     let frames = vec![in alloc;
-        empty_page(alloc, 1, first, pass.copy(&ground.board)),
+        page_with(1, root_state(alloc), first, pass.copy(&ground.board)),
         None,
         None,
     ]?;
     let away = vec![in alloc;
         None,
-        empty_page(alloc, 2, second, pass.copy(&ground.board)),
-        empty_page(alloc, 3, third, pass.copy(&ground.board)),
+        page_with(2, lower_state(alloc), second, pass.copy(&ground.board)),
+        page_with(3, upper_state(alloc), third, pass.copy(&ground.board)),
     ]?;
     let (entries_book, entries) = entries.open();
     let (session_book, session_entries) = session_entries.open();
