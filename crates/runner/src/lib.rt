@@ -16,7 +16,7 @@
 #![tactic(auto)]
 
 mod input;
-mod leaf;
+mod built;
 mod life;
 mod opening;
 mod outside;
