@@ -74,7 +74,13 @@ impl<D: Disk> Disk for Metered<D> {
 
     ghost faults = { λ m. D.faults m };
 
+    ghost own = { λ m. D.own m };
+
     ghost refused = { λ m. D.refused m };
+
+    ghost passes = { λ m. D.passes m };
+
+    ghost fuses = { D.fuses };
 
     ghost extent = { λ m t. D.extent m t };
 

@@ -1,4 +1,5 @@
 pub mod Cause
+pub mod Counted
 pub mod Crash
 pub mod Fused
 pub mod Kept

@@ -1,7 +1,8 @@
 //! The log disk.
-ghost use Rattle.std.specs.Prelude.{◌≡◌, ◌⊎◌, ◌+◌, ◌-◌, ◌<◌, ◌≤◌, ◌^◌, ℕ, List, length, take, drop, ◌++◌, min, max, IfOk, OnOk, OnErr};
+ghost use Rattle.std.specs.Prelude.{◌≡◌, ◌⊎◌, ◌+◌, ◌-◌, ◌<◌, ◌≤◌, ◌^◌, ℕ, List, Option, length, take, drop, ◌++◌, min, max, IfOk, OnOk, OnErr};
 ghost use Rattle.media.specs.Kept.{Kept, end_of, written, without, bytes_at, Torn};
 ghost use Rattle.media.specs.Cause.{HasCause};
+ghost use Rattle.media.specs.Counted.{Armed, Counted, Uncounted};
 ghost use Rattle.media.specs.Crash.{Only, Follows, NoMore, Elapses};
 
 use crate::fault::Failed;
@@ -36,8 +37,17 @@ pub trait Disk {
     /// How often the disk has failed.
     ghost faults: { Self → ℕ };
 
+    /// How often it has failed by itself, without the calls that a fuse refused.
+    ghost own: { Self → ℕ };
+
     /// How many calls a fuse has refused.
     ghost refused: { Self → ℕ };
+
+    /// How many more calls a fuse lets pass, where it is armed.
+    ghost passes: { Self → Option ℕ };
+
+    /// Whether disks of this type are fuses.
+    ghost fuses: { Type 0 };
 
     /// The offset of the first kept byte.
     fn start(&self) -> u64
@@ -58,7 +68,8 @@ pub trait Disk {
         ensures told { tells → told self.new ≡ told self.old }
         ensures crash { NoMore may_leave self.old self.new }
         ensures time { Elapses moment may_leave left_since self.old self.new }
-        ensures cause { HasCause faults self.old self.new result };
+        ensures cause { HasCause faults self.old self.new result }
+        ensures fuse { Counted passes refused own self.old self.new result };
 
     /// Writes over what is there, and past the end. Until a sync, a crash may leave any bytes in the range, and after
     /// `Failed` a read may give them.
@@ -73,7 +84,8 @@ pub trait Disk {
         ensures torn { tells → Torn at (length bytes.now) (told self.old) (told self.new) }
         ensures crash { Follows (Torn at (length bytes.now)) may_leave self.old self.new }
         ensures time { Elapses moment may_leave left_since self.old self.new }
-        ensures cause { HasCause faults self.old self.new result };
+        ensures cause { HasCause faults self.old self.new result }
+        ensures fuse { Counted passes refused own self.old self.new result };
 
     /// After it, a crash leaves what a read gives.
     fn sync(&mut self) -> Result<(), Failed>
@@ -82,7 +94,8 @@ pub trait Disk {
         ensures durable { tells → OnOk result (Only (told self.old) (may_leave self.new)) }
         ensures crash { NoMore may_leave self.old self.new }
         ensures time { Elapses moment may_leave left_since self.old self.new }
-        ensures cause { HasCause faults self.old self.new result };
+        ensures cause { HasCause faults self.old self.new result }
+        ensures fuse { Counted passes refused own self.old self.new result };
 
     /// Forgets what lies before an offset, at once. After `Failed` it is forgotten or not.
     fn discard(&mut self, upto: u64) -> Result<(), Failed>
@@ -96,7 +109,8 @@ pub trait Disk {
         ensures crash { OnOk result (Follows (λ d c. c ≡ without d upto) may_leave self.old self.new) }
         ensures crash_either { Follows (λ d c. (c ≡ d) ⊎ (c ≡ without d upto)) may_leave self.old self.new }
         ensures time { Elapses moment may_leave left_since self.old self.new }
-        ensures cause { HasCause faults self.old self.new result };
+        ensures cause { HasCause faults self.old self.new result }
+        ensures fuse { Counted passes refused own self.old self.new result };
 
     /// The machine stops and starts, and something that a crash may leave is left. A disk that can choose keeps the
     /// first `keep` of the bytes written since the last sync.
@@ -105,7 +119,8 @@ pub trait Disk {
         ensures durable { tells → Only (told self.new) (may_leave self.new) }
         ensures crash { NoMore may_leave self.old self.new }
         ensures time { Elapses moment may_leave left_since self.old self.new }
-        ensures faults { faults self.new ≡ faults self.old };
+        ensures faults { faults self.new ≡ faults self.old }
+        ensures fuse { Uncounted passes refused own self.old self.new };
 
     /// Arms a fuse, which lets n more calls pass, or renews it. A disk with no fuse does nothing.
     fn fuse(&mut self, n: Option<u64>)
@@ -113,7 +128,8 @@ pub trait Disk {
         ensures told { tells → told self.new ≡ told self.old }
         ensures crash { NoMore may_leave self.old self.new }
         ensures time { Elapses moment may_leave left_since self.old self.new }
-        ensures faults { faults self.new ≡ faults self.old };
+        ensures faults { faults self.new ≡ faults self.old }
+        ensures fuse { Armed fuses passes refused own n self.old self.new };
 
     /// How many calls a fuse has refused, 0 where there is none.
     fn refused(&self) -> u64

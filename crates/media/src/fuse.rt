@@ -125,7 +125,13 @@ impl<D: Disk> Disk for Fuse<D> {
 
     ghost faults = { λ f. D.faults f.inner + f.refused };
 
+    ghost own = { λ f. D.faults f.inner };
+
     ghost refused = { λ f. f.refused };
+
+    ghost passes = { λ f. f.left };
+
+    ghost fuses = { Unit {0} };
 
     ghost extent = { λ f t. D.extent f.inner t };
 
@@ -191,7 +197,13 @@ impl<D: PageDevice> PageDevice for Fuse<D> {
 
     ghost faults = { λ f. D.faults f.inner + f.refused };
 
+    ghost own = { λ f. D.faults f.inner };
+
     ghost refused = { λ f. f.refused };
+
+    ghost passes = { λ f. f.left };
+
+    ghost fuses = { Unit {0} };
 
     ghost newest_told = { λ f p image is. D.newest_told f.inner p image is };
 
@@ -236,7 +248,13 @@ impl<D: Vault> Vault for Fuse<D> {
 
     ghost faults = { λ f. D.faults f.inner + f.refused };
 
+    ghost own = { λ f. D.faults f.inner };
+
     ghost refused = { λ f. f.refused };
+
+    ghost passes = { λ f. f.left };
+
+    ghost fuses = { Unit {0} };
 
     fn put(&mut self, name: ObjectName, bytes: &[u8]) -> Result<(), Failed> {
         pass(&mut self.left, &mut self.refused)?;

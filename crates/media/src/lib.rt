@@ -9,7 +9,10 @@
 //!   that call, or stands at its end, 2^64 - 1. Code that is generic over a device can't raise the count, so it can't
 //!   answer a fault that the device didn't give.
 //!
-//! A [`Fuse`] round a device passes its calls on until it blows.
+//! A [`Fuse`] round a device passes its calls on until it blows. Which calls it counts, and what becomes of them, is part
+//! of each trait: a blown fuse refuses each counted call and stays blown, any other burns down by one and passes the call
+//! on, and such a call fails only where the device itself failed. So code that is generic over a device can tell the
+//! two apart.
 #![tactic(auto)]
 
 mod devices;

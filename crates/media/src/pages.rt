@@ -1,6 +1,7 @@
 //! The data device.
-ghost use Rattle.std.specs.Prelude.{◌≡◌, ◌≢◌, ◌⊎◌, ◌^◌, ◌-◌, Some, None, ℕ, List, Option, min, OnOk};
-ghost use Rattle.media.specs.Cause.{HasCause};
+ghost use Rattle.std.specs.Prelude.{◌≡◌, ◌≢◌, ◌⊎◌, ◌^◌, ◌-◌, Some, None, ℕ, List, Option, min, OnOk, OnErr};
+ghost use Rattle.media.specs.Cause.{HasCause, Rose};
+ghost use Rattle.media.specs.Counted.{Armed, Counted, Uncounted};
 ghost use Rattle.media.specs.Images.{FailsVerification, Adds, NoOther, Keeps, KeepsBut, SameImages};
 
 use crate::fault::Failed;
@@ -28,8 +29,17 @@ pub trait PageDevice {
     /// How often it has failed.
     ghost faults: { Self → ℕ };
 
+    /// How often it has failed by itself, without the calls that a fuse refused.
+    ghost own: { Self → ℕ };
+
     /// How many calls a fuse has refused.
     ghost refused: { Self → ℕ };
+
+    /// How many more calls a fuse lets pass, where it is armed.
+    ghost passes: { Self → Option ℕ };
+
+    /// Whether devices of this type are fuses.
+    ghost fuses: { Type 0 };
 
     /// One of the images of the page, or bytes that fail verification.
     fn read(&mut self, page: PageNo, out: &mut PageBytes) -> Result<(), Failed>
@@ -37,14 +47,16 @@ pub trait PageDevice {
         ensures damaged { tells → OnOk result (spoiled self.old page → FailsVerification out.new) }
         ensures same { tells → SameImages told newest self.old self.new }
         ensures spoiled { tells → Keeps spoiled self.old self.new }
-        ensures cause { HasCause faults self.old self.new result };
+        ensures cause { HasCause faults self.old self.new result }
+        ensures fuse { Counted passes refused own self.old self.new result };
 
     /// The image joins those of the page. After `Failed` it may have joined them.
     fn write(&mut self, page: PageNo, bytes: &PageBytes) -> Result<(), Failed>
         ensures newest { tells → OnOk result (newest self.new page ≡ Some bytes.now) }
         ensures adds { tells → Adds told newest page bytes.now self.old self.new }
         ensures spoiled { tells → KeepsBut page spoiled self.old self.new }
-        ensures cause { HasCause faults self.old self.new result };
+        ensures cause { HasCause faults self.old self.new result }
+        ensures fuse { Counted passes refused own self.old self.new result };
 
     /// An empty device takes its place. After `Failed` the old images may stay.
     fn replace(&mut self) -> Result<(), Failed>
@@ -52,20 +64,24 @@ pub trait PageDevice {
         ensures no_other { tells → NoOther told self.old self.new }
         ensures newest { tells → ((p : ℕ) → newest self.new p ≡ None) ⊎ ((p : ℕ) → newest self.new p ≡ newest self.old p) }
         ensures spoiled { tells → Keeps spoiled self.old self.new }
-        ensures cause { HasCause faults self.old self.new result };
+        ensures cause { HasCause faults self.old self.new result }
+        ensures fuse { Counted passes refused own self.old self.new result };
 
     /// Reads of the page fail verification until its next write. After `Failed` they may.
     fn spoil(&mut self, page: PageNo) -> Result<(), Failed>
         ensures damaged { tells → OnOk result (spoiled self.new page) }
         ensures same { tells → SameImages told newest self.old self.new }
         ensures spoiled { tells → Keeps spoiled self.old self.new }
-        ensures cause { HasCause faults self.old self.new result };
+        ensures cause { HasCause faults self.old self.new result }
+        ensures fuse { Uncounted passes refused own self.old self.new }
+        ensures failed { OnErr result (Rose (own self.old) (own self.new)) };
 
     /// Arms a fuse, which lets n more calls pass, or renews it. A device with no fuse does nothing.
     fn fuse(&mut self, n: Option<u64>)
         ensures same { tells → SameImages told newest self.old self.new }
         ensures spoiled { tells → Keeps spoiled self.old self.new }
-        ensures faults { faults self.new ≡ faults self.old };
+        ensures faults { faults self.new ≡ faults self.old }
+        ensures fuse { Armed fuses passes refused own n self.old self.new };
 
     /// How many calls a fuse has refused, 0 where there is none.
     fn refused(&self) -> u64

@@ -248,7 +248,7 @@ fn cut(bytes: &mut Vec<u8>, n: usize)
 }
 
 impl Disk for MemDisk {
-    ghost use Rattle.std.specs.Prelude.{◌≡◌, ◌+◌, ℕ, length, refl};
+    ghost use Rattle.std.specs.Prelude.{◌≡◌, ◌+◌, ℕ, None, length, refl};
     ghost use Rattle.std.proofs.Common.{inl};
     ghost use Rattle.media_mem.specs.Reach.{MemSeen, kept_now, leaves, left_at, only_leaves};
 
@@ -268,7 +268,13 @@ impl Disk for MemDisk {
 
     ghost faults = { λ m. m.faults };
 
+    ghost own = { λ m. m.faults };
+
     ghost refused = { λ m. 0 };
+
+    ghost passes = { λ m. None };
+
+    ghost fuses = { ⊥ };
 
     ghost extent = { λ m t. (refl, refl) };
 

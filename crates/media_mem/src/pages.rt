@@ -191,7 +191,7 @@ fn spoil_one(slot: &mut Slot)
 }
 
 impl PageDevice for MemPages {
-    ghost use Rattle.std.specs.Prelude.{◌≡◌, Some};
+    ghost use Rattle.std.specs.Prelude.{◌≡◌, None, Some};
     ghost use Rattle.media_mem.specs.Slots.{IsSpoiled, newest_in};
 
     ghost tells = { Unit {0} };
@@ -204,7 +204,13 @@ impl PageDevice for MemPages {
 
     ghost faults = { λ m. m.faults };
 
+    ghost own = { λ m. m.faults };
+
     ghost refused = { λ m. 0 };
+
+    ghost passes = { λ m. None };
+
+    ghost fuses = { ⊥ };
 
     ghost newest_told = { λ m p image is. is };
 

@@ -192,6 +192,7 @@ impl MemVault {
 }
 
 impl Vault for MemVault {
+    ghost use Rattle.std.specs.Prelude.{None};
     ghost use Rattle.media_mem.specs.Shelf.{stored};
 
     ghost tells = { Unit {0} };
@@ -200,7 +201,13 @@ impl Vault for MemVault {
 
     ghost faults = { λ v. v.faults };
 
+    ghost own = { λ v. v.faults };
+
     ghost refused = { λ v. 0 };
+
+    ghost passes = { λ v. None };
+
+    ghost fuses = { ⊥ };
 
     fn put(&mut self, name: ObjectName, bytes: &[u8]) -> Result<(), Failed> {
         self.faults.call()?;

@@ -108,7 +108,13 @@ impl<D: PageDevice> PageDevice for NeverFails<D> {
 
     ghost faults = { λ d. 0 };
 
+    ghost own = { λ d. 0 };
+
     ghost refused = { λ d. 0 };
+
+    ghost passes = { λ d. None };
+
+    ghost fuses = { ⊥ };
 
     ghost newest_told = { λ d p image is. none-some image is };
 
@@ -144,6 +150,7 @@ impl<D: PageDevice> PageDevice for NeverFails<D> {
 }
 
 impl<D: Vault> Vault for NeverFails<D> {
+    ghost use Rattle.std.specs.Prelude.{None};
     ghost use Rattle.media.specs.Objects.{Absent};
 
     ghost tells = { ⊥ };
@@ -152,7 +159,13 @@ impl<D: Vault> Vault for NeverFails<D> {
 
     ghost faults = { λ v. 0 };
 
+    ghost own = { λ v. 0 };
+
     ghost refused = { λ v. 0 };
+
+    ghost passes = { λ v. None };
+
+    ghost fuses = { ⊥ };
 
     fn put(&mut self, name: ObjectName, bytes: &[u8]) -> Result<(), Failed> {
         let _outcome = self.inner.put(name, bytes);
@@ -187,7 +200,7 @@ impl<D: Vault> Vault for NeverFails<D> {
 }
 
 impl<D: Disk> Disk for NeverFails<D> {
-    ghost use Rattle.std.specs.Prelude.{◌≡◌, ℕ, []};
+    ghost use Rattle.std.specs.Prelude.{◌≡◌, ℕ, [], None};
 
     ghost tells = { ⊥ };
 
@@ -205,7 +218,13 @@ impl<D: Disk> Disk for NeverFails<D> {
 
     ghost faults = { λ d. 0 };
 
+    ghost own = { λ d. 0 };
+
     ghost refused = { λ d. 0 };
+
+    ghost passes = { λ d. None };
+
+    ghost fuses = { ⊥ };
 
     ghost extent = { λ d t. absurd t };
 
