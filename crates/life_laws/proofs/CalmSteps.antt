@@ -7,6 +7,7 @@ use Rattle.store_model.proofs.Bools.{or_left, and_true, not_from}
 use Rattle.store_model.specs.Range.{Interval, point, includes}
 use Rattle.store_model.specs.declared.request.Request.TheVariants as requests
 use Rattle.store_model.specs.declared.reply.Reply.TheVariants as replies
+use Rattle.store_model.specs.declared.reply.Outcome.TheVariants as outcomes
 use Rattle.store_model.specs.declared.range.Mode.{Mode}
 use Rattle.store_model.specs.declared.range.Mode.TheVariants.{Shared, Exclusive}
 use Rattle.wal_record.specs.State.{is_key, is_value, live, state_size, page_room}
@@ -20,7 +21,7 @@ use Rattle.wal_record.specs.declared.page.PageState.{PageState}
 use Rattle.wal_record.specs.declared.page.LeafRow.{LeafRow}
 use Rattle.wal_record.specs.declared.record.Record.{Record}
 use Rattle.wal_record.specs.declared.entry.Entry.{Entry}
-use Rattle.wal_record.specs.declared.entry.Entry.TheVariants.{Rec, Lock, Said, Acked, Began}
+use Rattle.wal_record.specs.declared.entry.Entry.TheVariants.{Rec, Lock, Said, Declined, Acked, Began}
 use Rattle.wal_record.proofs.Along.{AllAlong_back}
 use Rattle.wal_record.proofs.Pushes.{log_same, log_more, phase_push, taken_push, untold_push}
 use Rattle.log_laws.proofs.Central.{eqb_self, eqb_differ}
@@ -28,7 +29,7 @@ use Rattle.log_laws.proofs.Locked.{in_point}
 use Rattle.log_laws.proofs.Serial.{sound_after}
 use Rattle.tree_laws.proofs.Keys.{below_itself}
 use Rattle.life_laws.specs.Calm.{Opened, only_leaf, CalmLog, Calm}
-use Rattle.life_laws.specs.Commands.{written, committing, with_write, with_row, begun, get_entries, put_entries, commit_entries}
+use Rattle.life_laws.specs.Commands.{written, committing, with_write, with_row, begun, get_entries, put_entries, full_entries, commit_entries}
 use Rattle.life_laws.proofs.CalmLog.{limit_kept, live_is, write_lawful, log_written, commit_lawful, log_committed, log_began}
 use Rattle.life_laws.proofs.CalmHistory.{none_live, owner_kept, history_same, history_began, history_committed, history_acked}
 
@@ -144,6 +145,27 @@ module _ (opening : List Record) (h : List Entry) (rows : List LeafRow) (top : �
         history = record { number = done.number; sessions = done.sessions; rest = done.rest; opened = record { live = done.opened.live; owner = done.opened.owner }; no_split = done.no_split };
       }
 
+  -- it is told that there is no room for a write and a page
+  pub calm_refused : Calm opening h rows top (Some o) next count lsn → (key value : List ℕ) → list_any (covers_write key) (locks opening h o.tx) ≡ true → limit_of (life_log opening h) < o.writes + 3
+      → Calm opening (h ++ Declined o.session o.tx (requests.Put key value) (outcomes.Full 1 o.writes) ∷ []) rows top (Some o) next count lsn
+  calm_refused c key value covered over =
+      let e : Entry = Declined o.session o.tx (requests.Put key value) (outcomes.Full 1 o.writes) in
+      record {
+        found = c.found;
+        begins = c.begins;
+        settled = c.settled;
+        legal = allowed opening h e c.legal c.history.no_split (record {
+          told = c.told;
+          owner = c.history.opened.owner;
+          live = c.history.opened.live;
+          locked = covered;
+          cause = (sym c.log.one_page, sym c.log.unfinished, (let p = c.log.one_page in let q = c.log.unfinished in omega (arith, p, q, over)), tt);
+        });
+        told = untold_push h e;
+        log = log_kept opening h e rows top (Some o) next count lsn refl c.log;
+        history = history_same opening h next (Some o) c.history e (λ t p. refl) (λ n. refl) (λ s t. refl) (λ t ls a. refl) refl;
+      }
+
   -- its commit is entered
   pub calm_committed : Calm opening h rows top (Some o) next count lsn → lsn < 2 ^ 63 → next ≤ 2 ^ 63 → Calm opening (h ++ Rec (lsn + 1) (committing o) ∷ []) rows top None next (count + 1) (lsn + 1)
   calm_committed c top_lsn top_tx =
@@ -211,6 +233,16 @@ module _ (opening : List Record) (h : List Entry) (rows : List LeafRow) (top : �
       (calm_wrote opening (h ++ e ∷ []) rows top o next count lsn (calm_locked opening h rows top o next count lsn c (point key) Exclusive) key value
       (lock_holds opening c.settled h o.tx (point key) Exclusive (covers_write key) (and_true _ true (in_point key) refl))
       k v size (subst (λ (n : ℕ). o.writes + 2 ≤ n) (sym (limit_kept opening (log_of (h ++ e ∷ [])) c.found)) room) top_lsn top_tx)
+
+  -- is refused a put, since pages and pending writes and two are above the limit
+  pub calm_declined : Calm opening h rows top (Some o) next count lsn → (key value : List ℕ) → limit_of opening < o.writes + 3
+      → Calm opening (h ++ full_entries o key value) rows top (Some o) next count lsn
+  calm_declined c key value over =
+      let e : Entry = Lock o.tx (point key) Exclusive in
+      subst (λ (x : List Entry). Calm opening x rows top (Some o) next count lsn) (two h _ _)
+      (calm_refused opening (h ++ e ∷ []) rows top o next count lsn (calm_locked opening h rows top o next count lsn c (point key) Exclusive) key value
+      (lock_holds opening c.settled h o.tx (point key) Exclusive (covers_write key) (and_true _ true (in_point key) refl))
+      (subst (λ (n : ℕ). n < o.writes + 3) (sym (limit_kept opening (log_of (h ++ e ∷ [])) c.found)) over))
 
   -- commits, and is acknowledged
   pub calm_commit : Calm opening h rows top (Some o) next count lsn → lsn < 2 ^ 63 → next ≤ 2 ^ 63 → Calm opening (h ++ commit_entries o lsn) rows top None next (count + 1) (lsn + 1)

@@ -5,4 +5,5 @@ pub mod Leaving
 pub mod Start
 pub mod CalmLives
 pub mod Reopening
+pub mod Opened
 pub mod Examples

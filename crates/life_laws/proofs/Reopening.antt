@@ -43,7 +43,7 @@ nothing_last : (t : ℕ) → last [] t ≡ 0
 unfolding last along
 nothing_last t = refl
 
-unnamed : (t : ℕ) (log : List Record) → greatest log < t → IsUnnamed log t
+pub unnamed : (t : ℕ) (log : List Record) → greatest log < t → IsUnnamed log t
 unnamed t = by_pushes (λ (log : List Record). greatest log < t → IsUnnamed log t) (λ _. record { chain = nothing_last t; unfinished = refl }) (λ log r before h.
     let parts = max_less (greatest log) (tx_or_none (link_of r)) t (subst (λ (n : ℕ). n < t) (greatest_push log r) h) in
     record {
@@ -71,7 +71,7 @@ log_reopened log rows top next count lsn c =
       commits_are = c.commits_are;
     }
 
-history_reopened : (log : List Record) → CalmHistory log [] None (suc (greatest log))
+pub history_reopened : (log : List Record) → CalmHistory log [] None (suc (greatest log))
 unfolding along greatest_begun last_begun phase taken_locks split_leaf
 history_reopened log = record { number = ap suc (sym (max-zero (greatest log))); sessions = λ s l. refl; rest = λ t a. record { idle = refl; unlocked = refl }; opened = tt; no_split = refl }
 

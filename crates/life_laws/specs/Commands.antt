@@ -3,13 +3,14 @@ use Rattle.std.specs.Prelude.{◌≤◌, ◌<◌, ◌+◌, ◌^◌, ℕ, List, [
 use Rattle.store_model.specs.Range.{point}
 use Rattle.store_model.specs.declared.request.Request.TheVariants as requests
 use Rattle.store_model.specs.declared.reply.Reply.TheVariants as replies
+use Rattle.store_model.specs.declared.reply.Outcome.TheVariants as outcomes
 use Rattle.store_model.specs.declared.range.Mode.TheVariants.{Shared, Exclusive}
 use Rattle.wal_record.specs.State.{is_key, is_value, live, row_of, put_row, state_size, page_room}
 use Rattle.wal_record.specs.declared.page.LeafRow.{LeafRow}
 use Rattle.wal_record.specs.declared.record.Record.{Record}
 use Rattle.wal_record.specs.declared.record.Record.TheVariants as kinds
 use Rattle.wal_record.specs.declared.entry.Entry.{Entry}
-use Rattle.wal_record.specs.declared.entry.Entry.TheVariants.{Rec, Lock, Said, Acked, Began}
+use Rattle.wal_record.specs.declared.entry.Entry.TheVariants.{Rec, Lock, Said, Declined, Acked, Began}
 use Rattle.life_laws.specs.Calm.{Opened, only_leaf}
 
 -- ---- records and entries
@@ -40,6 +41,11 @@ get_entries o rows key = Lock o.tx (point key) Shared ∷ Said o.session o.tx (r
 abbrev pub put_entries : Opened → ℕ → List LeafRow → ℕ → List ℕ → List ℕ → List Entry
 put_entries o top rows lsn key value =
     Lock o.tx (point key) Exclusive ∷ Rec (lsn + 1) (written o top rows key value) ∷ Said o.session o.tx (requests.Put key value) (replies.Was (live rows key)) ∷ []
+
+-- it locks the key, and a put is refused: the store has one page and the pending writes of this transaction, and no
+-- room for a write and a page more
+abbrev pub full_entries : Opened → List ℕ → List ℕ → List Entry
+full_entries o key value = Lock o.tx (point key) Exclusive ∷ Declined o.session o.tx (requests.Put key value) (outcomes.Full 1 o.writes) ∷ []
 
 abbrev pub commit_entries : Opened → ℕ → List Entry
 commit_entries o lsn = Rec (lsn + 1) (committing o) ∷ Acked o.session o.tx ∷ []

@@ -2,3 +2,4 @@ pub mod Calm
 pub mod Commands
 pub mod CalmLaw
 pub mod Stops
+pub mod Opening

@@ -3,7 +3,7 @@
 //! The crate runs nothing. `specs/Calm.antt` says what holds between two commands of such a life, seen
 //! from what its code keeps: the rows of the leaf, the LSN of the leaf's last record, the open transaction,
 //! the next number, the number of commits, and the LSN of the last record. The lemmas in `proofs/` (`Start`,
-//! `CalmSteps`, `CalmLives`, `Leaving`, `Reopening`) lead from one command to the next. So code has to show only that it enters these
+//! `CalmSteps`, `CalmLives`, `Leaving`, `Reopening`, `Opened`) lead from one command to the next. So code has to show only that it enters these
 //! records and gives these answers; that the history is legal, has the replies of a serial run, and loses
 //! nothing acknowledged at a stop follows, as the functions here say of whole lives.
 #![tactic(auto)]
@@ -11,6 +11,8 @@
 ghost use Rattle.std.specs.Prelude.{List, ℕ};
 ghost use Rattle.life_laws.specs.CalmLaw.{CalmLaw};
 ghost use Rattle.life_laws.specs.Commands.{Command};
+ghost use Rattle.wal_record.specs.declared.record.Record.{Record};
+ghost use Rattle.life_laws.specs.Opening.{OpeningLaw};
 ghost use Rattle.life_laws.specs.Stops.{CalmStopsLaw, Commands};
 
 /// The law of calm lives. Commands are given to a fresh store, each where it is possible. Then at each
@@ -28,4 +30,11 @@ pub fn calm_law()
 /// the stops left, run one after the other, make the committed contents of the last log.
 pub fn calm_stops_law()
     ensures { (limit : ℕ) (lives : List Commands) → CalmStopsLaw limit lives }
+{}
+
+/// The opening law: in a log without losers, in which no page was split, page 1 is a leaf with all keys, whose live
+/// rows have the committed contents, and a calm life may begin with what the records say: that leaf, the LSN of its last
+/// record, the number above all transactions, and the number of commits.
+pub fn opening_law()
+    ensures { (log : List Record) → OpeningLaw log }
 {}
