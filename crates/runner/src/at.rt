@@ -1,4 +1,9 @@
 //! Where a run is, and one step of it.
+ghost use Rattle.std.specs.Prelude.{◌≡◌, ◌≤◌};
+ghost use Rattle.runner.specs.Causes.{SteppedCause, disk_at};
+ghost use Rattle.runner.specs.Turns.{Stage};
+ghost use Rattle.runner.specs.Machine.{In, IsAt, Steps};
+
 use crate::life::Life;
 use crate::outside;
 use crate::status::Status;
@@ -28,7 +33,10 @@ pub fn step<L: Disk>(
     at: At<L, Life<L>>,
     command: &Command,
     line: u64,
-) -> Stepped<L, Life<L>> {
+) -> Stepped<L, Life<L>>
+    ensures turns { (s : Stage) → IsAt L.Disk (λ life. In L.Disk life.log life.standing) at s → Steps L.Disk (λ life. In L.Disk life.log life.standing) s command.now line result }
+    ensures cause { SteppedCause L.Disk (λ life. life.log.log.device) (disk_at (λ life. life.log.log.device) at) result }
+{
     match at {
         At::Outside { disk } => outside::step(alloc, operators, disk, command, line),
         At::Inside { life } => step_inside(alloc, operators, life, command, line),
@@ -42,10 +50,13 @@ fn step_inside<L: Disk>(
     life: Life<L>,
     command: &Command,
     line: u64,
-) -> Stepped<L, Life<L>> {
+) -> Stepped<L, Life<L>>
+    ensures turns { (s : Stage) → In L.Disk life.log life.standing s → Steps L.Disk (λ life. In L.Disk life.log life.standing) s command.now line result }
+    ensures cause { SteppedCause L.Disk (λ life. life.log.log.device) life.log.log.device result }
+{
     let mut life = life;
     match command {
-        Command::Stop { keep } => outside::stop(alloc, life.log.into_device(), *keep),
+        Command::Stop { keep } => outside::stop(alloc, life.log.into_device(), *keep, line),
         _ => match life.step(alloc, operators, command, line) {
             Ok(lines) => Stepped::Goes {
                 lines,
@@ -59,8 +70,10 @@ fn step_inside<L: Disk>(
     }
 }
 
-/// The log disk, where the run ends.
-pub fn disk_of<L: Disk>(at: At<L, Life<L>>) -> L {
+/// The log disk of a place, where the run ends.
+pub fn disk_of<L: Disk>(at: At<L, Life<L>>) -> L
+    ensures { result ≡ disk_at (λ life. life.log.log.device) at }
+{
     match at {
         At::Outside { disk } => disk,
         At::Inside { life } => life.log.into_device(),

@@ -15,14 +15,16 @@
 //! leave, and see neither source nor sink.
 #![tactic(auto)]
 
-mod input;
+mod at;
 mod built;
+mod input;
 mod life;
 mod opening;
 mod outside;
 mod print;
 mod run;
 mod session;
+mod standing;
 mod status;
 mod words;
 

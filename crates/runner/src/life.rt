@@ -1,4 +1,14 @@
 //! A life: what happens from an opening to its end.
+ghost use Rattle.std.specs.Prelude.{◌≡◌, ◌≢◌, ◌≤◌, ◌<◌, ◌+◌, ◌^◌, ℕ, List, true, None, Some, IfErr, IfOk};
+ghost use Rattle.runner.specs.Causes.{LogCause};
+ghost use Rattle.runner.specs.Active.{is_active, puts_of, HasCommitRoom};
+ghost use Rattle.runner.specs.Turns.{Stage, IsNoStop};
+ghost use Rattle.runner.specs.Refusals.{RefusesAt};
+ghost use Rattle.runner.specs.Machine.{In, Adds};
+ghost use Rattle.script.specs.declared.command.Command.TheVariants as commands;
+ghost use Rattle.store_model.specs.declared.request.Request.TheVariants as requests;
+ghost use Rattle.runner.specs.declared.status.Status.{Status};
+
 use crate::print;
 use crate::session::Session;
 use crate::standing::Standing;
@@ -20,7 +30,7 @@ pub struct Life<L: Disk> {
     pub log: LogManager<L>,
     pub standing: Standing,
 
-    ghost room: { HasRoom standing.session log.log.ended log.spare },
+    ghost room: { HasCommitRoom standing.session log.log.ended log.spare },
 }
 
 impl<L: Disk> Life<L> {
@@ -31,7 +41,13 @@ impl<L: Disk> Life<L> {
         operators: &Operators,
         command: &Command,
         line: u64,
-    ) -> Result<Vec<u8>, Status> {
+    ) -> Result<Vec<u8>, Status>
+        requires { IsNoStop command.now }
+        ensures ok { IfOk result (λ lines. (s : Stage) → In L.Disk self.old.log self.old.standing s → Adds L.tells (In L.Disk self.new.log self.new.standing) s command.now lines.items) }
+        ensures err { IfErr result (λ status. (s : Stage) → In L.Disk self.old.log self.old.standing s → RefusesAt L.Disk self.new.log.log.device s command.now line status) }
+        ensures cause { IfErr result (LogCause (L.own self.old.log.log.device) (L.own self.new.log.log.device)) }
+        ensures later { L.own self.old.log.log.device ≤ L.own self.new.log.log.device }
+    {
         match command {
             Command::Nothing => Ok(Vec::new(alloc)),
             Command::Begin(name) => self.begin(alloc, name, line),
@@ -43,7 +59,12 @@ impl<L: Disk> Life<L> {
         }
     }
 
-    fn begin(&mut self, alloc: Global, name: &Name, line: u64) -> Result<Vec<u8>, Status> {
+    fn begin(&mut self, alloc: Global, name: &Name, line: u64) -> Result<Vec<u8>, Status>
+        ensures ok { IfOk result (λ lines. (s : Stage) → In L.Disk self.old.log self.old.standing s → Adds L.tells (In L.Disk self.new.log self.new.standing) s (commands.Begin name.now) lines.items) }
+        ensures err { IfErr result (λ status. (s : Stage) → In L.Disk self.old.log self.old.standing s → RefusesAt L.Disk self.new.log.log.device s (commands.Begin name.now) line status) }
+        ensures cause { IfErr result (LogCause (L.own self.old.log.log.device) (L.own self.new.log.log.device)) }
+        ensures later { L.own self.old.log.log.device ≤ L.own self.new.log.log.device }
+    {
         if self.standing.is_active(name) {
             return Err(Status::Script { line });
         }
@@ -76,7 +97,12 @@ impl<L: Disk> Life<L> {
         name: &Name,
         request: &Request,
         line: u64,
-    ) -> Result<Vec<u8>, Status> {
+    ) -> Result<Vec<u8>, Status>
+        ensures ok { IfOk result (λ lines. (s : Stage) → In L.Disk self.old.log self.old.standing s → Adds L.tells (In L.Disk self.new.log self.new.standing) s (commands.Ask name.now request.now) lines.items) }
+        ensures err { IfErr result (λ status. (s : Stage) → In L.Disk self.old.log self.old.standing s → RefusesAt L.Disk self.new.log.log.device s (commands.Ask name.now request.now) line status) }
+        ensures cause { IfErr result (LogCause (L.own self.old.log.log.device) (L.own self.new.log.log.device)) }
+        ensures later { L.own self.old.log.log.device ≤ L.own self.new.log.log.device }
+    {
         if !self.standing.is_active(name) {
             return Err(Status::Script { line });
         }
@@ -89,7 +115,11 @@ impl<L: Disk> Life<L> {
         }
     }
 
-    fn get(&self, alloc: Global, name: &Name, key: &Key) -> Result<Vec<u8>, Status> {
+    fn get(&self, alloc: Global, name: &Name, key: &Key) -> Result<Vec<u8>, Status>
+        requires { is_active self.now.standing.session name.now ≡ true }
+        ensures ok { IfOk result (λ lines. (s : Stage) → In L.Disk self.now.log self.now.standing s → Adds L.tells (In L.Disk self.now.log self.now.standing) s (commands.Ask name.now (requests.Get key.now)) lines.items) }
+        ensures memory { IfErr result (λ status. status ≡ Status.Memory) }
+    {
         match self.log.ended() {
             Some(at) => return printed(print::get_ended(alloc, name, key, at)),
             None => {}
@@ -106,7 +136,13 @@ impl<L: Disk> Life<L> {
         key: &Key,
         value: &Value,
         line: u64,
-    ) -> Result<Vec<u8>, Status> {
+    ) -> Result<Vec<u8>, Status>
+        requires { is_active self.old.standing.session name.now ≡ true }
+        ensures ok { IfOk result (λ lines. (s : Stage) → In L.Disk self.old.log self.old.standing s → Adds L.tells (In L.Disk self.new.log self.new.standing) s (commands.Ask name.now (requests.Put key.now value.now)) lines.items) }
+        ensures err { IfErr result (λ status. (s : Stage) → In L.Disk self.old.log self.old.standing s → RefusesAt L.Disk self.new.log.log.device s (commands.Ask name.now (requests.Put key.now value.now)) line status) }
+        ensures cause { IfErr result (LogCause (L.own self.old.log.log.device) (L.own self.new.log.log.device)) }
+        ensures later { L.own self.old.log.log.device ≤ L.own self.new.log.log.device }
+    {
         match self.log.ended() {
             Some(at) => return printed(print::put_ended(alloc, name, key, at)),
             None => {}
@@ -126,7 +162,12 @@ impl<L: Disk> Life<L> {
         key: &Key,
         value: &Value,
         line: u64,
-    ) -> Result<Vec<u8>, Status> {
+    ) -> Result<Vec<u8>, Status>
+        ensures ok { IfOk result (λ lines. (s : Stage) → In L.Disk self.old.log self.old.standing s → Adds L.tells (In L.Disk self.new.log self.new.standing) s (commands.Ask name.now (requests.Put key.now value.now)) lines.items) }
+        ensures err { IfErr result (λ status. (s : Stage) → In L.Disk self.old.log self.old.standing s → RefusesAt L.Disk self.new.log.log.device s (commands.Ask name.now (requests.Put key.now value.now)) line status) }
+        ensures cause { IfErr result (LogCause (L.own self.old.log.log.device) (L.own self.new.log.log.device)) }
+        ensures later { L.own self.old.log.log.device ≤ L.own self.new.log.log.device }
+    {
         if self.log.last() >= LIMIT - 1 {
             return Err(Status::Memory);
         }
@@ -150,7 +191,12 @@ impl<L: Disk> Life<L> {
         }
     }
 
-    fn commit(&mut self, alloc: Global, name: &Name, line: u64) -> Result<Vec<u8>, Status> {
+    fn commit(&mut self, alloc: Global, name: &Name, line: u64) -> Result<Vec<u8>, Status>
+        ensures ok { IfOk result (λ lines. (s : Stage) → In L.Disk self.old.log self.old.standing s → Adds L.tells (In L.Disk self.new.log self.new.standing) s (commands.Commit name.now) lines.items) }
+        ensures err { IfErr result (λ status. (s : Stage) → In L.Disk self.old.log self.old.standing s → RefusesAt L.Disk self.new.log.log.device s (commands.Commit name.now) line status) }
+        ensures cause { IfErr result (LogCause (L.own self.old.log.log.device) (L.own self.new.log.log.device)) }
+        ensures later { L.own self.old.log.log.device ≤ L.own self.new.log.log.device }
+    {
         if !self.standing.is_active(name) {
             return Err(Status::Script { line });
         }
@@ -203,7 +249,12 @@ impl<L: Disk> Life<L> {
         device: Device,
         calls: u64,
         line: u64,
-    ) -> Result<Vec<u8>, Status> {
+    ) -> Result<Vec<u8>, Status>
+        ensures ok { IfOk result (λ lines. (s : Stage) → In L.Disk self.old.log self.old.standing s → Adds L.tells (In L.Disk self.new.log self.new.standing) s (commands.Fuse device calls) lines.items) }
+        ensures err { IfErr result (λ status. (s : Stage) → In L.Disk self.old.log self.old.standing s → RefusesAt L.Disk self.new.log.log.device s (commands.Fuse device calls) line status) }
+        ensures cause { IfErr result (LogCause (L.own self.old.log.log.device) (L.own self.new.log.log.device)) }
+        ensures later { L.own self.old.log.log.device ≤ L.own self.new.log.log.device }
+    {
         if device != Device::Log {
             return Err(Status::NotBuilt { line });
         }
@@ -215,7 +266,12 @@ impl<L: Disk> Life<L> {
         Ok(out)
     }
 
-    fn renew(&mut self, alloc: Global, device: Device, line: u64) -> Result<Vec<u8>, Status> {
+    fn renew(&mut self, alloc: Global, device: Device, line: u64) -> Result<Vec<u8>, Status>
+        ensures ok { IfOk result (λ lines. (s : Stage) → In L.Disk self.old.log self.old.standing s → Adds L.tells (In L.Disk self.new.log self.new.standing) s (commands.Renew device) lines.items) }
+        ensures err { IfErr result (λ status. (s : Stage) → In L.Disk self.old.log self.old.standing s → RefusesAt L.Disk self.new.log.log.device s (commands.Renew device) line status) }
+        ensures cause { IfErr result (LogCause (L.own self.old.log.log.device) (L.own self.new.log.log.device)) }
+        ensures later { L.own self.old.log.log.device ≤ L.own self.new.log.log.device }
+    {
         if device != Device::Log {
             return Err(Status::NotBuilt { line });
         }
@@ -229,7 +285,10 @@ impl<L: Disk> Life<L> {
 }
 
 /// Lines for which there was memory, or not.
-fn printed(lines: Result<Vec<u8>, AllocError>) -> Result<Vec<u8>, Status> {
+fn printed(lines: Result<Vec<u8>, AllocError>) -> Result<Vec<u8>, Status>
+    ensures lines { (P : List ℕ → Type 0) → IfOk lines (λ out. P out.items) → IfOk result (λ out. P out.items) }
+    ensures memory { IfErr result (λ status. status ≡ Status.Memory) }
+{
     match lines {
         Ok(lines) => Ok(lines),
         Err(_) => Err(Status::Memory),

@@ -1,4 +1,13 @@
 //! Opening a life, and making the log that a life can open.
+ghost use Rattle.std.specs.Prelude.{◌≡◌, ◌≤◌, ℕ, None, true, IsTrue, IfOk, IfErr, MatchResult};
+ghost use Rattle.media.specs.Counted.{Blames};
+ghost use Rattle.log_blocks.specs.Opening.{RoseFor};
+ghost use Rattle.wal_record.specs.Rules.{is_limit};
+ghost use Rattle.wal_record.specs.Checkpoints.{commits};
+ghost use Rattle.runner.specs.Causes.{Shows};
+ghost use Rattle.runner.specs.Openings.{Makes, IsMade, IsNotMade, IsBegun, IsNotBegun};
+ghost use Rattle.runner.specs.declared.status.Status.TheVariants as statuses;
+
 use crate::life::Life;
 use crate::standing::Standing;
 use crate::status::Status;
@@ -20,7 +29,13 @@ pub struct NotOpened<L> {
 }
 
 /// Makes the log of a store with this room on a disk whose log is empty.
-pub fn make_log<L: Disk>(alloc: Global, disk: L, limit: u32) -> Result<L, NotOpened<L>> {
+pub fn make_log<L: Disk>(alloc: Global, disk: L, limit: u32) -> Result<L, NotOpened<L>>
+    requires { IsTrue (is_limit limit) }
+    ensures made { IfOk result (λ left. Makes L.Disk disk (IsMade L.Disk limit left)) }
+    ensures not { IfErr result (λ r. IsNotMade L.Disk limit disk r.disk r.status) }
+    ensures shows { IfErr result (λ r. Shows L.Disk r.disk r.status) }
+    ensures fuse { MatchResult result (λ left. Blames L.passes L.refused L.own disk left ⊥) (λ r. Blames L.passes L.refused L.own disk r.disk (r.status ≡ statuses.LogFault)) }
+{
     let log = match open_log(alloc, disk) {
         Ok(log) => log,
         Err(refused) => return Err(NotOpened {
@@ -77,7 +92,12 @@ pub fn open<L: Disk>(
     operators: &Operators,
     disk: L,
     line: u64,
-) -> Result<Life<L>, NotOpened<L>> {
+) -> Result<Life<L>, NotOpened<L>>
+    ensures begun { IfOk result (λ life. Makes L.Disk disk (IsBegun L.Disk life.log life.standing)) }
+    ensures first { IfOk result (λ life. (life.standing.session ≡ None) × (life.log.log.ended ≡ None)) }
+    ensures not { IfErr result (λ r. IsNotBegun L.Disk line disk r.disk r.status) }
+    ensures fuse { MatchResult result (λ life. Blames L.passes L.refused L.own disk life.log.log.device ⊥) (λ r. Blames L.passes L.refused L.own disk r.disk (r.status ≡ statuses.LogFault)) }
+{
     let mut log = match open_log(alloc, disk) {
         Ok(log) => log,
         Err(refused) => return Err(NotOpened {

@@ -1,4 +1,13 @@
 //! Commands where no life is open.
+ghost use Rattle.std.specs.Prelude.{◌≡◌, ◌≤◌, ◌<◌, ◌^◌, ℕ, codes, None, IfOk, IfErr};
+ghost use Rattle.media.specs.Crash.{Only};
+ghost use Rattle.wal_record.specs.Rules.{is_limit};
+ghost use Rattle.runner.specs.Causes.{SteppedCause};
+ghost use Rattle.runner.specs.Turns.{Stage};
+ghost use Rattle.runner.specs.declared.status.Status.{Status};
+ghost use Rattle.runner.specs.Machine.{Out, In, Safe, Steps, Refuses};
+ghost use Rattle.script.specs.declared.command.Command.TheVariants as commands;
+
 use crate::at::{At, Stepped};
 use crate::life::Life;
 use crate::opening::{NotOpened, make_log, open};
@@ -22,15 +31,18 @@ pub fn step<L: Disk>(
     disk: L,
     command: &Command,
     line: u64,
-) -> Stepped<L, Life<L>> {
+) -> Stepped<L, Life<L>>
+    ensures turns { (s : Stage) → Out L.Disk disk s → Steps L.Disk (λ life. In L.Disk life.log life.standing) s command.now line result }
+    ensures cause { SteppedCause L.Disk (λ life. life.log.log.device) disk result }
+{
     match command {
         Command::Nothing => Stepped::Goes {
             lines: Vec::new(alloc),
             at: At::Outside { disk },
         },
-        Command::Format { limit } => format(alloc, disk, limit.unwrap_or(ROOM)),
+        Command::Format { limit } => format(alloc, disk, *limit, line),
         Command::Open => opens(alloc, operators, disk, line),
-        Command::Stop { keep } => stop(alloc, disk, *keep),
+        Command::Stop { keep } => stop(alloc, disk, *keep, line),
         Command::Fuse { device, calls } => fuse(alloc, disk, *device, *calls, line),
         Command::Renew { device } => renew(alloc, disk, *device, line),
         _ => Stepped::Ends {
@@ -41,7 +53,17 @@ pub fn step<L: Disk>(
 }
 
 /// Makes the log of a disk that has none.
-fn format<L: Disk>(alloc: Global, disk: L, limit: u32) -> Stepped<L, Life<L>> {
+fn format<L: Disk>(alloc: Global, disk: L, limit: Option<u32>, line: u64) -> Stepped<L, Life<L>>
+    ensures turns { (s : Stage) → Out L.Disk disk s → Steps L.Disk (λ life. In L.Disk life.log life.standing) s (commands.Format limit) line result }
+    ensures cause { SteppedCause L.Disk (λ life. life.log.log.device) disk result }
+{
+    let room = limit.unwrap_or(ROOM);
+    if !is_room(room) {
+        return Stepped::Ends {
+            status: Status::Script { line },
+            disk,
+        };
+    }
     let refused = disk.refused();
     if refused >= MOST {
         return Stepped::Ends {
@@ -49,26 +71,37 @@ fn format<L: Disk>(alloc: Global, disk: L, limit: u32) -> Stepped<L, Life<L>> {
             disk,
         };
     }
-    let lines = match print::format_line(alloc) {
+    let (lines, failed) = match format_lines(alloc) {
         Ok(lines) => lines,
-        Err(_) => return Stepped::Ends {
-            status: Status::Memory,
-            disk,
-        },
+        Err(status) => return Stepped::Ends { status, disk },
     };
-    let failed = match print::format_failed(alloc) {
-        Ok(failed) => failed,
-        Err(_) => return Stepped::Ends {
-            status: Status::Memory,
-            disk,
-        },
-    };
-    match make_log(alloc, disk, limit) {
+    match make_log(alloc, disk, room) {
         Ok(disk) => Stepped::Goes {
             lines,
             at: At::Outside { disk },
         },
         Err(not) => refuse(not, refused, failed),
+    }
+}
+
+/// Whether a store may have this room.
+fn is_room(room: u32) -> bool
+    ensures { result ≡ is_limit room }
+{
+    8 <= room && room <= ROOM
+}
+
+/// The line of a format, and the one of a format that failed.
+fn format_lines(alloc: Global) -> Result<(Vec<u8>, Vec<u8>), Status>
+    ensures lines { IfOk result (λ r. (r.0.items ≡ codes "format ok\n") × (r.1.items ≡ codes "format log failed\n")) }
+    ensures memory { IfErr result (λ status. status ≡ Status.Memory) }
+{
+    match print::format_line(alloc) {
+        Ok(lines) => match print::format_failed(alloc) {
+            Ok(failed) => Ok((lines, failed)),
+            Err(_) => Err(Status::Memory),
+        },
+        Err(_) => Err(Status::Memory),
     }
 }
 
@@ -78,7 +111,10 @@ fn opens<L: Disk>(
     operators: &Operators,
     disk: L,
     line: u64,
-) -> Stepped<L, Life<L>> {
+) -> Stepped<L, Life<L>>
+    ensures turns { (s : Stage) → Out L.Disk disk s → Steps L.Disk (λ life. In L.Disk life.log life.standing) s commands.Open line result }
+    ensures cause { SteppedCause L.Disk (λ life. life.log.log.device) disk result }
+{
     let refused = disk.refused();
     if refused >= MOST {
         return Stepped::Ends {
@@ -110,7 +146,10 @@ fn opens<L: Disk>(
 
 /// A log that isn't made or opened: a line, where the disk's fuse refused a call, else the end of the run. So many calls
 /// had been refused before.
-fn refuse<L: Disk>(not: NotOpened<L>, before: u64, failed: Vec<u8>) -> Stepped<L, Life<L>> {
+fn refuse<L: Disk>(not: NotOpened<L>, before: u64, failed: Vec<u8>) -> Stepped<L, Life<L>>
+    requires { before < 2 ^ 62 }
+    ensures { Refuses L.Disk not.disk not.status before failed.items result }
+{
     match not.status {
         Status::LogFault => {
             if not.disk.refused() > before {
@@ -132,18 +171,18 @@ fn refuse<L: Disk>(not: NotOpened<L>, before: u64, failed: Vec<u8>) -> Stepped<L
     }
 }
 
-/// The machine stops and starts, and the disk's fuse is renewed.
-pub fn stop<L: Disk>(alloc: Global, disk: L, keep: Option<u64>) -> Stepped<L, Life<L>> {
-    let mut disk = disk;
+/// The machine stops, and the disk's fuse is renewed.
+pub fn stop<L: Disk>(alloc: Global, disk: L, keep: Option<u64>, line: u64) -> Stepped<L, Life<L>>
+    ensures turns { (s : Stage) → Safe L.Disk disk s → Steps L.Disk (λ life. In L.Disk life.log life.standing) s (commands.Stop keep) line result }
+    ensures cause { SteppedCause L.Disk (λ life. life.log.log.device) disk result }
+{
     match print::stop_line(alloc) {
-        Ok(lines) => {
-            disk.power_cycle(keep.unwrap_or(0));
-            disk.fuse(None);
-            Stepped::Goes {
-                lines,
-                at: At::Outside { disk },
-            }
-        }
+        Ok(lines) => Stepped::Goes {
+            lines,
+            at: At::Outside {
+                disk: cycled(disk, keep.unwrap_or(0)),
+            },
+        },
         Err(_) => Stepped::Ends {
             status: Status::Memory,
             disk,
@@ -151,13 +190,30 @@ pub fn stop<L: Disk>(alloc: Global, disk: L, keep: Option<u64>) -> Stepped<L, Li
     }
 }
 
+/// The disk after a stop of the machine, with its fuse renewed.
+fn cycled<L: Disk>(disk: L, keep: u64) -> L
+    ensures left { L.tells → L.may_leave disk (L.told result) }
+    ensures durable { L.tells → Only (L.told result) (L.may_leave result) }
+    ensures fuse { L.fuses → L.passes result ≡ None }
+    ensures later { L.own disk ≤ L.own result }
+{
+    let mut disk = disk;
+    disk.power_cycle(keep);
+    disk.fuse(None);
+    disk
+}
+
+/// Arms the disk's fuse.
 fn fuse<L: Disk>(
     alloc: Global,
     disk: L,
     device: Device,
     calls: u64,
     line: u64,
-) -> Stepped<L, Life<L>> {
+) -> Stepped<L, Life<L>>
+    ensures turns { (s : Stage) → Out L.Disk disk s → Steps L.Disk (λ life. In L.Disk life.log life.standing) s (commands.Fuse device calls) line result }
+    ensures cause { SteppedCause L.Disk (λ life. life.log.log.device) disk result }
+{
     let mut disk = disk;
     if device != Device::Log {
         return Stepped::Ends {
@@ -180,7 +236,11 @@ fn fuse<L: Disk>(
     }
 }
 
-fn renew<L: Disk>(alloc: Global, disk: L, device: Device, line: u64) -> Stepped<L, Life<L>> {
+/// Renews the disk's fuse.
+fn renew<L: Disk>(alloc: Global, disk: L, device: Device, line: u64) -> Stepped<L, Life<L>>
+    ensures turns { (s : Stage) → Out L.Disk disk s → Steps L.Disk (λ life. In L.Disk life.log life.standing) s (commands.Renew device) line result }
+    ensures cause { SteppedCause L.Disk (λ life. life.log.log.device) disk result }
+{
     let mut disk = disk;
     if device != Device::Log {
         return Stepped::Ends {

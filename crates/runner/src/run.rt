@@ -1,4 +1,17 @@
 //! A whole run.
+ghost use Rattle.std.specs.Prelude.{◌≡◌, ◌≢◌, ◌≤◌, ◌↔◌, ℕ, List, Option, map, true, false, IfErr};
+ghost use Rattle.media.specs.Cause.{Rose};
+
+ghost use Rattle.wal_record.specs.declared.record.Record.{Record};
+ghost use Rattle.log_replay.specs.Standing.{DevicesStandFor};
+ghost use Rattle.runner.specs.Lines.{to_come, IsBounded};
+ghost use Rattle.runner.specs.Turns.{Turn, begin_stage};
+ghost use Rattle.runner.specs.Machine.{Out, In, IsAt};
+ghost use Rattle.runner.specs.Clause.{Between, Headline, TakesCommand, TurnedTo, LivedTo};
+ghost use Rattle.runner.specs.Causes.{LineCause, RunCause, TurnedCause, LivedCause, Shows, IsAsked, IsCycled, disk_at};
+ghost use Rattle.runner.specs.Usage.{is_call};
+ghost use Rattle.runner.specs.declared.status.Status.TheVariants as statuses;
+
 use crate::at::{At, Stepped, disk_of, step};
 use crate::built::is_built;
 use crate::input::{Input, Next};
@@ -19,7 +32,35 @@ pub fn run_words<S: Source, K: Sink, L: Disk, P: PageDevice, V: Vault>(
     sink: &mut K,
     devices: Devices<L, P, V>,
     operators: &Operators,
-) -> (Status, Devices<L, P, V>) {
+) -> (Status, Devices<L, P, V>)
+    // Of every log for which the devices stand: there are turns whose commands are those of the lines read; each fits
+    // behind those before it, and each life opens a log that the stop before may have left, or that was handed in or
+    // made; their text is what was written; and each life of theirs is legal, has the replies of a serial run, and
+    // whatever a stop may leave of it has its first transactions. The log disk that is handed back keeps a log that may
+    // be found next, also after any crash. What the reader has read and given to no line yet is still pending; at most
+    // the longest script is read, and one byte more.
+    ensures headline { (log : List Record) → (L.tells → DevicesStandFor L.told L.may_leave devices.log log)
+        → (pending : List ℕ) × Headline L.Disk log result.1.log (S.left source.old) pending (S.left source.new) (K.told sink.old) (K.told sink.new) result.0 }
+
+    // Where the words are a call, the devices stand for a log, and no device failed, the run is done, the script asked
+    // for its end, or memory ran out.
+    ensures complete { is_call (map (λ word. word.bytes.items) words.now) ≡ true → L.tells → (log : List Record) → DevicesStandFor L.told L.may_leave devices.log log
+        → (Rose (S.faults source.old) (S.faults source.new) → ⊥) → (Rose (K.faults sink.old) (K.faults sink.new) → ⊥) → (Rose (L.faults devices.log) (L.faults result.1.log) → ⊥) → IsAsked result.0 }
+
+    // The words decide alone whether they are a call.
+    ensures usage { (result.0 ≡ statuses.Usage) ↔ (is_call (map (λ word. word.bytes.items) words.now) ≡ false) }
+
+    // A device's fault ends the run only where that device's own count of faults rose in this call.
+    ensures source { result.0 ≡ statuses.SourceFault → Rose (S.faults source.old) (S.faults source.new) }
+    ensures sink { result.0 ≡ statuses.SinkFault → Rose (K.faults sink.old) (K.faults sink.new) }
+    ensures log { result.0 ≡ statuses.LogFault → Rose (L.faults devices.log) (L.faults result.1.log) }
+    ensures later { L.faults devices.log ≤ L.faults result.1.log }
+    ensures shows { Shows L.Disk result.1.log result.0 }
+
+    // The data device is as it was; the vault too, but for stops of the machine.
+    ensures pages { result.1.pages ≡ devices.pages }
+    ensures vault { IsCycled V.tells V.told V.faults devices.vault result.1.vault }
+{
     if !is_call(words) {
         return (Status::Usage, devices);
     }
@@ -57,7 +98,15 @@ fn run<S: Source, K: Sink, V: Vault, L: Disk>(
     sink: &mut K,
     vault: &mut V,
     disk: L,
-) -> (Status, L) {
+) -> (Status, L)
+    requires { (input.old.lines ≡ 0) × (input.old.taken ≡ 0) × IsBounded input.old }
+    ensures headline { (log : List Record) → Out L.Disk disk (begin_stage log) → Headline L.Disk log result.1 (to_come input.old (S.left source.old)) input.new.pending (S.left source.new) (K.told sink.old) (K.told sink.new) result.0 }
+    ensures later { (S.faults source.old ≤ S.faults source.new) × (K.faults sink.old ≤ K.faults sink.new) × (L.own disk ≤ L.own result.1) }
+    ensures cause { RunCause (S.faults source.old) (S.faults source.new) (K.faults sink.old) (K.faults sink.new) (L.own disk) (L.own result.1) result.0 }
+    ensures shows { Shows L.Disk result.1 result.0 }
+    ensures called { result.0 ≢ statuses.Usage }
+    ensures vault { IsCycled V.tells V.told V.faults vault.old vault.new }
+{
     let mut disk = disk;
     for _ in 0..u64::MAX {
         match turn(alloc, operators, input, source, sink, vault, At::Outside { disk }) {
@@ -90,7 +139,13 @@ fn run_life<S: Source, K: Sink, V: Vault, L: Disk>(
     sink: &mut K,
     vault: &mut V,
     life: Life<L>,
-) -> Lived<L> {
+) -> Lived<L>
+    ensures turns { (log : List Record) (left told : Option (List ℕ)) (turns : List Turn) → Between L.tells log (In L.Disk life.log life.standing) left told input.old turns (S.left source.old) (K.told sink.old)
+        → LivedTo L.Disk log left told input.new (S.left source.new) (K.told sink.new) result }
+    ensures later { (S.faults source.old ≤ S.faults source.new) × (K.faults sink.old ≤ K.faults sink.new) }
+    ensures cause { LivedCause L.Disk life.log.log.device (S.faults source.old) (S.faults source.new) (K.faults sink.old) (K.faults sink.new) result }
+    ensures vault { IsCycled V.tells V.told V.faults vault.old vault.new }
+{
     let mut life = life;
     for _ in 0..u64::MAX {
         match turn(alloc, operators, input, source, sink, vault, At::Inside { life }) {
@@ -123,7 +178,13 @@ fn turn<S: Source, K: Sink, V: Vault, L: Disk>(
     sink: &mut K,
     vault: &mut V,
     at: At<L, Life<L>>,
-) -> Turned<L, Life<L>> {
+) -> Turned<L, Life<L>>
+    ensures turns { (log : List Record) (left told : Option (List ℕ)) (turns : List Turn) → Between L.tells log (IsAt L.Disk (λ life. In L.Disk life.log life.standing) at) left told input.old turns (S.left source.old) (K.told sink.old)
+        → TurnedTo L.Disk log (λ life. In L.Disk life.log life.standing) left told input.new turns (S.left source.new) (K.told sink.new) result }
+    ensures later { (S.faults source.old ≤ S.faults source.new) × (K.faults sink.old ≤ K.faults sink.new) }
+    ensures cause { TurnedCause L.Disk (λ life. life.log.log.device) (disk_at (λ life. life.log.log.device) at) (S.faults source.old) (S.faults source.new) (K.faults sink.old) (K.faults sink.new) result }
+    ensures vault { IsCycled V.tells V.told V.faults vault.old vault.new }
+{
     let next = match next_command(alloc, input, source) {
         Ok(next) => next,
         Err(status) => return Turned::Ends {
@@ -152,7 +213,9 @@ fn turn<S: Source, K: Sink, V: Vault, L: Disk>(
 }
 
 /// A stop is one of the vault too.
-fn cycle<V: Vault>(vault: &mut V, command: &Command) {
+fn cycle<V: Vault>(vault: &mut V, command: &Command)
+    ensures { IsCycled V.tells V.told V.faults vault.old vault.new }
+{
     match command {
         Command::Stop { keep: _ } => vault.power_cycle(),
         _ => {}

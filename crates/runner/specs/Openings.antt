@@ -1,0 +1,44 @@
+-- Openings and formats of a disk that keeps a log that may be found.
+use Rattle.std.specs.Prelude.{◌≡◌, ℕ, List, [], length, Option, None}
+use Rattle.media.specs.declared.disk.Disk.{Ghosts}
+use Rattle.log_manager.specs.Managed.{Managed}
+use Rattle.wal_record.specs.declared.record.Record.{Record}
+use Rattle.runner.specs.declared.session.Session.{Session}
+use Rattle.runner.specs.declared.standing.Standing.{Standing}
+use Rattle.runner.specs.declared.status.Status.{Status}
+use Rattle.runner.specs.declared.status.Status.TheVariants as statuses
+use Rattle.runner.specs.LogDisk.{Keeps, HoldsOne}
+use Rattle.runner.specs.Machine.{IsCalm}
+use Rattle.runner.specs.Refusals.{FindsLog, FindsUnbuilt}
+use Rattle.runner.specs.Turns.{Last, Formatted, Unformatted, MayFind}
+
+-- what was so of the disk before, where it tells, is this now
+abbrev pub Makes : {D : Type 0} → Ghosts D → D → (Last → Type 0) → Type 0
+Makes L disk Q = L.tells → (last : Last) → Keeps L (HoldsOne last) disk → Q last
+
+-- a log is made where none was
+pub record IsMade {D : Type 0} (L : Ghosts D) (limit : ℕ) (left : D) (last : Last) : Type 0 where
+  pub none : MayFind last []
+  pub keeps : Keeps L (HoldsOne (Formatted limit)) left
+
+-- why a log isn't made
+abbrev pub IsNotMade : {D : Type 0} → Ghosts D → ℕ → D → D → Status → Type 0
+IsNotMade L limit disk left statuses.Memory = Makes L disk (λ last. Keeps L (HoldsOne last) left)
+IsNotMade L limit disk left statuses.LogFault = Makes L disk (λ last. Keeps L (HoldsOne (Unformatted last limit)) left)
+IsNotMade L limit disk left statuses.AlreadyFormatted = Makes L disk (λ last. FindsLog last × Keeps L (HoldsOne last) left)
+IsNotMade L limit disk left _ = ⊥
+
+-- a life begins on a log that may be found
+pub record IsBegun {D : Type 0} (L : Ghosts D) (log : Managed D) (standing : Standing) (last : Last) : Type 0 where
+  pub opening : List Record
+  pub found : MayFind last opening
+  pub calm : IsCalm L log standing (record { opening = opening; history = [] }) (length opening)
+
+-- why no life begins, in the line that asks for it
+abbrev pub IsNotBegun : {D : Type 0} → Ghosts D → ℕ → D → D → Status → Type 0
+IsNotBegun L line disk left statuses.Memory = Makes L disk (λ last. Keeps L (HoldsOne last) left)
+IsNotBegun L line disk left statuses.LogFault = Makes L disk (λ last. Keeps L (HoldsOne last) left)
+IsNotBegun L line disk left (statuses.LogBad block byte) = Makes L disk (λ last. ⊥)
+IsNotBegun L line disk left statuses.NotFormatted = Makes L disk (λ last. MayFind last [] × Keeps L (HoldsOne last) left)
+IsNotBegun L line disk left (statuses.NotBuilt n) = (n ≡ line) × Makes L disk (λ last. FindsUnbuilt L left last × Keeps L (HoldsOne last) left)
+IsNotBegun L line disk left _ = ⊥
