@@ -1,9 +1,1 @@
-pub mod Blocks
-pub mod Causes
-pub mod Commands
-pub mod Disks
 pub mod Reading
-pub mod Replays
-pub mod Rows
-pub mod Runs
-pub mod Turning

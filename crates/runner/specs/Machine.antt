@@ -3,7 +3,8 @@ use Rattle.std.specs.Prelude.{◌≡◌, ◌+◌, ◌<◌, ◌≤◌, ℕ, List,
 use Rattle.std.specs.List.{All, list_any}
 use Rattle.media.specs.declared.disk.Disk.{Ghosts}
 use Rattle.log_manager.specs.Managed.{Managed}
-use Rattle.log_manager.specs.Records.{IsLogOf, lsn_from}
+use Rattle.log_blocks.specs.declared.header.Place.{Place}
+use Rattle.log_manager.specs.Records.{IsLogOf}
 use Rattle.wal_record.specs.Checkpoints.{limit_of, commits}
 use Rattle.wal_record.specs.History.{log_of, life_log}
 use Rattle.wal_record.specs.declared.record.Record.{Record}
@@ -26,6 +27,10 @@ use Rattle.runner.specs.LogDisk.{Keeps, HoldsOne, Leaves}
 use Rattle.runner.specs.Refusals.{RefusesAt}
 use Rattle.runner.specs.Text.{lines}
 use Rattle.runner.specs.Turns.{Turn, Life, Active, Stage, Left, stage_step, FitsAt, IsRightLife, lives}
+
+abbrev pub lsn_from : List Place → ℕ
+lsn_from [] = 1
+lsn_from (p ∷ ps) = p.first
 
 abbrev pub actives : Option Session → List Active
 actives None = []
