@@ -2,7 +2,7 @@
 use Rattle.std.proofs.Common.{◌≡◌, ℕ, ◌+◌, ◌<◌, ◌≤◌, List, [], ◌∷◌, ◌++◌, length, get_or, take, drop, refl, sym, ◌∙◌, ap, subst, inr, arith, append_assoc, length-append, take-append-drop}
 use Rattle.std.proofs.lemmas.List.{take_more}
 use Rattle.media.specs.Kept.{Kept}
-use Rattle.log_blocks.specs.Log.{Block, body, blocks, laid, IsRun, IsSequence, Behind, StandsFor, StandsForSome, open_gate}
+use Rattle.log_blocks.specs.Log.{Block, body, blocks, laid, IsRun, IsSequence, Behind, StandsFor, StandsForMore, StandsForSome, open_gate}
 
 pub blocks-append : (xs ys : List Block) → blocks (xs ++ ys) ≡ blocks xs ++ blocks ys
 blocks-append [] ys = refl
@@ -59,3 +59,7 @@ stands start bs c b s = record {
 pub stands_for_some : (start : ℕ) (bs pending : List Block) (i : ℕ) (c : Kept) → Behind start (blocks (bs ++ take i pending)) c
     → IsSequence start (bs ++ pending) → i ≤ length pending → StandsForSome bs pending c
 stands_for_some start bs pending i c b s le = record { whole = i; within = le; stands = stands start (bs ++ take i pending) c b (sequence_part start bs pending i s) }
+
+pub stands_for_more : (start : ℕ) (bs pending : List Block) (least i : ℕ) (c : Kept) → Behind start (blocks (bs ++ take i pending)) c
+    → IsSequence start (bs ++ pending) → least ≤ i → i ≤ length pending → StandsForMore bs pending least c
+stands_for_more start bs pending least i c b s from le = record { whole = i; no_fewer = from; within = le; stands = stands start (bs ++ take i pending) c b (sequence_part start bs pending i s) }

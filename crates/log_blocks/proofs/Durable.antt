@@ -8,8 +8,9 @@ use Rattle.media.specs.Kept.{Kept, without, bytes_at}
 use Rattle.log_blocks.specs.declared.header.Place.{Place}
 use Rattle.log_blocks.specs.Log.{Block, body, header, blocks, open_gate, IsSequence, IsRun, first_lsn, Behind, StandsFor}
 use Rattle.log_blocks.specs.LogState.{LogState, IsDurable, payload_at}
-use Rattle.log_blocks.specs.Opening.{Progress, IsChain, places}
+use Rattle.log_blocks.specs.Opening.{FlushLeaves, Progress, IsChain, places}
 use Rattle.log_blocks.proofs.BlockLists.{blocks-append}
+use Rattle.log_blocks.proofs.FirstGate.{more_none}
 use Rattle.log_blocks.proofs.Progressing.{length-places}
 use Rattle.log_blocks.proofs.Whole.{places-append, chain_append, chain_places}
 
@@ -34,6 +35,16 @@ durable_more told may_leave old new bs d stood only start p none =
           ∙ ap (λ n. places from bs ++ places n old.pending) d.gate_is ∙ sym (places-append from bs old.pending) ∙ ap (λ n. places n (bs ++ old.pending)) (sym start);
       gate_is = omega (arith, p.gate_is, ap (λ (l : List Block). length (blocks l)) all, d.gate_is, start, ap length (blocks-append bs old.pending), length-append (blocks bs) (blocks old.pending));
     }
+
+-- nothing has been written
+pub not_flushed : {D : Type 0} (told : D → Kept) (may_leave : D → Kept → Type 0) (log : LogState D) (bs : List Block) → IsDurable told may_leave log bs → FlushLeaves told may_leave bs log.pending log.pending log.device
+not_flushed told may_leave log bs d = record {
+  done = 0;
+  within = omega arith;
+  rest_is = refl;
+  read = more_none bs log.pending (told log.device) d.stands;
+  crash = λ k may. more_none bs log.pending k (subst (StandsFor bs) (sym (d.only k may)) d.stands);
+}
 
 -- the place of block n
 pub place_at : (at : ℕ) (bs : List Block) (n : ℕ) (p : Place) → n < length bs → p ≡ get_or (places at bs) n p

@@ -2,7 +2,7 @@
 use Rattle.std.proofs.Common.{◌≡◌, inl, ⊎_elim, ℕ, ◌+◌, ◌-◌, ◌<◌, ◌≤◌, List, [], ◌∷◌, ◌++◌, length, take, drop, refl, sym, ◌∙◌, ap, subst, arith, length-append}
 use Rattle.std.proofs.lemmas.List.{drop_all, append-nil}
 use Rattle.media.specs.Kept.{Kept, Torn, written}
-use Rattle.log_blocks.specs.Log.{Block, Behind, StandsFor, StandsForSome, blocks}
+use Rattle.log_blocks.specs.Log.{Block, Behind, StandsFor, StandsForMore, StandsForSome, blocks}
 
 -- a short disk is an empty log
 pub short_is : (bs : List Block) (k : Kept) → StandsFor bs k → length k.bytes ≤ 1 → bs ≡ []
@@ -34,3 +34,6 @@ long_behind start bs k from long s = ⊎_elim (λ one. absurd (omega (arith, one
 
 pub some_none : (bs pending : List Block) (c : Kept) → StandsFor bs c → StandsForSome bs pending c
 some_none bs pending c s = record { whole = 0; within = omega arith; stands = subst (λ (l : List Block). StandsFor l c) (sym (append-nil bs)) s }
+
+pub more_none : (bs pending : List Block) (c : Kept) → StandsFor bs c → StandsForMore bs pending 0 c
+more_none bs pending c s = record { whole = 0; no_fewer = omega arith; within = omega arith; stands = subst (λ (l : List Block). StandsFor l c) (sym (append-nil bs)) s }

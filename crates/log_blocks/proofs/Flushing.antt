@@ -3,9 +3,9 @@ use Rattle.std.proofs.Common.{◌≡◌, ◌⊎◌, ⊎_elim, ℕ, ◌+◌, ◌<
 use Rattle.std.proofs.lemmas.List.{append-nil}
 use Rattle.media.specs.Kept.{Kept}
 use Rattle.media.specs.Crash.{Only, LeavesOnly}
-use Rattle.log_blocks.specs.Log.{Block, body, blocks, laid, IsSequence, Behind, StandsForSome, open_gate}
+use Rattle.log_blocks.specs.Log.{Block, body, blocks, laid, IsSequence, Behind, StandsForMore, StandsForSome, open_gate}
 use Rattle.log_blocks.proofs.Moments.{joined, started}
-use Rattle.log_blocks.proofs.BlockLists.{blocks-next, stands_for_some}
+use Rattle.log_blocks.proofs.BlockLists.{blocks-next, stands_for_more, stands_for_some}
 
 -- the gate lies behind the blocks
 pub record AtGate (gate start : ℕ) (bs : List Block) (k : Kept) : Type 0 where
@@ -46,6 +46,21 @@ module _ {D : Type 0} (tells : Type 0) (start len faults moment : D → ℕ) (to
       (subst (λ (l : List ℕ). Behind (start old) l c) (sym (blocks-next bs pending i b lt is)) (subst (λ n. Behind n (front ++ open_gate ∷ body b) c) e whole)) seq (omega arith))
       left)
 
+  -- what a disk keeps on which the next gate is closed, or the block behind it stands
+  pub one_more_left : (bytes : List ℕ) → bytes ≡ laid b → tells → (bs : List Block) → AtGate gate0 (start old) bs (told old) → IsSequence (start old) (bs ++ pending) → (k : Kept)
+      → ((front inner : List ℕ) → gate ≡ start now + length front → bytes ≡ inner ++ 0 ∷ [] → Behind (start now) front (told now)
+      → Behind (start now) front k ⊎ Behind (start now) (front ++ open_gate ∷ inner) k)
+      → StandsForMore bs pending i k
+  one_more_left bytes same t bs at seq k step =
+      let here = so_far.stands t bs at in
+      let front = blocks (bs ++ take i pending) in
+      let e = so_far.start_same in
+      ⊎_elim
+      (λ shut. stands_for_more (start old) bs pending i i k (subst (λ n. Behind n front k) e shut) seq (omega arith) (omega (arith, lt)))
+      (λ whole. stands_for_more (start old) bs pending i (i + 1) k
+      (subst (λ (l : List ℕ). Behind (start old) l k) (sym (blocks-next bs pending i b lt is)) (subst (λ n. Behind n (front ++ open_gate ∷ body b) k) e whole)) seq (omega arith) (omega (arith, lt)))
+      (step front (body b) (subst (λ n. gate ≡ n + length front) (sym e) here.place) same (subst (λ n. Behind n front (told now)) (sym e) here.behind))
+
   -- the block's place, once it stands
   pub one_more_stands : (bytes : List ℕ) → bytes ≡ laid b
       → (tells → (front inner : List ℕ) → gate ≡ start now + length front → bytes ≡ inner ++ 0 ∷ [] → Behind (start now) front (told now)
@@ -78,3 +93,9 @@ module _ {D : Type 0} (tells : Type 0) (start len faults moment : D → ℕ) (to
         subst (StandsForSome bs pending) (sym (only c (only_now c left)))
         (stands_for_some (start old) bs pending 0 (told old) (subst (λ (l : List Block). Behind (start old) (blocks l) (told old)) (sym (append-nil bs)) at.behind) seq (omega arith)));
   }
+
+module _ {D : Type 0} (tells : Type 0) (start len faults moment : D → ℕ) (told : D → Kept) (may_leave : D → Kept → Type 0) (left_since : D → ℕ → Kept → Type 0)
+    (old now : D) (gate0 gate : ℕ) (pending : List Block) (i : ℕ) (le : i ≤ length pending) (so_far : IsSoFar tells start len faults moment told may_leave left_since old now gate0 gate pending i) where
+  -- what is kept between two blocks
+  pub so_far_left : tells → (bs : List Block) → AtGate gate0 (start old) bs (told old) → IsSequence (start old) (bs ++ pending) → (k : Kept) → k ≡ told now → StandsForMore bs pending i k
+  so_far_left t bs at seq k is = subst (StandsForMore bs pending i) (sym is) (stands_for_more (start old) bs pending i i (told now) (so_far.stands t bs at).behind seq (omega arith) le)

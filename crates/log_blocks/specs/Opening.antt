@@ -9,7 +9,7 @@ use Rattle.store_model.specs.declared.fault.Fault.{Fault}
 use Rattle.store_model.specs.declared.fault.Fault.TheVariants.{Memory, LogFault, LogBad}
 use Rattle.log_blocks.specs.declared.header.Header.{Header}
 use Rattle.log_blocks.specs.declared.header.Place.{Place}
-use Rattle.log_blocks.specs.Log.{Block, blocks, body, open_gate, next_lsn, IsSequence, StandsFor}
+use Rattle.log_blocks.specs.Log.{Block, blocks, body, open_gate, next_lsn, IsSequence, StandsFor, StandsForMore}
 
 -- the number of this width at an offset
 unfoldable pub field_at : ℕ → List ℕ → ℕ
@@ -83,6 +83,16 @@ pub record Progress (gate : ℕ) (done : List Place) (pending : List Block) (gat
   pub places_are : done2 ≡ done ++ places gate (take count pending)
   pub gate_is : gate2 ≡ gate + length (blocks (take count pending))
 
+-- What a flush leaves, also one that failed. The first of the pending blocks are done, and the rest still pends. A read
+-- now, and one after a crash that comes now, gives the blocks from before, those that are done, and maybe further ones
+-- in order.
+pub record FlushLeaves {D : Type 0} (told : D → Kept) (may_leave : D → Kept → Type 0) (bs pending rest : List Block) (device : D) : Type 0 where
+  pub done : ℕ
+  pub within : done ≤ length pending
+  pub rest_is : rest ≡ drop done pending
+  pub read : StandsForMore bs pending done (told device)
+  pub crash : (k : Kept) → may_leave device k → StandsForMore bs pending done k
+
 -- the LSN that the next block has to begin with, 0 where there is no block
 abbrev pub follows : List Block → ℕ
 follows [] = 0
@@ -118,6 +128,11 @@ RoseFor before now Memory = Unit {0}
 RoseFor before now LogFault = Rose before now
 RoseFor before now (LogBad block byte) = Unit {0}
 RoseFor before now fault = ⊥
+
+-- a device call failed
+abbrev pub IsLogFault : Fault → Type 0
+IsLogFault LogFault = Unit {0}
+IsLogFault fault = ⊥
 
 -- what a walk over the headers says
 abbrev pub Tells : Kept → Result Walked Fault → Type 0

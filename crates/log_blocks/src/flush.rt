@@ -1,10 +1,11 @@
 //! A flush makes the first gate where there is none, and then writes block after block.
 ghost use Rattle.std.specs.Prelude.{◌≡◌, ◌⊎◌, ◌+◌, ◌-◌, ◌<◌, ◌≤◌, ◌^◌, ◌++◌, ◌∷◌, [], ℕ, List, length, take, drop, OnOk, slice_index_or};
 ghost use Rattle.media.specs.Cause.{HasCause};
+ghost use Rattle.media.specs.Counted.{Blames, Fails};
 ghost use Rattle.media.specs.Crash.{Only, LeavesOnly};
 ghost use Rattle.log_blocks.specs.Batch.{AreSized};
 ghost use Rattle.log_blocks.specs.Log.{Block, Behind, IsSequence, StandsFor, StandsForSome, blocks, laid};
-ghost use Rattle.log_blocks.specs.Opening.{Progress, place_of};
+ghost use Rattle.log_blocks.specs.Opening.{FlushLeaves, Progress, place_of};
 
 use crate::block::BlockBuf;
 use crate::header::Place;
@@ -24,9 +25,11 @@ fn make_gate<D: Disk>(device: &mut D, gate: u64, is_first: bool) -> Result<(), F
     ensures durable { D.tells → Only (D.told device.old) (D.may_leave device.old) → OnOk result (Only (D.told device.new) (D.may_leave device.new)) }
     ensures stands { D.tells → (bs : List _) → StandsFor bs (D.told device.old) → gate ≡ D.start device.old + length (blocks bs)
         → OnOk result (Behind (D.start device.old) (blocks bs) (D.told device.new)) }
+    ensures left { D.tells → (bs : List _) → StandsFor bs (D.told device.old) → StandsFor bs (D.told device.new) }
     ensures any_moment { D.tells → Only (D.told device.old) (D.may_leave device.old) → (bs : List _) → StandsFor bs (D.told device.old)
         → LeavesOnly D.moment D.left_since device.old device.new (StandsFor bs) }
     ensures cause { HasCause D.faults device.old device.new result }
+    ensures fuse { Blames D.passes D.refused D.own device.old device.new (Fails result) }
 {
     if device.len() - device.start() <= 1 {
         put_down(device, gate, &[0])
@@ -64,7 +67,12 @@ pub fn flush_all<D: Disk>(
         → (bs : List _) → gate.old ≡ D.start device.old + length (blocks bs)
         → StandsFor bs (D.told device.old) → IsSequence (D.start device.old) (bs ++ pending.old)
         → LeavesOnly D.moment D.left_since device.old device.new (StandsForSome bs pending.old) }
+    ensures left { D.tells → Only (D.told device.old) (D.may_leave device.old)
+        → (bs : List _) → gate.old ≡ D.start device.old + length (blocks bs)
+        → StandsFor bs (D.told device.old) → IsSequence (D.start device.old) (bs ++ pending.old)
+        → FlushLeaves D.told D.may_leave bs pending.old pending.new device.new }
     ensures cause { HasCause D.faults device.old device.new result }
+    ensures fuse { Blames D.passes D.refused D.own device.old device.new (Fails result) }
 {
     make_gate(device, *gate, is_first)?;
     write_pending(device, gate, done, pending)
@@ -96,7 +104,13 @@ fn write_pending<D: Disk>(
         → Behind (D.start device.old) (blocks bs) (D.told device.old)
         → IsSequence (D.start device.old) (bs ++ pending.old)
         → LeavesOnly D.moment D.left_since device.old device.new (StandsForSome bs pending.old) }
+    ensures left { D.tells → Only (D.told device.old) (D.may_leave device.old)
+        → (bs : List _) → gate.old ≡ D.start device.old + length (blocks bs)
+        → Behind (D.start device.old) (blocks bs) (D.told device.old)
+        → IsSequence (D.start device.old) (bs ++ pending.old)
+        → FlushLeaves D.told D.may_leave bs pending.old pending.new device.new }
     ensures cause { HasCause D.faults device.old device.new result }
+    ensures fuse { Blames D.passes D.refused D.own device.old device.new (Fails result) }
 {
     while !pending.is_empty() {
         let bytes = first_bytes(pending);

@@ -1,13 +1,14 @@
 //! The log as a list of blocks.
-ghost use Rattle.std.specs.Prelude.{◌≡◌, ◌⊎◌, ◌+◌, ◌-◌, ◌<◌, ◌≤◌, ◌^◌, ◌++◌, ◌∷◌, [], ℕ, List, length, drop, map, Option, None, Some, Ok, Err, OnOk, OnErr, IfOk, IfErr, IsOk, MatchOption, MatchResult, slice_index_or, min, vec_len, vec_capacity, ⊤};
+ghost use Rattle.std.specs.Prelude.{◌≡◌, ◌⊎◌, ◌+◌, ◌-◌, ◌<◌, ◌≤◌, ◌^◌, ◌++◌, ◌∷◌, [], ℕ, List, length, drop, map, Option, None, Some, Ok, Err, OnOk, OnErr, IfOk, IfErr, IsErrAnd, IsOk, MatchOption, MatchResult, slice_index_or, min, vec_len, vec_capacity, ⊤};
 ghost use Rattle.media.specs.Cause.{Rose};
+ghost use Rattle.media.specs.Counted.{Armed, Blames};
 ghost use Rattle.media.specs.Crash.{LeavesOnly, NoMore};
 ghost use Rattle.media.specs.Kept.{Kept, bytes_at};
 ghost use Rattle.store_model.specs.declared.fault.Fault.TheVariants as faults;
 ghost use Rattle.log_blocks.specs.Batch.{IsChecked, numbered, records_in, AreSized};
 ghost use Rattle.log_blocks.specs.Log.{Block, IsRun, StandsFor, StandsForSome, blocks, laid, next_lsn};
 ghost use Rattle.log_blocks.specs.LogState.{AreNumbered, LogState, IsDurable, Refused, checkpoint_of, durable_lsn, firsts, last_or, log_end, payload_at};
-ghost use Rattle.log_blocks.specs.Opening.{Progress, RoseFor, TellsFault};
+ghost use Rattle.log_blocks.specs.Opening.{FlushLeaves, IsLogFault, Progress, RoseFor, TellsFault};
 
 use crate::batch::{Batch, pass};
 use crate::block::BlockBuf;
@@ -77,6 +78,10 @@ pub fn open_log<L: Disk>(alloc: Global, disk: L) -> Result<BlockLog<L>, OpenRefu
         (λ r. LeavesOnly L.moment L.left_since disk r.disk (λ c. L.may_leave disk c)) }
     ensures cause { IfErr result (λ r. RoseFor (L.faults disk) (L.faults r.disk) r.fault) }
     ensures later { MatchResult result (λ log. L.faults disk ≤ L.faults log.device) (λ r. L.faults disk ≤ L.faults r.disk) }
+    // Where a device call failed, the device itself did, or a fuse that was armed refused the call; else none refused one.
+    ensures fuse { MatchResult result
+        (λ log. Blames L.passes L.refused L.own disk log.device ⊥)
+        (λ r. Blames L.passes L.refused L.own disk r.disk (IsLogFault r.fault)) }
 {
     let mut disk = disk;
     if disk.sync().is_err() {
@@ -193,9 +198,14 @@ impl<L: Disk> BlockLog<L> {
         // in part.
         ensures any_moment { L.tells → (bs : List Block) → IsDurable L.told L.may_leave self.old bs
             → LeavesOnly L.moment L.left_since self.old.device self.new.device (StandsForSome bs self.old.pending) }
+        // After a fault, too, a read gives the durable blocks, which are at least those before and those that are no longer
+        // pending, and then maybe further ones in order.
+        ensures left { L.tells → (bs : List Block) → IsDurable L.told L.may_leave self.old bs
+            → FlushLeaves L.told L.may_leave bs self.old.pending self.new.pending self.new.device }
         ensures refused { IfErr result (Refused ⊥ L.faults self.old self.new) }
         ensures live { OnOk result (self.old.ended ≡ None) }
         ensures later { L.faults self.old.device ≤ L.faults self.new.device }
+        ensures fuse { Blames L.passes L.refused L.own self.old.device self.new.device (IsErrAnd result IsLogFault) }
     {
         self.live()?;
         if self.pending.is_empty() {
@@ -229,6 +239,7 @@ impl<L: Disk> BlockLog<L> {
         ensures live { OnOk result ((self.old.ended ≡ None) × (self.new.ended ≡ None)) }
         ensures refused { IfErr result (Refused ⊤ L.faults self.old self.new) }
         ensures later { L.faults self.old.device ≤ L.faults self.new.device }
+        ensures fuse { Blames L.passes L.refused L.own self.old.device self.new.device (IsErrAnd result IsLogFault) }
     {
         self.live()?;
         let durable = self.durable();
@@ -267,6 +278,7 @@ impl<L: Disk> BlockLog<L> {
         ensures live { OnOk result (self.old.ended ≡ None) }
         ensures refused { IfErr result (Refused ⊥ L.faults self.old self.new) }
         ensures later { L.faults self.old.device ≤ L.faults self.new.device }
+        ensures fuse { Blames L.passes L.refused L.own self.old.device self.new.device (IsErrAnd result IsLogFault) }
     {
         self.live()?;
         let upto = self.place(n as usize).at;
@@ -288,6 +300,7 @@ impl<L: Disk> BlockLog<L> {
         ensures durable { L.tells → (bs : List Block) → IsDurable L.told L.may_leave self.old bs → IsDurable L.told L.may_leave self.new bs }
         ensures any_moment { LeavesOnly L.moment L.left_since self.old.device self.new.device (λ c. L.may_leave self.old.device c) }
         ensures faults { L.faults self.new.device ≡ L.faults self.old.device }
+        ensures fuse { Armed L.fuses L.passes L.refused L.own n self.old.device self.new.device }
     {
         self.device.fuse(n);
     }
@@ -470,6 +483,7 @@ fn read_payload<D: Disk>(
     ensures any_moment { LeavesOnly D.moment D.left_since device.old device.new (λ c. D.may_leave device.old c) }
     ensures later { D.faults device.old ≤ D.faults device.new }
     ensures cause { IfErr result (λ f. (f ≡ faults.Memory) ⊎ ((f ≡ faults.LogFault) × Rose (D.faults device.old) (D.faults device.new))) }
+    ensures fuse { Blames D.passes D.refused D.own device.old device.new (IsErrAnd result IsLogFault) }
 {
     let mut bytes = vec![in alloc; 0u8; size]?;
     if device.read_at(at, bytes.as_mut_slice()).is_err() {

@@ -1,8 +1,9 @@
 //! An opening reads headers, and changes no byte.
-ghost use Rattle.std.specs.Prelude.{◌≡◌, ◌≤◌, ◌<◌, ◌+◌, ◌-◌, ◌^◌, ◌++◌, ◌∷◌, [], min, length, take, drop, IfOk, OnOk};
+ghost use Rattle.std.specs.Prelude.{◌≡◌, ◌≤◌, ◌<◌, ◌+◌, ◌-◌, ◌^◌, ◌++◌, ◌∷◌, [], min, length, take, drop, IfOk, OnOk, IsErrAnd};
 ghost use Rattle.media.specs.Crash.{NoMore, LeavesOnly};
 ghost use Rattle.media.specs.Cause.{HasCause};
-ghost use Rattle.log_blocks.specs.Opening.{IsPlaced, Tells, RoseIn};
+ghost use Rattle.media.specs.Counted.{Blames, Fails};
+ghost use Rattle.log_blocks.specs.Opening.{IsLogFault, IsPlaced, Tells, RoseIn};
 
 use crate::header::{Header, Place, judge};
 use media::{Disk, Failed};
@@ -65,6 +66,7 @@ fn look<D: Disk>(device: &mut D, at: u64, buf: &mut [u8]) -> Result<usize, Faile
     ensures crash { NoMore D.may_leave device.old device.new }
     ensures any_moment { LeavesOnly D.moment D.left_since device.old device.new (λ c. D.may_leave device.old c) }
     ensures cause { HasCause D.faults device.old device.new result }
+    ensures fuse { Blames D.passes D.refused D.own device.old device.new (Fails result) }
 {
     device.read_at(at, buf)
 }
@@ -80,6 +82,7 @@ pub fn walk<D: Disk>(alloc: Global, device: &mut D) -> Result<Walked, Fault>
     ensures any_moment { LeavesOnly D.moment D.left_since device.old device.new (λ c. D.may_leave device.old c) }
     ensures later { D.faults device.old ≤ D.faults device.new }
     ensures cause { RoseIn (D.faults device.old) (D.faults device.new) result }
+    ensures fuse { Blames D.passes D.refused D.own device.old device.new (IsErrAnd result IsLogFault) }
 {
     let start = device.start();
     let len = device.len();

@@ -3,6 +3,7 @@ ghost use Rattle.std.specs.Prelude.{◌≡◌, ◌⊎◌, ◌+◌, ◌<◌, ◌�
 ghost use Rattle.media.specs.Kept.{Kept, Torn, written};
 ghost use Rattle.media.specs.Crash.{Only, LeavesOnly};
 ghost use Rattle.media.specs.Cause.{HasCause};
+ghost use Rattle.media.specs.Counted.{Blames, Fails};
 ghost use Rattle.log_blocks.specs.Log.{Behind, IsSequence, StandsFor, StandsForSome, blocks, open_gate};
 
 use media::{Disk, Failed};
@@ -18,11 +19,13 @@ pub fn put_down<D: Disk>(device: &mut D, at: u64, bytes: &[u8]) -> Result<(), Fa
     ensures no_shorter { D.len device.old ≤ D.len device.new }
     ensures len { OnOk result (D.len device.new ≡ max (D.len device.old) (at + length bytes.now)) }
     ensures written { D.tells → OnOk result (D.told device.new ≡ written (D.told device.old) at bytes.now) }
+    ensures torn { D.tells → Torn at (length bytes.now) (D.told device.old) (D.told device.new) }
     ensures durable { D.tells → OnOk result (Only (D.told device.new) (D.may_leave device.new)) }
     // A crash at any moment leaves what was there, with any bytes in the range.
     ensures any_moment { D.tells → Only (D.told device.old) (D.may_leave device.old)
         → LeavesOnly D.moment D.left_since device.old device.new (Torn at (length bytes.now) (D.told device.old)) }
     ensures cause { HasCause D.faults device.old device.new result }
+    ensures fuse { Blames D.passes D.refused D.own device.old device.new (Fails result) }
 {
     device.write_at(at, bytes)?;
     device.sync()?;
@@ -41,6 +44,10 @@ pub fn write_block<D: Disk>(device: &mut D, gate: u64, bytes: &[u8]) -> Result<(
     ensures written { D.tells → (front body : List ℕ) → gate ≡ D.start device.old + length front → bytes.now ≡ body ++ 0 ∷ []
         → Behind (D.start device.old) front (D.told device.old)
         → OnOk result (Behind (D.start device.old) (front ++ open_gate ∷ body) (D.told device.new)) }
+    // A read gives the gate closed, or the whole block.
+    ensures left { D.tells → (front body : List ℕ) → gate ≡ D.start device.old + length front → bytes.now ≡ body ++ 0 ∷ []
+        → Behind (D.start device.old) front (D.told device.old)
+        → Behind (D.start device.old) front (D.told device.new) ⊎ Behind (D.start device.old) (front ++ open_gate ∷ body) (D.told device.new) }
     // A crash at any moment leaves the gate closed, or the whole block.
     ensures any_moment { D.tells → Only (D.told device.old) (D.may_leave device.old)
         → (front body : List ℕ) → gate ≡ D.start device.old + length front → bytes.now ≡ body ++ 0 ∷ []
@@ -48,6 +55,7 @@ pub fn write_block<D: Disk>(device: &mut D, gate: u64, bytes: &[u8]) -> Result<(
         → LeavesOnly D.moment D.left_since device.old device.new
         (λ c. Behind (D.start device.old) front c ⊎ Behind (D.start device.old) (front ++ open_gate ∷ body) c) }
     ensures cause { HasCause D.faults device.old device.new result }
+    ensures fuse { Blames D.passes D.refused D.own device.old device.new (Fails result) }
 {
     put_down(device, gate + 1, bytes)?;
     put_down(device, gate, &[OPEN])?;

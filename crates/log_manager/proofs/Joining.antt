@@ -5,10 +5,12 @@ use Rattle.std.specs.List.{All}
 use Rattle.std.proofs.lemmas.List.Elements.{All-append}
 use Rattle.std.proofs.lemmas.Grind.{flat_map-append}
 use Rattle.log_blocks.specs.Batch.{begun, joined, joins, numbered, records_in, with_group}
-use Rattle.log_blocks.specs.Log.{Block}
+use Rattle.log_blocks.specs.Log.{Block, body, next_lsn, open_gate}
+use Rattle.log_blocks.specs.Opening.{places}
 use Rattle.wal_record.specs.Rules.{HasSpelling}
 use Rattle.wal_record.specs.Spelling.{spelling}
 use Rattle.wal_record.specs.declared.record.Record.{Record}
+use Rattle.log_manager.specs.Managed.{records_at}
 use Rattle.log_manager.specs.Records.{AreIn, Holds, bytes_of, checkpoint_after, checkpoint_in, is_checkpoint}
 
 -- ---- blocks one behind the other
@@ -50,19 +52,49 @@ drop_past (x ∷ xs) ys n = ap (λ m. drop m (x ∷ (xs ++ ys))) (far (length xs
     far m = omega arith
 
 -- some blocks from the front hold some records from the front
-pub in_take : (c m : ℕ) (xs : List Block) (rs : List Record) → AreIn c xs rs → (n : ℕ) × AreIn c (take m xs) (take n rs)
-in_take c zero xs rs a = (0, refl)
-in_take c (suc m) [] rs a = (0, refl)
+-- the first blocks have the first records
+pub in_take : (c m : ℕ) (xs : List Block) (rs : List Record) → AreIn c xs rs → AreIn c (take m xs) (take (records_in (take m xs)) rs)
+in_take c zero xs rs a = refl
+in_take c (suc m) [] rs a = refl
 in_take c (suc m) (x ∷ xs) rs a =
-    let t = in_take x.checkpoint m xs a.1 a.4 in
-    (length a.0 + t.0, (a.0, take t.0 a.1, ap (take (length a.0 + t.0)) a.2 ∙ take_past a.0 a.1 t.0, a.3, t.1))
+    let n = records_in (take m xs) in
+    let count : x.count + n ≡ length a.0 + n = ap (λ k. k + n) a.3.count in
+    (a.0, take n a.1, ap (take (x.count + n)) a.2 ∙ ap (λ k. take k (a.0 ++ a.1)) count ∙ take_past a.0 a.1 n, a.3, in_take x.checkpoint m xs a.1 a.4)
 
-pub in_drop : (c m : ℕ) (xs : List Block) (rs : List Record) → AreIn c xs rs → (n : ℕ) × AreIn (checkpoint_in c (take m xs)) (drop m xs) (drop n rs)
-in_drop c zero xs rs a = (0, a)
-in_drop c (suc m) [] rs a = (0, a)
+-- the other blocks have the others
+pub in_drop : (c m : ℕ) (xs : List Block) (rs : List Record) → AreIn c xs rs → AreIn (checkpoint_in c (take m xs)) (drop m xs) (drop (records_in (take m xs)) rs)
+in_drop c zero xs rs a = a
+in_drop c (suc m) [] rs a = a
 in_drop c (suc m) (x ∷ xs) rs a =
-    let t = in_drop x.checkpoint m xs a.1 a.4 in
-    (length a.0 + t.0, subst (AreIn (checkpoint_in x.checkpoint (take m xs)) (drop m xs)) (sym (ap (drop (length a.0 + t.0)) a.2 ∙ drop_past a.0 a.1 t.0)) t.1)
+    let n = records_in (take m xs) in
+    let count : x.count + n ≡ length a.0 + n = ap (λ k. k + n) a.3.count in
+    subst (AreIn (checkpoint_in x.checkpoint (take m xs)) (drop m xs)) (sym (ap (drop (x.count + n)) a.2 ∙ ap (λ k. drop k (a.0 ++ a.1)) count ∙ drop_past a.0 a.1 n)) (in_drop x.checkpoint m xs a.1 a.4)
+
+-- blocks have as many records as they say
+pub in_count : (c : ℕ) (xs : List Block) (rs : List Record) → AreIn c xs rs → records_in xs ≡ length rs
+in_count c [] rs a = sym (ap length a)
+in_count c (x ∷ xs) rs a = omega (arith, a.3.count, in_count x.checkpoint xs a.1 a.4, ap length a.2, length-append a.0 a.1)
+
+-- more blocks have no fewer records
+pub records_take : (m n : ℕ) (xs : List Block) → m ≤ n → records_in (take m xs) ≤ records_in (take n xs)
+records_take zero n xs le = omega arith
+records_take (suc m) zero xs le = absurd (omega (arith, le))
+records_take (suc m) (suc n) [] le = omega arith
+records_take (suc m) (suc n) (x ∷ xs) le = omega (arith, records_take m n xs (omega (arith, le)))
+
+pub records_most : (n : ℕ) (xs : List Block) → records_in (take n xs) ≤ records_in xs
+records_most zero xs = omega arith
+records_most (suc n) [] = omega arith
+records_most (suc n) (x ∷ xs) = omega (arith, records_most n xs)
+
+pub records_places : (at n : ℕ) (xs : List Block) → records_at (take n (places at xs)) ≡ records_in (take n xs)
+records_places at zero xs = refl
+records_places at (suc n) [] = refl
+records_places at (suc n) (x ∷ xs) = ap (λ k. x.count + k) (records_places (at + length (open_gate ∷ body x)) n xs)
+
+pub next_count : (n : ℕ) (xs : List Block) → next_lsn n xs ≡ n + records_in xs
+next_count n [] = omega arith
+next_count n (x ∷ xs) = omega (arith, next_count (n + x.count) xs)
 
 -- ---- records that join a block
 

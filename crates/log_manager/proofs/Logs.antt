@@ -1,26 +1,26 @@
 -- What calls make of the records of a log.
-use Rattle.std.proofs.Common.{get_or, ◌≡◌, ◌⊎◌, inl, inr, ℕ, zero, suc, ◌+◌, ◌-◌, ◌<◌, ◌≤◌, List, [], ◌∷◌, ◌++◌, length, take, drop, max, refl, sym, ◌∙◌, ap, subst, arith, append-nil, append_assoc, take-append-drop}
+use Rattle.std.proofs.Common.{get_or, ◌≡◌, ◌⊎◌, inl, inr, ℕ, zero, suc, ◌+◌, ◌-◌, ◌<◌, ◌≤◌, List, [], ◌∷◌, ◌++◌, length, take, drop, max, refl, sym, ◌∙◌, ap, subst, arith, append-nil, append_assoc, take-append-drop, length-drop}
 use Rattle.std.specs.Prelude.{map, Option}
 use Rattle.std.specs.List.{All}
 use Rattle.media.specs.Kept.{Kept}
 use Rattle.log_blocks.specs.Batch.{numbered, records_in, with_group}
-use Rattle.log_blocks.specs.Log.{Block, IsRun, IsSequence, StandsFor, StandsForSome, first_lsn, next_lsn}
+use Rattle.log_blocks.specs.Log.{Block, IsRun, IsSequence, StandsFor, StandsForMore, StandsForSome, first_lsn, next_lsn}
 use Rattle.log_blocks.specs.LogState.{AreNumbered, IsDurable, LogState, checkpoint_of, firsts, last_or, lsn_behind, payload_at}
-use Rattle.log_blocks.specs.Opening.{places}
+use Rattle.log_blocks.specs.Opening.{FlushLeaves, Progress, places}
 use Rattle.log_blocks.specs.declared.header.Place.{Place}
 use Rattle.log_blocks.proofs.Lasts.{map-append}
 use Rattle.log_blocks.proofs.Progressing.{length-places}
 use Rattle.log_blocks.proofs.Walking.{next_above}
-use Rattle.log_blocks.proofs.Whole.{behind_first, lsn_after-drop, next_lsn-append, numbered_next, run_append, run_rest, sequence_whole}
+use Rattle.log_blocks.proofs.Whole.{behind-places, behind_first, lsn_after-drop, next_lsn-append, numbered_next, run_append, run_rest, sequence_whole}
 use Rattle.log_blocks.proofs.BlockLists.{run_front}
 use Rattle.wal_record.specs.Rules.{HasSpelling}
 use Rattle.wal_record.specs.declared.record.Record.{Record}
 use Rattle.log_manager.specs.declared.counted.Counted.{Counted}
-use Rattle.log_manager.specs.Records.{AreIn, AreRecordsOf, IsLogOf, StandsForRecords, bytes_of, checkpoint_after, checkpoint_in}
-use Rattle.log_manager.specs.Managed.{HasLsn, IsAt, IsCounted, first_kept, with_batch}
+use Rattle.log_manager.specs.Records.{AreIn, AreRecordsOf, IsLogOf, RecordsLeft, StandsForMoreRecords, StandsForRecords, bytes_of, checkpoint_after, checkpoint_in}
+use Rattle.log_manager.specs.Managed.{HasLsn, IsAt, IsCounted, first_kept, records_at, with_batch}
 use Rattle.log_manager.proofs.Counting.{checkpoint_of_block, checkpoints-places, group_run, without_first}
 use Rattle.log_manager.proofs.Finding.{at_more, first_of, firsts-places, found_at, found_in, next_of_all}
-use Rattle.log_manager.proofs.Joining.{checkpoint_in-append, group_in, in_append, in_drop, in_split, in_take}
+use Rattle.log_manager.proofs.Joining.{checkpoint_in-append, group_in, in_append, in_count, in_drop, in_split, in_take, next_count, records_most, records_places, records_take}
 
 -- ---- the last Checkpoint
 
@@ -148,21 +148,72 @@ module _ {D : Type 0} (told : D → Kept) (may_leave : D → Kept → Type 0) wh
       front_none [] ys e = refl
       front_none (x ∷ xs) ys e = absurd cc
 
-  -- what a crash within a flush leaves
-  pub some_flushed : (log : LogState D) (s w : List Record) (h : IsLogOf told may_leave log s w) (k : Kept) → StandsForSome h.bs log.pending k → (n : ℕ) × StandsForRecords (s ++ take n w) k
-  some_flushed log s w h k some =
-      let t = in_take (checkpoint_in h.records.before h.bs) some.whole log.pending w h.more in (
-        t.0,
-        record {
-          bs = h.bs ++ take some.whole log.pending;
-          stands = some.stands;
-          records = record { before = h.records.before; none = λ e. h.records.none (front_none h.bs (take some.whole log.pending) e); records = in_append h.records.before h.bs (take some.whole log.pending) s (take t.0 w) h.records.records t.1 };
-        },
-      )
+  -- the first of the pending blocks have the first of the waiting records
+  first_stand : (log : LogState D) (s w : List Record) (h : IsLogOf told may_leave log s w) (k : Kept) (n : ℕ) → StandsFor (h.bs ++ take n log.pending) k
+      → StandsForRecords (s ++ take (records_in (take n log.pending)) w) k
+  first_stand log s w h k n stands = record {
+    bs = h.bs ++ take n log.pending;
+    stands = stands;
+    records = record {
+      before = h.records.before;
+      none = λ e. h.records.none (front_none h.bs (take n log.pending) e);
+      records = in_append h.records.before h.bs (take n log.pending) s (take (records_in (take n log.pending)) w) h.records.records (in_take (checkpoint_in h.records.before h.bs) n log.pending w h.more);
+    };
+  }
     where
       front_none : (xs ys : List Block) → xs ++ ys ≡ [] → xs ≡ []
       front_none [] ys e = refl
       front_none (x ∷ xs) ys e = absurd cc
+
+  -- what a crash within a flush leaves
+  pub some_flushed : (log : LogState D) (s w : List Record) (h : IsLogOf told may_leave log s w) (k : Kept) → StandsForSome h.bs log.pending k → (n : ℕ) × StandsForRecords (s ++ take n w) k
+  some_flushed log s w h k some = (records_in (take some.whole log.pending), first_stand log s w h k some.whole some.stands)
+
+  more_flushed : (log : LogState D) (s w : List Record) (h : IsLogOf told may_leave log s w) (k : Kept) (done : ℕ) → StandsForMore h.bs log.pending done k
+      → StandsForMoreRecords s w (records_in (take done log.pending)) k
+  more_flushed log s w h k done some = record {
+    whole = records_in (take some.whole log.pending);
+    no_fewer = records_take done some.whole log.pending some.no_fewer;
+    within = omega (arith, records_most some.whole log.pending, in_count (checkpoint_in h.records.before h.bs) log.pending w h.more);
+    stands = first_stand log s w h k some.whole some.stands;
+  }
+
+  -- what a flush leaves
+  pub records_left : (old new : LogState D) (bs : List Block) (s w : List Record) (h : IsLogOf told may_leave old s w) → FlushLeaves told may_leave h.bs old.pending new.pending new.device
+      → Progress old.gate old.places old.pending new.gate new.places new.pending → RecordsLeft told may_leave s w old (with_batch new bs)
+  records_left old new bs s w h f p =
+      let same : p.count ≡ f.done = omega (arith, p.within, f.within, ap length (sym p.left ∙ f.rest_is), length-drop p.count old.pending, length-drop f.done old.pending) in
+      let behind = lsn_behind old.places in
+      let run : IsRun behind (take p.count old.pending) = run_front behind (take p.count old.pending) (drop p.count old.pending) (subst (IsRun behind) (sym (take-append-drop p.count old.pending)) h.numbered.run) in
+      let next : lsn_behind new.places ≡ behind + records_in (take f.done old.pending) =
+      ap (λ (l : List Place). lsn_behind l) p.places_are ∙ behind-places old.places old.gate (take p.count old.pending) run ∙ next_count behind (take p.count old.pending)
+      ∙ ap (λ n. behind + records_in (take n old.pending)) same in
+      record {
+        done = records_in (take f.done old.pending);
+        within = omega (arith, records_most f.done old.pending, in_count (checkpoint_in h.records.before h.bs) old.pending w h.more);
+        durable = omega (arith, next);
+        read = more_flushed old s w h (told new.device) f.done f.read;
+        crash = λ k may. more_flushed old s w h k f.done (f.crash k may);
+      }
+
+  -- what is left where nothing was flushed
+  pub none_left : (log : LogState D) (s w : List Record) → IsLogOf told may_leave log s w → RecordsLeft told may_leave s w log log
+  none_left log s w h =
+      let stand : (k : Kept) → StandsFor h.bs k → StandsForMore h.bs log.pending 0 k = λ k stands. record {
+        whole = 0;
+        no_fewer = omega arith;
+        within = omega arith;
+        stands = subst (λ (l : List Block). StandsFor l k) (sym (append-nil h.bs)) stands;
+      } in
+      let same : FlushLeaves told may_leave h.bs log.pending log.pending log.device = record {
+        done = 0;
+        within = omega arith;
+        rest_is = refl;
+        read = stand (told log.device) h.durable.stands;
+        crash = λ k may. stand k (subst (StandsFor h.bs) (sym (h.durable.only k may)) h.durable.stands);
+      } in
+      let left = records_left log log [] s w h same (record { count = 0; within = omega arith; left = refl; places_are = sym (append-nil log.places); gate_is = omega arith }) in
+      record { done = left.done; within = left.within; durable = left.durable; read = left.read; crash = left.crash }
 
   -- what the disk has now
   pub none_flushed : (log : LogState D) (s w : List Record) → IsLogOf told may_leave log s w → (k : Kept) → may_leave log.device k → (n : ℕ) × StandsForRecords (s ++ take n w) k
@@ -187,10 +238,14 @@ module _ {D : Type 0} (told : D → Kept) (may_leave : D → Kept → Type 0) wh
 
   -- ---- blocks that go
 
+  -- the places know how many records their blocks have
+  records_known : (log : LogState D) (bs : List Block) (n : ℕ) → Stands log bs → records_in (take n bs) ≡ records_at (take n log.places)
+  records_known log bs n d = sym (ap (λ (l : List Place). records_at (take n l)) d.places_are ∙ records_places (told log.device).start n bs)
+
   -- the log without its first n durable blocks
   pub dropped : (old : LogState D) (device : D) (ended : Option ℕ) (bs : List Block) (s w : List Record) (n : ℕ) → n < length old.places
       → ((ds : List Block) → Stands old ds → Stands (without_first old device ended n) (drop n ds))
-      → IsLogOf told may_leave (with_batch old bs) s w → (m : ℕ) × IsLogOf told may_leave (with_batch (without_first old device ended n) bs) (drop m s) w
+      → IsLogOf told may_leave (with_batch old bs) s w → IsLogOf told may_leave (with_batch (without_first old device ended n) bs) (drop (records_at (take n old.places)) s) w
   dropped old device ended bs s w n lt durable h =
       let before = h.records.before in
       let some : n < length h.bs = omega (arith, lt, ap length h.durable.places_are, length-places (told old.device).start h.bs) in
@@ -198,38 +253,42 @@ module _ {D : Type 0} (told : D → Kept) (may_leave : D → Kept → Type 0) wh
       let same : checkpoint_in before h.bs ≡ checkpoint_in (checkpoint_in before (take n h.bs)) (drop n h.bs) =
       ap (checkpoint_in before) (sym (take-append-drop n h.bs)) ∙ checkpoint_in-append before (take n h.bs) (drop n h.bs) in
       let behind : lsn_behind old.places ≡ lsn_behind (drop n old.places) = ap (λ m. max 1 m) (sym (lsn_after-drop old.places n lt)) in
-      let new = without_first old device ended n in (
-        t.0,
-        record {
-          bs = drop n h.bs;
-          durable = outer new bs (drop n h.bs) (durable h.bs (inner old bs h.bs h.durable));
-          records = record { before = checkpoint_in before (take n h.bs); none = λ e. absurd (some_left n h.bs some e); records = t.1 };
-          more = subst (λ c. AreIn c (old.pending ++ numbered old.next bs) w) same h.more;
-          numbered = record {
-            run = subst (λ m. IsRun m (old.pending ++ numbered old.next bs)) behind h.numbered.run;
-            next = h.numbered.next ∙ ap (λ m. next_lsn m (old.pending ++ numbered old.next bs)) behind;
-          };
-        },
-      )
+      let new = without_first old device ended n in
+      record {
+        bs = drop n h.bs;
+        durable = outer new bs (drop n h.bs) (durable h.bs (inner old bs h.bs h.durable));
+        records = record {
+          before = checkpoint_in before (take n h.bs);
+          none = λ e. absurd (some_left n h.bs some e);
+          records = subst (λ m. AreIn (checkpoint_in before (take n h.bs)) (drop n h.bs) (drop m s)) (records_known (with_batch old bs) h.bs n h.durable) t;
+        };
+        more = subst (λ c. AreIn c (old.pending ++ numbered old.next bs) w) same h.more;
+        numbered = record {
+          run = subst (λ m. IsRun m (old.pending ++ numbered old.next bs)) behind h.numbered.run;
+          next = h.numbered.next ∙ ap (λ m. next_lsn m (old.pending ++ numbered old.next bs)) behind;
+        };
+      }
 
   -- what a crash then leaves
   pub all_or_dropped : (log : LogState D) (s w : List Record) (n : ℕ) (h : IsLogOf told may_leave log s w) → n < length log.places → (k : Kept)
-      → StandsFor h.bs k ⊎ StandsFor (drop n h.bs) k → (m : ℕ) × StandsForRecords (drop m s) k
-  all_or_dropped log s w n h lt k (inl stands) = (0, record { bs = h.bs; stands = stands; records = h.records })
+      → StandsFor h.bs k ⊎ StandsFor (drop n h.bs) k → StandsForRecords s k ⊎ StandsForRecords (drop (records_at (take n log.places)) s) k
+  all_or_dropped log s w n h lt k (inl stands) = inl (record { bs = h.bs; stands = stands; records = h.records })
   all_or_dropped log s w n h lt k (inr stands) =
       let some : n < length h.bs = omega (arith, lt, ap length h.durable.places_are, length-places (told log.device).start h.bs) in
-      let t = in_drop h.records.before n h.bs s h.records.records in (
-        t.0,
-        record {
-          bs = drop n h.bs;
-          stands = stands;
-          records = record { before = checkpoint_in h.records.before (take n h.bs); none = λ e. absurd (some_left n h.bs some e); records = t.1 };
-        },
-      )
+      let before = checkpoint_in h.records.before (take n h.bs) in
+      inr (record {
+        bs = drop n h.bs;
+        stands = stands;
+        records = record {
+          before = before;
+          none = λ e. absurd (some_left n h.bs some e);
+          records = subst (λ m. AreIn before (drop n h.bs) (drop m s)) (records_known log h.bs n h.durable) (in_drop h.records.before n h.bs s h.records.records);
+        };
+      })
 
   -- what it leaves where none goes
-  pub none_dropped : (log : LogState D) (s w : List Record) → IsLogOf told may_leave log s w → (k : Kept) → may_leave log.device k → (m : ℕ) × StandsForRecords (drop m s) k
-  none_dropped log s w h k left = (0, record { bs = h.bs; stands = subst (StandsFor h.bs) (sym (h.durable.only k left)) h.durable.stands; records = h.records })
+  pub none_dropped : (log : LogState D) (s w : List Record) → IsLogOf told may_leave log s w → (k : Kept) → may_leave log.device k → StandsForRecords s k
+  none_dropped log s w h k left = record { bs = h.bs; stands = subst (StandsFor h.bs) (sym (h.durable.only k left)) h.durable.stands; records = h.records }
 
   -- ---- the record of an LSN
 

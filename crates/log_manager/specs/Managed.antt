@@ -1,5 +1,5 @@
 -- The log of records as contracts see it.
-use Rattle.std.specs.Prelude.{◌≡◌, ◌≤◌, ◌<◌, ◌+◌, ◌-◌, ◌*◌, ◌^◌, ℕ, suc, List, [], ◌∷◌, ◌++◌, length, min, None, Some, ⊤, nat_le, if◌then◌else◌, slice_index_or, Err}
+use Rattle.std.specs.Prelude.{◌≡◌, ◌≤◌, ◌<◌, ◌+◌, ◌-◌, ◌*◌, ◌^◌, ℕ, suc, List, [], ◌∷◌, ◌++◌, length, take, min, None, Some, ⊤, nat_le, if◌then◌else◌, slice_index_or, Err}
 use Rattle.store_model.specs.declared.fault.Fault.{Fault}
 use Rattle.store_model.specs.declared.fault.Fault.TheVariants.{Memory, LogBad, Ended}
 use Rattle.log_blocks.specs.Batch.{numbered, records_in, IsChecked}
@@ -61,6 +61,15 @@ abbrev pub before_lsn : ℕ → List Place → ℕ
 before_lsn upto [] = 0
 before_lsn upto (p ∷ []) = 0
 before_lsn upto (p ∷ q ∷ ps) = if nat_le q.first upto then suc (before_lsn upto (q ∷ ps)) else 0
+
+-- how many records blocks at these places have
+abbrev pub records_at : List Place → ℕ
+records_at [] = 0
+records_at (p ∷ ps) = p.count + records_at ps
+
+-- how many records the durable blocks have that end before an LSN and aren't the last
+abbrev pub recycled : ℕ → List Place → ℕ
+recycled upto ps = records_at (take (before_lsn upto ps) ps)
 
 -- Behind some records, the payload of a block has a field that is cut or breaks its rule; in the block it begins at
 -- this byte.

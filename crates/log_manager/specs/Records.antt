@@ -1,9 +1,9 @@
 -- Which records the blocks of a log hold.
-use Rattle.std.specs.Prelude.{◌≡◌, ℕ, suc, List, [], ◌∷◌, ◌++◌, length, flat_map, map, Bool, true, false, if◌then◌else◌}
+use Rattle.std.specs.Prelude.{◌≡◌, ◌≤◌, ◌+◌, ℕ, suc, List, [], ◌∷◌, ◌++◌, length, take, flat_map, map, Bool, true, false, if◌then◌else◌}
 use Rattle.std.specs.List.{All}
 use Rattle.media.specs.Kept.{Kept}
 use Rattle.log_blocks.specs.Log.{Block, StandsFor}
-use Rattle.log_blocks.specs.LogState.{LogState, AreNumbered, IsDurable, last_or}
+use Rattle.log_blocks.specs.LogState.{LogState, AreNumbered, IsDurable, durable_lsn, last_or}
 use Rattle.wal_record.specs.Rules.{HasSpelling}
 use Rattle.wal_record.specs.Spelling.{spelling}
 use Rattle.wal_record.specs.declared.record.Record.{Record}
@@ -57,3 +57,19 @@ pub record IsLogOf {D : Type 0} (told : D → Kept) (may_leave : D → Kept → 
   pub records : AreRecordsOf bs stable
   pub more : AreIn (checkpoint_in records.before bs) log.pending waiting
   pub numbered : AreNumbered log
+
+-- the kept bytes stand for the stable records and some of the waiting ones in order, at least so many of them
+pub record StandsForMoreRecords (stable waiting : List Record) (least : ℕ) (k : Kept) : Type 0 where
+  pub whole : ℕ
+  pub no_fewer : least ≤ whole
+  pub within : whole ≤ length waiting
+  pub stands : StandsForRecords (stable ++ take whole waiting) k
+
+-- What a flush leaves, also one that failed. The first of the waiting records are stable now. A read now, and one after
+-- a crash that comes now, gives the records that were stable, these, and maybe further ones in order.
+pub record RecordsLeft {D : Type 0} (told : D → Kept) (may_leave : D → Kept → Type 0) (stable waiting : List Record) (old new : LogState D) : Type 0 where
+  pub done : ℕ
+  pub within : done ≤ length waiting
+  pub durable : durable_lsn new.places ≡ durable_lsn old.places + done
+  pub read : StandsForMoreRecords stable waiting done (told new.device)
+  pub crash : (k : Kept) → may_leave new.device k → StandsForMoreRecords stable waiting done k

@@ -1,15 +1,17 @@
 //! The list of records, over blocks.
-ghost use Rattle.std.specs.Prelude.{◌≡◌, ◌⊎◌, ◌+◌, ◌-◌, ◌<◌, ◌≤◌, ◌^◌, ◌++◌, ◌∷◌, [], ℕ, List, length, drop, take, min, None, Some, OnOk, OnErr, IfOk, IfErr, slice_index_or};
+ghost use Rattle.std.specs.Prelude.{◌≡◌, ◌⊎◌, ◌+◌, ◌-◌, ◌<◌, ◌≤◌, ◌^◌, ◌++◌, ◌∷◌, [], ℕ, List, length, drop, take, min, None, Some, OnOk, OnErr, IfOk, IfErr, IsErrAnd, slice_index_or};
 ghost use Rattle.std.specs.List.{All};
+ghost use Rattle.media.specs.Counted.{Armed, Blames};
 ghost use Rattle.media.specs.Crash.{LeavesOnly};
 ghost use Rattle.store_model.specs.declared.fault.Fault.TheVariants as faults;
 ghost use Rattle.log_blocks.specs.Batch.{records_in};
 ghost use Rattle.log_blocks.specs.Log.{Block};
 ghost use Rattle.log_blocks.specs.LogState.{IsDurable, Refused, checkpoint_of, durable_lsn, firsts};
+ghost use Rattle.log_blocks.specs.Opening.{IsLogFault, Progress};
 ghost use Rattle.wal_record.specs.Rules.{HasSpelling};
 ghost use Rattle.wal_record.specs.declared.record.Record.{Record};
-ghost use Rattle.log_manager.specs.Records.{bytes_of, AreRecordsOf, IsLogOf, StandsForRecords};
-ghost use Rattle.log_manager.specs.Managed.{HasMore, HasLsn, IsAt, IsBadIn, IsCounted, IsNoBadLog, NotAdded, ReadRefused, before_lsn, first_kept, with_batch};
+ghost use Rattle.log_manager.specs.Records.{bytes_of, AreRecordsOf, IsLogOf, RecordsLeft, StandsForRecords};
+ghost use Rattle.log_manager.specs.Managed.{HasMore, HasLsn, IsAt, IsBadIn, IsCounted, IsNoBadLog, NotAdded, ReadRefused, before_lsn, first_kept, recycled, with_batch};
 
 use crate::counted::{COMMIT, Counted};
 use crate::reading::record_in;
@@ -135,9 +137,15 @@ impl<L: Disk> LogManager<L> {
         // A crash at any moment leaves the stable records, then some of the waiting ones in order.
         ensures any_moment { L.tells → (stable waiting : List Record) → IsLogOf L.told L.may_leave self.old.log stable waiting
             → LeavesOnly L.moment L.left_since self.old.log.device self.new.log.device (λ k. (n : ℕ) × StandsForRecords (stable ++ take n waiting) k) }
+        // After a fault, too, a read gives the stable records, of which the durable LSN tells the last, and then maybe
+        // further ones in order.
+        ensures left { L.tells → (stable waiting : List Record) → IsLogOf L.told L.may_leave self.old.log stable waiting
+            → RecordsLeft L.told L.may_leave stable waiting self.old.log self.new.log }
+        ensures progress { Progress self.old.log.gate self.old.log.places self.old.log.pending self.new.log.gate self.new.log.places self.new.log.pending }
         ensures live { OnOk result ((self.old.log.ended ≡ None) × (self.new.log.ended ≡ None)) }
         ensures refused { IfErr result (Refused ⊥ L.faults self.old.log self.new.log) }
         ensures later { L.faults self.old.log.device ≤ L.faults self.new.log.device }
+        ensures fuse { Blames L.passes L.refused L.own self.old.log.device self.new.log.device (IsErrAnd result IsLogFault) }
     {
         self.live()?;
         if lsn <= self.durable() {
@@ -161,6 +169,7 @@ impl<L: Disk> LogManager<L> {
         ensures live { OnOk result ((self.old.log.ended ≡ None) × (self.new.log.ended ≡ None)) }
         ensures refused { IfErr result (ReadRefused L.faults self.old.log self.new.log) }
         ensures later { L.faults self.old.log.device ≤ L.faults self.new.log.device }
+        ensures fuse { Blames L.passes L.refused L.own self.old.log.device self.new.log.device (IsErrAnd result IsLogFault) }
     {
         self.live()?;
         reach(&mut self.log, &mut self.batch, &mut self.counted, lsn);
@@ -175,13 +184,14 @@ impl<L: Disk> LogManager<L> {
         ensures dropped { OnOk result (self.new ≡ record self.old { log = record self.old.log { device = self.new.log.device; places = drop (before_lsn upto self.old.log.places) self.old.log.places } }) }
         ensures same { OnErr result (self.new ≡ record self.old { log = record self.old.log { device = self.new.log.device; ended = self.new.log.ended } }) }
         ensures records { L.tells → (stable waiting : List Record) → IsLogOf L.told L.may_leave self.old.log stable waiting
-            → OnOk result ((n : ℕ) × IsLogOf L.told L.may_leave self.new.log (drop n stable) waiting) }
-        // A crash at any moment leaves all stable records, or all but those.
+            → OnOk result (IsLogOf L.told L.may_leave self.new.log (drop (recycled upto self.old.log.places) stable) waiting) }
+        // A crash at any moment leaves all stable records, or all but those of the blocks that go.
         ensures any_moment { L.tells → (stable waiting : List Record) → IsLogOf L.told L.may_leave self.old.log stable waiting
-            → LeavesOnly L.moment L.left_since self.old.log.device self.new.log.device (λ k. (n : ℕ) × StandsForRecords (drop n stable) k) }
+            → LeavesOnly L.moment L.left_since self.old.log.device self.new.log.device (λ k. StandsForRecords stable k ⊎ StandsForRecords (drop (recycled upto self.old.log.places) stable) k) }
         ensures live { OnOk result ((self.old.log.ended ≡ None) × (self.new.log.ended ≡ None)) }
         ensures refused { IfErr result (Refused ⊥ L.faults self.old.log self.new.log) }
         ensures later { L.faults self.old.log.device ≤ L.faults self.new.log.device }
+        ensures fuse { Blames L.passes L.refused L.own self.old.log.device self.new.log.device (IsErrAnd result IsLogFault) }
     {
         self.live()?;
         let n = blocks_before(&self.log, upto);
@@ -244,6 +254,7 @@ impl<L: Disk> LogManager<L> {
         ensures records { L.tells → (stable waiting : List Record) → IsLogOf L.told L.may_leave self.old.log stable waiting → IsLogOf L.told L.may_leave self.new.log stable waiting }
         ensures any_moment { LeavesOnly L.moment L.left_since self.old.log.device self.new.log.device (λ k. L.may_leave self.old.log.device k) }
         ensures faults { L.faults self.new.log.device ≡ L.faults self.old.log.device }
+        ensures fuse { Armed L.fuses L.passes L.refused L.own n self.old.log.device self.new.log.device }
     {
         self.log.fuse(n);
     }

@@ -3,10 +3,14 @@ use Rattle.std.specs.Prelude.{◌≡◌, ◌≢◌, ◌⊎◌, ◌≤◌, ℕ, O
 use Rattle.media.specs.Cause.{Rose}
 use Rattle.media.specs.Fused.{burnt, one_more}
 
+-- the call fails
+abbrev pub Fails : {T E : Type 0} → Result T E → Type 0
+Fails result = OnOk result ⊥
+
 -- A call that a fuse counts: a blown fuse refuses it and stays blown, and any other passes it on. A call that was
 -- passed on fails only where the device itself failed.
 pub record Counted {D T E : Type 0} (passes : D → Option ℕ) (refused own : D → ℕ) (old new : D) (result : Result T E) : Type 0 where
-  pub blown : passes old ≡ Some 0 → OnOk result ⊥ × (passes new ≡ Some 0) × (refused new ≡ one_more (refused old)) × (own new ≡ own old)
+  pub blown : passes old ≡ Some 0 → Fails result × (passes new ≡ Some 0) × (refused new ≡ one_more (refused old)) × (own new ≡ own old)
   pub passed : passes old ≢ Some 0 → (passes new ≡ burnt (passes old)) × (refused new ≡ refused old) × OnErr result (Rose (own old) (own new))
   pub later : own old ≤ own new
 

@@ -3,7 +3,7 @@ use Rattle.log_blocks.specs.Log.{Behind, IsSequence, blocks}
 use Rattle.std.proofs.lemmas.Result.{on_ok_weaker}
 use Rattle.log_blocks.proofs.BlockLists.{stands}
 use Rattle.log_blocks.proofs.Moments.{weaker, joined}
-use Rattle.log_blocks.proofs.FirstGate.{some_none}
+use Rattle.log_blocks.proofs.FirstGate.{more_none, some_none}
 use Rattle.log_blocks.proofs.flush.flush_all.Goals as goal
 
 pub returns-in_err-make_gate-clause-any_moment : goal.returns-in_err-make_gate-clause-any_moment
@@ -39,3 +39,21 @@ returns-in_err-make_gate-clause-progress g c = record {
   places_are = sym (append-nil c.args.done.now);
   gate_is = omega arith;
 }
+
+pub returns-in_err-make_gate-clause-left : goal.returns-in_err-make_gate-clause-left
+returns-in_err-make_gate-clause-left g c tells only bs place s seq =
+    let run = c.make_gate.ensures.any_moment tells only bs s in
+    record {
+      done = 0;
+      within = omega arith;
+      rest_is = refl;
+      read = more_none bs c.args.pending.now _ (c.make_gate.ensures.left tells bs s);
+      crash = λ k may. more_none bs c.args.pending.now k (run.each k (g.met.D.Disk.counts_now c.make_gate.new.device (g.D.Disk.moment c.args.device.now) k run.later may));
+    }
+
+pub returns-clause-left : goal.returns-clause-left
+returns-clause-left g c tells only bs place s seq =
+    let e = c.make_gate.ensures.start in
+    let behind = c.in_ok-make_gate.ensures.stands tells bs s place in
+    c.write_pending.ensures.left tells (c.in_ok-make_gate.ensures.durable tells only) bs (place ∙ ap (λ (n : ℕ). n + length (blocks bs)) (sym e))
+    (subst (λ n. Behind n (blocks bs) (g.D.Disk.told c.make_gate.new.device)) (sym e) behind) (subst (λ n. IsSequence n (bs ++ c.args.pending.now)) (sym e) seq)

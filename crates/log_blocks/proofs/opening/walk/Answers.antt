@@ -1,4 +1,5 @@
 use Rattle.std.proofs.Common.{rules, ◌≡◌, ◌+◌, length, ℕ, List, arith, ap, refl, sym, ◌∙◌, subst}
+use Rattle.media.proofs.Blaming.{then_more}
 use Rattle.log_blocks.specs.declared.header.Place.{Place}
 use Rattle.log_blocks.specs.Opening.{IsChain, lsn_after}
 use Rattle.log_blocks.proofs.Moments.{joined}
@@ -36,6 +37,7 @@ loop-found-preserved g c =
       crash = λ k left. inv.crash k (c.look.ensures.crash k left);
       any_moment = joined g.D.Disk.moment g.D.Disk.left_since _ _ _ _ _ _ inv.any_moment c.look.ensures.any_moment (λ k left. left) (λ k left. inv.crash k left);
       later = omega (arith, inv.later, c.look.ensures.cause.later);
+      fuse = then_more g.D.Disk.passes g.D.Disk.refused g.D.Disk.own _ _ _ ⊥ ⊥ inv.fuse (λ never. never) c.in-Ok.ensures.fuse;
       from = omega (arith, inv.from, added.gate);
       within = omega (arith, range.3, inv.within, added.gate);
       chain = subst (λ (n : ℕ). IsChain c.start-start.result c.add.new.self.places.items n) (sym added.gate)

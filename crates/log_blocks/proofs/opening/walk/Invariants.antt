@@ -1,4 +1,5 @@
 use Rattle.std.proofs.Common.{◌≡◌, ◌≤◌, ◌<◌, ◌-◌}
+use Rattle.media.specs.Counted.{Blames}
 use Rattle.media.specs.Crash.{NoMore, LeavesOnly}
 use Rattle.log_blocks.specs.Opening.{IsChain, lsn_after}
 use Rattle.log_blocks.proofs.Walking.{IsWalked}
@@ -13,6 +14,7 @@ invariant-loop-found g l = record {
   crash : NoMore g.D.Disk.may_leave l.initial.device l.device;
   any_moment : LeavesOnly g.D.Disk.moment g.D.Disk.left_since l.initial.device l.device (λ c. g.D.Disk.may_leave l.initial.device c);
   later : g.D.Disk.faults l.initial.device ≤ g.D.Disk.faults l.device;
+  fuse : Blames g.D.Disk.passes g.D.Disk.refused g.D.Disk.own l.initial.device l.device ⊥;
   from : g.D.Disk.start l.initial.device ≤ l.found.gate;
   within : l.found.gate < l.len;
   chain : IsChain l.start l.found.places.items l.found.gate;

@@ -30,3 +30,14 @@ pub returns-clause-written : goal.returns-clause-written
 returns-clause-written g c tells front body place is behind =
     let staged = written_behind _ _ front place body _ _ _ behind is (c.in_ok-put_down.ensures.written tells) in
     written_gate _ _ front place body _ _ staged (c.in_ok-put_down-2.ensures.written tells)
+
+pub returns-in_err-put_down-clause-left : goal.returns-in_err-put_down-clause-left
+returns-in_err-put_down-clause-left g c tells front body place is behind = inl (torn_behind _ _ front place _ _ _ behind (c.put_down.ensures.torn tells))
+
+pub returns-in_err-put_down-2-clause-left : goal.returns-in_err-put_down-2-clause-left
+returns-in_err-put_down-2-clause-left g c tells front body place is behind =
+    torn_gate _ _ front place body _ _ (written_behind _ _ front place body _ _ _ behind is (c.in_ok-put_down.ensures.written tells)) (c.put_down-2.ensures.torn tells)
+
+pub returns-clause-left : goal.returns-clause-left
+returns-clause-left g c tells front body place is behind =
+    torn_gate _ _ front place body _ _ (written_behind _ _ front place body _ _ _ behind is (c.in_ok-put_down.ensures.written tells)) (c.put_down-2.ensures.torn tells)

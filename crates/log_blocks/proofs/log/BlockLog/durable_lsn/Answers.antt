@@ -1,4 +1,4 @@
-use Rattle.std.proofs.Common.{◌++◌, ap, sym, subst, ◌∙◌, arith}
+use Rattle.std.proofs.Common.{◌++◌, ap, subst, ◌∙◌, arith}
 use Rattle.log_blocks.specs.LogState.{AreNumbered, LogState, lsn_behind, durable_lsn}
 use Rattle.log_blocks.proofs.Walking.{next_above}
 use Rattle.log_blocks.proofs.log.BlockLog.durable_lsn.Goals as goal

@@ -5,9 +5,9 @@ use Rattle.media.specs.Cause.{Rose}
 use Rattle.media.specs.Crash.{LeavesOnly}
 use Rattle.log_blocks.specs.declared.header.Place.{Place}
 use Rattle.log_blocks.specs.Log.{StandsForSome, IsRun, IsSequence, blocks}
-use Rattle.log_blocks.specs.LogState.{AreNumbered, LogState, IsDurable, lsn_behind}
-use Rattle.log_blocks.specs.Opening.{IsChain}
-use Rattle.log_blocks.proofs.Durable.{chain_progress, durable_more}
+use Rattle.log_blocks.specs.LogState.{LogState, IsDurable, lsn_behind}
+use Rattle.log_blocks.specs.Opening.{FlushLeaves, IsChain}
+use Rattle.log_blocks.proofs.Durable.{chain_progress, durable_more, not_flushed}
 use Rattle.log_blocks.proofs.Walking.{next_above}
 use Rattle.log_blocks.proofs.Whole.{chain_room, blocks_room, sized_run, whole_progress, progress_behind, sequence_whole}
 use Rattle.log_blocks.proofs.log.BlockLog.flush.Goals as goal
@@ -90,3 +90,20 @@ returns-in-Ok-clause-numbered g c =
     let p = progress_behind c.self.inside.places.items _ _ _ _ _ _ c.flush_all.ensures.progress in
     let w = whole_progress _ _ _ _ _ _ _ _ c.self.invariant.whole p in
     record { run = w.run; next = w.next_is }
+
+pub returns-in-Ok-clause-left : goal.returns-in-Ok-clause-left
+returns-in-Ok-clause-left g c tells bs =
+    let e = g.met.L.Disk.extent c.self.inside.device tells in
+    subst (λ (s : LogState _). IsDurable g.L.Disk.told g.L.Disk.may_leave s bs → FlushLeaves g.L.Disk.told g.L.Disk.may_leave bs s.pending c.flush_all.new.pending c.flush_all.new.device) c.self.view_is
+    (λ d. c.flush_all.ensures.left tells d.only bs (d.gate_is ∙ ap (λ n. n + length (blocks bs)) e.0) d.stands
+    (subst (λ n. IsSequence n (bs ++ c.self.inside.pending)) e.0 (sequence_whole _ bs c.self.inside.pending d.stands.sequence (subst (λ (l : List Place). IsRun (lsn_behind l) c.self.inside.pending) d.places_are c.self.invariant.whole.run))))
+
+pub returns-in-Err-clause-left : goal.returns-in-Err-clause-left
+returns-in-Err-clause-left g c tells bs =
+    let e = g.met.L.Disk.extent c.self.inside.device tells in
+    subst (λ (s : LogState _). IsDurable g.L.Disk.told g.L.Disk.may_leave s bs → FlushLeaves g.L.Disk.told g.L.Disk.may_leave bs s.pending c.flush_all.new.pending c.flush_all.new.device) c.self.view_is
+    (λ d. c.flush_all.ensures.left tells d.only bs (d.gate_is ∙ ap (λ n. n + length (blocks bs)) e.0) d.stands
+    (subst (λ n. IsSequence n (bs ++ c.self.inside.pending)) e.0 (sequence_whole _ bs c.self.inside.pending d.stands.sequence (subst (λ (l : List Place). IsRun (lsn_behind l) c.self.inside.pending) d.places_are c.self.invariant.whole.run))))
+
+pub returns-in_err-live-clause-left : goal.returns-in_err-live-clause-left
+returns-in_err-live-clause-left g c tells bs d = not_flushed g.L.Disk.told g.L.Disk.may_leave c.args.self.now bs d

@@ -2,11 +2,12 @@ use Rattle.std.proofs.Common.{◌++◌, ℕ, [], subst, ap, ◌∙◌, sym, inr,
 use Rattle.media.specs.Crash.{LeavesOnly}
 use Rattle.log_blocks.specs.Batch.{Batched}
 use Rattle.log_blocks.specs.LogState.{LogState}
+use Rattle.log_blocks.specs.Opening.{Progress}
 use Rattle.log_blocks.proofs.Moments.{started, weaker}
 use Rattle.log_manager.specs.Managed.{Managed, IsCounted, with_batch}
-use Rattle.log_manager.specs.Records.{IsLogOf, StandsForRecords}
+use Rattle.log_manager.specs.Records.{IsLogOf, RecordsLeft, StandsForRecords}
 use Rattle.log_manager.proofs.Counting.{checkpoint_written, counted_same, end_written, with_none}
-use Rattle.log_manager.proofs.Logs.{flushed, none_flushed, some_flushed}
+use Rattle.log_manager.proofs.Logs.{flushed, none_flushed, none_left, records_left, some_flushed}
 use Rattle.log_manager.proofs.manager.LogManager.flush_to.Goals as goal
 
 pub returns-in_err-live-clause-any_moment : goal.returns-in_err-live-clause-any_moment
@@ -60,3 +61,39 @@ returns-in_err-flush-clause-any_moment g c tells s w h =
     subst (λ (l : LogState _). LeavesOnly g.L.Disk.moment g.L.Disk.left_since l.device c.flush.new.self.device (λ k. (n : ℕ) × StandsForRecords (s ++ take n w) k)) view
     (weaker g.L.Disk.moment g.L.Disk.left_since c.hand_over.new.log.device c.flush.new.self.device _ _ (c.flush.ensures.any_moment tells k.bs k.durable)
     (some_flushed g.L.Disk.told g.L.Disk.may_leave c.hand_over.new.log s w k))
+
+pub returns-clause-left : goal.returns-clause-left
+returns-clause-left g c tells s w h =
+    let view = c.hand_over.ensures.log ∙ ap (λ (m : Managed _). m.log) c.self.view_is in
+    let k = subst (λ (l : LogState _). IsLogOf g.L.Disk.told g.L.Disk.may_leave l s w) (sym view) h in
+    subst (λ (l : LogState _). RecordsLeft g.L.Disk.told g.L.Disk.may_leave s w l (with_batch c.flush.new.self c.hand_over.new.batch.blocks)) view
+    (records_left g.L.Disk.told g.L.Disk.may_leave c.hand_over.new.log c.flush.new.self c.hand_over.new.batch.blocks s w k (c.flush.ensures.left tells k.bs k.durable) c.flush.ensures.progress)
+
+pub returns-clause-progress : goal.returns-clause-progress
+returns-clause-progress g c =
+    let view = c.hand_over.ensures.log ∙ ap (λ (m : Managed _). m.log) c.self.view_is in
+    let new = c.flush.new.self in
+    subst (λ (l : LogState _). Progress c.args.self.now.log.gate c.args.self.now.log.places c.args.self.now.log.pending l.gate l.places l.pending)
+    (sym (with_none new) ∙ ap (λ (b : Batched). with_batch new b.blocks) (sym c.hand_over.ensures.batch))
+    (subst (λ (l : LogState _). Progress l.gate l.places l.pending new.gate new.places new.pending) view c.flush.ensures.progress)
+
+pub returns-in_err-flush-clause-left : goal.returns-in_err-flush-clause-left
+returns-in_err-flush-clause-left g c tells s w h =
+    let view = c.hand_over.ensures.log ∙ ap (λ (m : Managed _). m.log) c.self.view_is in
+    let k = subst (λ (l : LogState _). IsLogOf g.L.Disk.told g.L.Disk.may_leave l s w) (sym view) h in
+    subst (λ (l : LogState _). RecordsLeft g.L.Disk.told g.L.Disk.may_leave s w l (with_batch c.flush.new.self c.hand_over.new.batch.blocks)) view
+    (records_left g.L.Disk.told g.L.Disk.may_leave c.hand_over.new.log c.flush.new.self c.hand_over.new.batch.blocks s w k (c.flush.ensures.left tells k.bs k.durable) c.flush.ensures.progress)
+
+pub returns-in_err-flush-clause-progress : goal.returns-in_err-flush-clause-progress
+returns-in_err-flush-clause-progress g c =
+    let view = c.hand_over.ensures.log ∙ ap (λ (m : Managed _). m.log) c.self.view_is in
+    let new = c.flush.new.self in
+    subst (λ (l : LogState _). Progress c.args.self.now.log.gate c.args.self.now.log.places c.args.self.now.log.pending l.gate l.places l.pending)
+    (sym (with_none new) ∙ ap (λ (b : Batched). with_batch new b.blocks) (sym c.hand_over.ensures.batch))
+    (subst (λ (l : LogState _). Progress l.gate l.places l.pending new.gate new.places new.pending) view c.flush.ensures.progress)
+
+pub returns-in_err-live-clause-left : goal.returns-in_err-live-clause-left
+returns-in_err-live-clause-left g c tells s w h = none_left g.L.Disk.told g.L.Disk.may_leave c.args.self.now.log s w h
+
+pub returns-then-lsn-durable-clause-left : goal.returns-then-lsn-durable-clause-left
+returns-then-lsn-durable-clause-left g c tells s w h = none_left g.L.Disk.told g.L.Disk.may_leave c.args.self.now.log s w h
