@@ -1,1 +1,3 @@
+pub mod Lists
+pub mod Lives
 pub mod Reading

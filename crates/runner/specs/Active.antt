@@ -1,5 +1,5 @@
 -- The open transaction.
-use Rattle.std.specs.Prelude.{◌≡◌, ◌≤◌, ◌+◌, ℕ, List, [], ◌∷◌, Option, Some, None, Bool, false}
+use Rattle.std.specs.Prelude.{◌≡◌, ◌≤◌, ◌+◌, ℕ, List, [], ◌∷◌, Option, Some, None, is_some, Bool, true, false}
 use Rattle.wal_record.specs.declared.record.Record.{Record}
 use Rattle.life_laws.specs.Calm.{Opened}
 use Rattle.script.specs.Word.{same_text}
@@ -39,5 +39,4 @@ HasPut lsn (Some old) (Some new) = (new.name ≡ old.name) × (new.tx ≡ old.tx
 
 -- in a log that goes on there is room for its commit
 abbrev pub HasCommitRoom : Option Session → Option ℕ → ℕ → Type 0
-HasCommitRoom (Some z) None spare = 1 ≤ spare
-HasCommitRoom _ _ spare = Unit {0}
+HasCommitRoom session ended spare = is_some session ≡ true → is_some ended ≡ false → 1 ≤ spare

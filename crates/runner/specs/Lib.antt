@@ -9,6 +9,7 @@ pub mod Machine
 pub mod Openings
 pub mod Printing
 pub mod Refusals
+pub mod Rules
 pub mod Session
 pub mod Status
 pub mod Text

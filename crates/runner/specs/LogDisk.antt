@@ -1,7 +1,8 @@
 -- What the log disk keeps, by the logs that it may hold.
-use Rattle.std.specs.Prelude.{◌≡◌, ◌<◌, ℕ, List, ◌∷◌, length}
+use Rattle.std.specs.Prelude.{◌≡◌, ◌<◌, ℕ, List, [], ◌∷◌, length}
 use Rattle.media.specs.Kept.{Kept}
 use Rattle.media.specs.declared.disk.Disk.{Ghosts}
+use Rattle.log_blocks.specs.declared.header.Place.{Place}
 use Rattle.log_blocks.specs.Log.{Block, StandsFor, open_gate}
 use Rattle.log_replay.specs.Standing.{HoldEnd}
 use Rattle.wal_record.specs.Sound.{IsSound}
@@ -33,3 +34,8 @@ pub record IsFormatted (k : Kept) : Type 0 where
   pub long : 1 < length k.bytes
   pub rest : List ℕ
   pub gate : k.bytes ≡ open_gate ∷ rest
+
+-- the LSN of the first record of these blocks, 1 where there is none
+abbrev pub lsn_from : List Place → ℕ
+lsn_from [] = 1
+lsn_from (p ∷ ps) = p.first

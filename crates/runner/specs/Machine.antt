@@ -2,8 +2,7 @@
 use Rattle.std.specs.Prelude.{◌≡◌, ◌+◌, ◌<◌, ◌≤◌, ℕ, List, [], ◌∷◌, ◌++◌, Option, Some, None, Bool, false}
 use Rattle.std.specs.List.{All, list_any}
 use Rattle.media.specs.declared.disk.Disk.{Ghosts}
-use Rattle.log_manager.specs.Managed.{Managed}
-use Rattle.log_blocks.specs.declared.header.Place.{Place}
+use Rattle.log_blocks.specs.LogState.{LogState}
 use Rattle.log_manager.specs.Records.{IsLogOf}
 use Rattle.wal_record.specs.Checkpoints.{limit_of, commits}
 use Rattle.wal_record.specs.History.{log_of, life_log}
@@ -23,14 +22,10 @@ use Rattle.runner.specs.declared.status.Status.{Status}
 use Rattle.runner.specs.declared.status.Status.TheVariants as statuses
 use Rattle.runner.specs.Active.{opened_by}
 use Rattle.runner.specs.Leaf.{rows_of}
-use Rattle.runner.specs.LogDisk.{Keeps, HoldsOne, Leaves}
+use Rattle.runner.specs.LogDisk.{Keeps, HoldsOne, Leaves, lsn_from}
 use Rattle.runner.specs.Refusals.{RefusesAt}
 use Rattle.runner.specs.Text.{lines}
 use Rattle.runner.specs.Turns.{Turn, Life, Active, Stage, Left, stage_step, FitsAt, IsRightLife, lives}
-
-abbrev pub lsn_from : List Place → ℕ
-lsn_from [] = 1
-lsn_from (p ∷ ps) = p.first
 
 abbrev pub actives : Option Session → List Active
 actives None = []
@@ -49,46 +44,46 @@ pub record Out {D : Type 0} (L : Ghosts D) (disk : D) (s : Stage) : Type 0 where
   pub ended : s.ended ≡ None
   pub goes : s.cut ≡ false
   pub fused : IsFused L disk s.armed
-  pub disk : L.tells → Keeps L (HoldsOne s.last) disk
+  pub keeps : L.tells → Keeps L (HoldsOne s.last) disk
 
 -- A life that goes on, where the disk tells: it is calm, the first of its records are on the disk and the others wait,
 -- and a commit doesn't wait.
-pub record IsCalm {D : Type 0} (L : Ghosts D) (log : Managed D) (standing : Standing) (l : Life) (lsn : ℕ) : Type 0 where
+pub record IsCalm {D : Type 0} (L : Ghosts D) (log : LogState D) (standing : Standing) (l : Life) (lsn : ℕ) : Type 0 where
   pub page : standing.page ≡ Some (only_leaf (rows_of standing.page))
   pub calm : Calm l.opening l.history (rows_of standing.page) standing.head (opened_by standing.session) standing.next standing.commits lsn
-  pub place : lsn + 1 ≡ log.log.next
+  pub place : lsn + 1 ≡ log.next
   pub limit : standing.limit ≡ limit_of l.opening
-  pub first : lsn_from log.log.places ≡ 1
+  pub first : lsn_from log.places ≡ 1
   pub durable : List Record
   pub waiting : List Record
   pub whole : log_of l.history ≡ durable ++ waiting
   pub uncommitted : list_any is_commit waiting ≡ false
-  pub stands : IsLogOf L.told L.may_leave log.log (l.opening ++ durable) waiting
+  pub stands : IsLogOf L.told L.may_leave log (l.opening ++ durable) waiting
 
-pub record Runs {D : Type 0} (L : Ghosts D) (log : Managed D) (standing : Standing) (l : Life) : Type 0 where
+pub record Runs {D : Type 0} (L : Ghosts D) (log : LogState D) (standing : Standing) (l : Life) : Type 0 where
   pub count : commits (life_log l.opening l.history) ≡ standing.commits
   pub lsn : ℕ
   pub calm : L.tells → IsCalm L log standing l lsn
 
 -- a life that has ended
-pub record IsOver {D : Type 0} (L : Ghosts D) (log : Managed D) (l : Life) : Type 0 where
+pub record IsOver {D : Type 0} (L : Ghosts D) (log : LogState D) (l : Life) : Type 0 where
   pub right : IsRightLife l
-  pub disk : Keeps L (HoldsOne (Left l)) log.log.device
+  pub keeps : Keeps L (HoldsOne (Left l)) log.device
 
-abbrev pub LivesOn : {D : Type 0} → Ghosts D → Managed D → Standing → Life → Option ℕ → Type 0
+abbrev pub LivesOn : {D : Type 0} → Ghosts D → LogState D → Standing → Life → Option ℕ → Type 0
 LivesOn L log standing l None = Runs L log standing l
 LivesOn L log standing l (Some n) = L.tells → IsOver L log l
 
 -- within a life
-pub record In {D : Type 0} (L : Ghosts D) (log : Managed D) (standing : Standing) (s : Stage) : Type 0 where
+pub record In {D : Type 0} (L : Ghosts D) (log : LogState D) (standing : Standing) (s : Stage) : Type 0 where
   pub past : L.tells → All IsRightLife s.past
   pub here : Life
   pub life : ◌≡◌ {A = Option Life} s.life (Some here)
   pub active : s.active ≡ actives standing.session
-  pub ended : s.ended ≡ log.log.ended
+  pub ended : s.ended ≡ log.ended
   pub goes : s.cut ≡ false
-  pub fused : IsFused L log.log.device s.armed
-  pub lives : LivesOn L log standing here log.log.ended
+  pub fused : IsFused L log.device s.armed
+  pub lives : LivesOn L log standing here log.ended
 
 -- what holds at any place: each life is right, and the disk keeps a log that may be found
 pub record Safe {D : Type 0} (L : Ghosts D) (disk : D) (s : Stage) : Type 0 where

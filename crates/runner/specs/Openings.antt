@@ -1,7 +1,7 @@
 -- Openings and formats of a disk that keeps a log that may be found.
 use Rattle.std.specs.Prelude.{◌≡◌, ℕ, List, [], length, Option, None}
 use Rattle.media.specs.declared.disk.Disk.{Ghosts}
-use Rattle.log_manager.specs.Managed.{Managed}
+use Rattle.log_blocks.specs.LogState.{LogState}
 use Rattle.wal_record.specs.declared.record.Record.{Record}
 use Rattle.runner.specs.declared.session.Session.{Session}
 use Rattle.runner.specs.declared.standing.Standing.{Standing}
@@ -29,7 +29,7 @@ IsNotMade L limit disk left statuses.AlreadyFormatted = Makes L disk (λ last. F
 IsNotMade L limit disk left _ = ⊥
 
 -- a life begins on a log that may be found
-pub record IsBegun {D : Type 0} (L : Ghosts D) (log : Managed D) (standing : Standing) (last : Last) : Type 0 where
+pub record IsBegun {D : Type 0} (L : Ghosts D) (log : LogState D) (standing : Standing) (last : Last) : Type 0 where
   pub opening : List Record
   pub found : MayFind last opening
   pub calm : IsCalm L log standing (record { opening = opening; history = [] }) (length opening)

@@ -34,7 +34,7 @@ pub fn step<L: Disk>(
     command: &Command,
     line: u64,
 ) -> Stepped<L, Life<L>>
-    ensures turns { (s : Stage) → IsAt L.Disk (λ life. In L.Disk life.log life.standing) at s → Steps L.Disk (λ life. In L.Disk life.log life.standing) s command.now line result }
+    ensures turns { (s : Stage) → IsAt L.Disk (λ life. In L.Disk life.log.log life.standing) at s → Steps L.Disk (λ life. In L.Disk life.log.log life.standing) s command.now line result }
     ensures cause { SteppedCause L.Disk (λ life. life.log.log.device) (disk_at (λ life. life.log.log.device) at) result }
 {
     match at {
@@ -51,7 +51,7 @@ fn step_inside<L: Disk>(
     command: &Command,
     line: u64,
 ) -> Stepped<L, Life<L>>
-    ensures turns { (s : Stage) → In L.Disk life.log life.standing s → Steps L.Disk (λ life. In L.Disk life.log life.standing) s command.now line result }
+    ensures turns { (s : Stage) → In L.Disk life.log.log life.standing s → Steps L.Disk (λ life. In L.Disk life.log.log life.standing) s command.now line result }
     ensures cause { SteppedCause L.Disk (λ life. life.log.log.device) life.log.log.device result }
 {
     let mut life = life;

@@ -10,16 +10,15 @@ ghost use Rattle.store_model.specs.declared.request.Request.TheVariants as reque
 ghost use Rattle.runner.specs.declared.status.Status.{Status};
 
 use crate::print;
-use crate::session::Session;
 use crate::standing::Standing;
 use crate::status::Status;
 use log_manager::LogManager;
 use media::Disk;
 use operators::Operators;
 use script::{Command, Device, Name};
-use std::alloc::{AllocError, Global};
+use std::alloc::Global;
 use std::slice;
-use store_model::{Fault, Key, Lsn, Request, Value};
+use store_model::{Fault, Key, Request, Value};
 
 /// The counts of a life stay below this: a script is too short to come so far.
 const LIMIT: u64 = 1 << 62;
@@ -43,8 +42,8 @@ impl<L: Disk> Life<L> {
         line: u64,
     ) -> Result<Vec<u8>, Status>
         requires { IsNoStop command.now }
-        ensures ok { IfOk result (λ lines. (s : Stage) → In L.Disk self.old.log self.old.standing s → Adds L.tells (In L.Disk self.new.log self.new.standing) s command.now lines.items) }
-        ensures err { IfErr result (λ status. (s : Stage) → In L.Disk self.old.log self.old.standing s → RefusesAt L.Disk self.new.log.log.device s command.now line status) }
+        ensures ok { IfOk result (λ lines. (s : Stage) → In L.Disk self.old.log.log self.old.standing s → Adds L.tells (In L.Disk self.new.log.log self.new.standing) s command.now lines.items) }
+        ensures err { IfErr result (λ status. (s : Stage) → In L.Disk self.old.log.log self.old.standing s → RefusesAt L.Disk self.new.log.log.device s command.now line status) }
         ensures cause { IfErr result (LogCause (L.own self.old.log.log.device) (L.own self.new.log.log.device)) }
         ensures later { L.own self.old.log.log.device ≤ L.own self.new.log.log.device }
     {
@@ -60,8 +59,8 @@ impl<L: Disk> Life<L> {
     }
 
     fn begin(&mut self, alloc: Global, name: &Name, line: u64) -> Result<Vec<u8>, Status>
-        ensures ok { IfOk result (λ lines. (s : Stage) → In L.Disk self.old.log self.old.standing s → Adds L.tells (In L.Disk self.new.log self.new.standing) s (commands.Begin name.now) lines.items) }
-        ensures err { IfErr result (λ status. (s : Stage) → In L.Disk self.old.log self.old.standing s → RefusesAt L.Disk self.new.log.log.device s (commands.Begin name.now) line status) }
+        ensures ok { IfOk result (λ lines. (s : Stage) → In L.Disk self.old.log.log self.old.standing s → Adds L.tells (In L.Disk self.new.log.log self.new.standing) s (commands.Begin name.now) lines.items) }
+        ensures err { IfErr result (λ status. (s : Stage) → In L.Disk self.old.log.log self.old.standing s → RefusesAt L.Disk self.new.log.log.device s (commands.Begin name.now) line status) }
         ensures cause { IfErr result (LogCause (L.own self.old.log.log.device) (L.own self.new.log.log.device)) }
         ensures later { L.own self.old.log.log.device ≤ L.own self.new.log.log.device }
     {
@@ -72,7 +71,10 @@ impl<L: Disk> Life<L> {
             return Err(Status::NotBuilt { line });
         }
         match self.log.ended() {
-            Some(at) => return printed(print::begin_ended(alloc, name, at)),
+            Some(at) => return match print::begin_ended(alloc, name, at) {
+                Ok(out) => Ok(out),
+                Err(_) => Err(Status::Memory),
+            },
             None => {}
         }
         if self.standing.next >= LIMIT - 1 {
@@ -98,8 +100,8 @@ impl<L: Disk> Life<L> {
         request: &Request,
         line: u64,
     ) -> Result<Vec<u8>, Status>
-        ensures ok { IfOk result (λ lines. (s : Stage) → In L.Disk self.old.log self.old.standing s → Adds L.tells (In L.Disk self.new.log self.new.standing) s (commands.Ask name.now request.now) lines.items) }
-        ensures err { IfErr result (λ status. (s : Stage) → In L.Disk self.old.log self.old.standing s → RefusesAt L.Disk self.new.log.log.device s (commands.Ask name.now request.now) line status) }
+        ensures ok { IfOk result (λ lines. (s : Stage) → In L.Disk self.old.log.log self.old.standing s → Adds L.tells (In L.Disk self.new.log.log self.new.standing) s (commands.Ask name.now request.now) lines.items) }
+        ensures err { IfErr result (λ status. (s : Stage) → In L.Disk self.old.log.log self.old.standing s → RefusesAt L.Disk self.new.log.log.device s (commands.Ask name.now request.now) line status) }
         ensures cause { IfErr result (LogCause (L.own self.old.log.log.device) (L.own self.new.log.log.device)) }
         ensures later { L.own self.old.log.log.device ≤ L.own self.new.log.log.device }
     {
@@ -117,15 +119,21 @@ impl<L: Disk> Life<L> {
 
     fn get(&self, alloc: Global, name: &Name, key: &Key) -> Result<Vec<u8>, Status>
         requires { is_active self.now.standing.session name.now ≡ true }
-        ensures ok { IfOk result (λ lines. (s : Stage) → In L.Disk self.now.log self.now.standing s → Adds L.tells (In L.Disk self.now.log self.now.standing) s (commands.Ask name.now (requests.Get key.now)) lines.items) }
+        ensures ok { IfOk result (λ lines. (s : Stage) → In L.Disk self.now.log.log self.now.standing s → Adds L.tells (In L.Disk self.now.log.log self.now.standing) s (commands.Ask name.now (requests.Get key.now)) lines.items) }
         ensures memory { IfErr result (λ status. status ≡ Status.Memory) }
     {
         match self.log.ended() {
-            Some(at) => return printed(print::get_ended(alloc, name, key, at)),
+            Some(at) => return match print::get_ended(alloc, name, key, at) {
+                Ok(out) => Ok(out),
+                Err(_) => Err(Status::Memory),
+            },
             None => {}
         }
         let found = self.standing.live(key);
-        printed(print::get_line(alloc, name, key, &found))
+        match print::get_line(alloc, name, key, &found) {
+            Ok(out) => Ok(out),
+            Err(_) => Err(Status::Memory),
+        }
     }
 
     fn put(
@@ -138,17 +146,23 @@ impl<L: Disk> Life<L> {
         line: u64,
     ) -> Result<Vec<u8>, Status>
         requires { is_active self.old.standing.session name.now ≡ true }
-        ensures ok { IfOk result (λ lines. (s : Stage) → In L.Disk self.old.log self.old.standing s → Adds L.tells (In L.Disk self.new.log self.new.standing) s (commands.Ask name.now (requests.Put key.now value.now)) lines.items) }
-        ensures err { IfErr result (λ status. (s : Stage) → In L.Disk self.old.log self.old.standing s → RefusesAt L.Disk self.new.log.log.device s (commands.Ask name.now (requests.Put key.now value.now)) line status) }
+        ensures ok { IfOk result (λ lines. (s : Stage) → In L.Disk self.old.log.log self.old.standing s → Adds L.tells (In L.Disk self.new.log.log self.new.standing) s (commands.Ask name.now (requests.Put key.now value.now)) lines.items) }
+        ensures err { IfErr result (λ status. (s : Stage) → In L.Disk self.old.log.log self.old.standing s → RefusesAt L.Disk self.new.log.log.device s (commands.Ask name.now (requests.Put key.now value.now)) line status) }
         ensures cause { IfErr result (LogCause (L.own self.old.log.log.device) (L.own self.new.log.log.device)) }
         ensures later { L.own self.old.log.log.device ≤ L.own self.new.log.log.device }
     {
         match self.log.ended() {
-            Some(at) => return printed(print::put_ended(alloc, name, key, at)),
+            Some(at) => return match print::put_ended(alloc, name, key, at) {
+                Ok(out) => Ok(out),
+                Err(_) => Err(Status::Memory),
+            },
             None => {}
         }
         if self.standing.is_full() {
-            return printed(print::put_full(alloc, name, key, 1, self.standing.puts()));
+            return match print::put_full(alloc, name, key, 1, self.standing.puts()) {
+                Ok(out) => Ok(out),
+                Err(_) => Err(Status::Memory),
+            };
         }
         self.put_row(alloc, operators, name, key, value, line)
     }
@@ -163,8 +177,8 @@ impl<L: Disk> Life<L> {
         value: &Value,
         line: u64,
     ) -> Result<Vec<u8>, Status>
-        ensures ok { IfOk result (λ lines. (s : Stage) → In L.Disk self.old.log self.old.standing s → Adds L.tells (In L.Disk self.new.log self.new.standing) s (commands.Ask name.now (requests.Put key.now value.now)) lines.items) }
-        ensures err { IfErr result (λ status. (s : Stage) → In L.Disk self.old.log self.old.standing s → RefusesAt L.Disk self.new.log.log.device s (commands.Ask name.now (requests.Put key.now value.now)) line status) }
+        ensures ok { IfOk result (λ lines. (s : Stage) → In L.Disk self.old.log.log self.old.standing s → Adds L.tells (In L.Disk self.new.log.log self.new.standing) s (commands.Ask name.now (requests.Put key.now value.now)) lines.items) }
+        ensures err { IfErr result (λ status. (s : Stage) → In L.Disk self.old.log.log self.old.standing s → RefusesAt L.Disk self.new.log.log.device s (commands.Ask name.now (requests.Put key.now value.now)) line status) }
         ensures cause { IfErr result (LogCause (L.own self.old.log.log.device) (L.own self.new.log.log.device)) }
         ensures later { L.own self.old.log.log.device ≤ L.own self.new.log.log.device }
     {
@@ -192,8 +206,8 @@ impl<L: Disk> Life<L> {
     }
 
     fn commit(&mut self, alloc: Global, name: &Name, line: u64) -> Result<Vec<u8>, Status>
-        ensures ok { IfOk result (λ lines. (s : Stage) → In L.Disk self.old.log self.old.standing s → Adds L.tells (In L.Disk self.new.log self.new.standing) s (commands.Commit name.now) lines.items) }
-        ensures err { IfErr result (λ status. (s : Stage) → In L.Disk self.old.log self.old.standing s → RefusesAt L.Disk self.new.log.log.device s (commands.Commit name.now) line status) }
+        ensures ok { IfOk result (λ lines. (s : Stage) → In L.Disk self.old.log.log self.old.standing s → Adds L.tells (In L.Disk self.new.log.log self.new.standing) s (commands.Commit name.now) lines.items) }
+        ensures err { IfErr result (λ status. (s : Stage) → In L.Disk self.old.log.log self.old.standing s → RefusesAt L.Disk self.new.log.log.device s (commands.Commit name.now) line status) }
         ensures cause { IfErr result (LogCause (L.own self.old.log.log.device) (L.own self.new.log.log.device)) }
         ensures later { L.own self.old.log.log.device ≤ L.own self.new.log.log.device }
     {
@@ -201,7 +215,10 @@ impl<L: Disk> Life<L> {
             return Err(Status::Script { line });
         }
         match self.log.ended() {
-            Some(at) => return printed(print::commit_ended(alloc, name, at)),
+            Some(at) => return match print::commit_ended(alloc, name, at) {
+                Ok(out) => Ok(out),
+                Err(_) => Err(Status::Memory),
+            },
             None => {}
         }
         let refused = self.log.refused();
@@ -250,8 +267,8 @@ impl<L: Disk> Life<L> {
         calls: u64,
         line: u64,
     ) -> Result<Vec<u8>, Status>
-        ensures ok { IfOk result (λ lines. (s : Stage) → In L.Disk self.old.log self.old.standing s → Adds L.tells (In L.Disk self.new.log self.new.standing) s (commands.Fuse device calls) lines.items) }
-        ensures err { IfErr result (λ status. (s : Stage) → In L.Disk self.old.log self.old.standing s → RefusesAt L.Disk self.new.log.log.device s (commands.Fuse device calls) line status) }
+        ensures ok { IfOk result (λ lines. (s : Stage) → In L.Disk self.old.log.log self.old.standing s → Adds L.tells (In L.Disk self.new.log.log self.new.standing) s (commands.Fuse device calls) lines.items) }
+        ensures err { IfErr result (λ status. (s : Stage) → In L.Disk self.old.log.log self.old.standing s → RefusesAt L.Disk self.new.log.log.device s (commands.Fuse device calls) line status) }
         ensures cause { IfErr result (LogCause (L.own self.old.log.log.device) (L.own self.new.log.log.device)) }
         ensures later { L.own self.old.log.log.device ≤ L.own self.new.log.log.device }
     {
@@ -267,8 +284,8 @@ impl<L: Disk> Life<L> {
     }
 
     fn renew(&mut self, alloc: Global, device: Device, line: u64) -> Result<Vec<u8>, Status>
-        ensures ok { IfOk result (λ lines. (s : Stage) → In L.Disk self.old.log self.old.standing s → Adds L.tells (In L.Disk self.new.log self.new.standing) s (commands.Renew device) lines.items) }
-        ensures err { IfErr result (λ status. (s : Stage) → In L.Disk self.old.log self.old.standing s → RefusesAt L.Disk self.new.log.log.device s (commands.Renew device) line status) }
+        ensures ok { IfOk result (λ lines. (s : Stage) → In L.Disk self.old.log.log self.old.standing s → Adds L.tells (In L.Disk self.new.log.log self.new.standing) s (commands.Renew device) lines.items) }
+        ensures err { IfErr result (λ status. (s : Stage) → In L.Disk self.old.log.log self.old.standing s → RefusesAt L.Disk self.new.log.log.device s (commands.Renew device) line status) }
         ensures cause { IfErr result (LogCause (L.own self.old.log.log.device) (L.own self.new.log.log.device)) }
         ensures later { L.own self.old.log.log.device ≤ L.own self.new.log.log.device }
     {
@@ -281,16 +298,5 @@ impl<L: Disk> Life<L> {
         };
         self.log.fuse(None);
         Ok(out)
-    }
-}
-
-/// Lines for which there was memory, or not.
-fn printed(lines: Result<Vec<u8>, AllocError>) -> Result<Vec<u8>, Status>
-    ensures lines { (P : List ℕ → Type 0) → IfOk lines (λ out. P out.items) → IfOk result (λ out. P out.items) }
-    ensures memory { IfErr result (λ status. status ≡ Status.Memory) }
-{
-    match lines {
-        Ok(lines) => Ok(lines),
-        Err(_) => Err(Status::Memory),
     }
 }

@@ -93,7 +93,7 @@ pub fn open<L: Disk>(
     disk: L,
     line: u64,
 ) -> Result<Life<L>, NotOpened<L>>
-    ensures begun { IfOk result (λ life. Makes L.Disk disk (IsBegun L.Disk life.log life.standing)) }
+    ensures begun { IfOk result (λ life. Makes L.Disk disk (IsBegun L.Disk life.log.log life.standing)) }
     ensures first { IfOk result (λ life. (life.standing.session ≡ None) × (life.log.log.ended ≡ None)) }
     ensures not { IfErr result (λ r. IsNotBegun L.Disk line disk r.disk r.status) }
     ensures fuse { MatchResult result (λ life. Blames L.passes L.refused L.own disk life.log.log.device ⊥) (λ r. Blames L.passes L.refused L.own disk r.disk (r.status ≡ statuses.LogFault)) }

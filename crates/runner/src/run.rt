@@ -140,7 +140,7 @@ fn run_life<S: Source, K: Sink, V: Vault, L: Disk>(
     vault: &mut V,
     life: Life<L>,
 ) -> Lived<L>
-    ensures turns { (log : List Record) (left told : Option (List ℕ)) (turns : List Turn) → Between L.tells log (In L.Disk life.log life.standing) left told input.old turns (S.left source.old) (K.told sink.old)
+    ensures turns { (log : List Record) (left told : Option (List ℕ)) (turns : List Turn) → Between L.tells log (In L.Disk life.log.log life.standing) left told input.old turns (S.left source.old) (K.told sink.old)
         → LivedTo L.Disk log left told input.new (S.left source.new) (K.told sink.new) result }
     ensures later { (S.faults source.old ≤ S.faults source.new) × (K.faults sink.old ≤ K.faults sink.new) }
     ensures cause { LivedCause L.Disk life.log.log.device (S.faults source.old) (S.faults source.new) (K.faults sink.old) (K.faults sink.new) result }
@@ -179,8 +179,8 @@ fn turn<S: Source, K: Sink, V: Vault, L: Disk>(
     vault: &mut V,
     at: At<L, Life<L>>,
 ) -> Turned<L, Life<L>>
-    ensures turns { (log : List Record) (left told : Option (List ℕ)) (turns : List Turn) → Between L.tells log (IsAt L.Disk (λ life. In L.Disk life.log life.standing) at) left told input.old turns (S.left source.old) (K.told sink.old)
-        → TurnedTo L.Disk log (λ life. In L.Disk life.log life.standing) left told input.new turns (S.left source.new) (K.told sink.new) result }
+    ensures turns { (log : List Record) (left told : Option (List ℕ)) (turns : List Turn) → Between L.tells log (IsAt L.Disk (λ life. In L.Disk life.log.log life.standing) at) left told input.old turns (S.left source.old) (K.told sink.old)
+        → TurnedTo L.Disk log (λ life. In L.Disk life.log.log life.standing) left told input.new turns (S.left source.new) (K.told sink.new) result }
     ensures later { (S.faults source.old ≤ S.faults source.new) × (K.faults sink.old ≤ K.faults sink.new) }
     ensures cause { TurnedCause L.Disk (λ life. life.log.log.device) (disk_at (λ life. life.log.log.device) at) (S.faults source.old) (S.faults source.new) (K.faults sink.old) (K.faults sink.new) result }
     ensures vault { IsCycled V.tells V.told V.faults vault.old vault.new }

@@ -1,5 +1,6 @@
 //! What a life knows beside its log.
 ghost use Rattle.std.specs.Prelude.{◌≡◌, ◌≢◌, ◌<◌, ◌+◌, ◌^◌, ◌↔◌, true, false, None, Some, IfOk, OnErr, IfSome};
+ghost use Rattle.runner.specs.Rules.{rules_prop};
 ghost use Rattle.wal_record.specs.State.{KeepsState, live};
 ghost use Rattle.wal_record.specs.Rules.{HasSpelling};
 ghost use Rattle.page_rows.specs.Redo.{Redone};
@@ -31,7 +32,7 @@ pub struct Standing {
     pub commits: u64,
     pub limit: u32,
 
-    ghost rules: { IfSome page KeepsState },
+    ghost rules: { IfSome page KeepsState } by { rules_prop page },
     ghost place: { head < 2 ^ 62 },
     ghost number: { IsNumbered next },
 }
