@@ -301,6 +301,7 @@ impl<L: Disk> BlockLog<L> {
         ensures any_moment { LeavesOnly L.moment L.left_since self.old.device self.new.device (λ c. L.may_leave self.old.device c) }
         ensures faults { L.faults self.new.device ≡ L.faults self.old.device }
         ensures fuse { Armed L.fuses L.passes L.refused L.own n self.old.device self.new.device }
+        ensures told { L.tells → L.told self.new.device ≡ L.told self.old.device }
     {
         self.device.fuse(n);
     }

@@ -1,20 +1,21 @@
 -- The record of an LSN, in the block that has it.
-use Rattle.std.proofs.Common.{◌≡◌, ℕ, zero, suc, ◌+◌, ◌-◌, ◌<◌, ◌≤◌, Bool, true, false, List, [], ◌∷◌, ◌++◌, length, get_or, drop, refl, sym, ◌∙◌, ap, subst, arith, append_assoc, length-append}
+use Rattle.std.proofs.Common.{◌≡◌, ℕ, zero, suc, ◌+◌, ◌-◌, ◌<◌, ◌≤◌, Bool, true, false, List, [], ◌∷◌, ◌++◌, length, get_or, drop, take, refl, sym, ◌∙◌, ap, subst, arith, append_assoc, length-append, take-append-drop}
 use Rattle.std.specs.Prelude.{map, nat_le, if◌then◌else◌, ⊤}
-use Rattle.std.proofs.lemmas.Bool.{le-leb, lt-leb}
+use Rattle.std.proofs.lemmas.Bool.{le-leb, leb-false, leb-true, lt-leb}
 use Rattle.log_blocks.specs.Batch.{numbered, records_in}
 use Rattle.std.specs.List.{All}
 use Rattle.log_blocks.specs.Log.{Block, body, open_gate, IsRun, IsSequence, first_lsn, next_lsn}
 use Rattle.log_blocks.specs.LogState.{LogState, Refused, firsts, lsn_behind, payload_at}
-use Rattle.log_blocks.specs.Opening.{places}
+use Rattle.log_blocks.specs.Opening.{Progress, places}
 use Rattle.log_blocks.specs.declared.header.Place.{Place}
+use Rattle.log_blocks.proofs.Lasts.{map-append}
 use Rattle.log_blocks.proofs.Whole.{behind_first, next_lsn-append}
 use Rattle.store_model.specs.declared.fault.Fault.{Fault}
 use Rattle.store_model.specs.declared.fault.Fault.TheVariants as faults
 use Rattle.wal_record.specs.Rules.{HasSpelling}
 use Rattle.wal_record.specs.declared.record.Record.{Record}
 use Rattle.log_manager.specs.Records.{AreIn, bytes_of}
-use Rattle.log_manager.specs.Managed.{HasLsn, IsAt, IsBadIn, IsBadRecord, NotRead, before_lsn, first_kept, with_batch}
+use Rattle.log_manager.specs.Managed.{EndBefore, HasLsn, IsAt, IsBadIn, IsBadRecord, NotRead, before_lsn, first_kept, with_batch}
 
 abbrev pub first_of : Block → ℕ
 first_of b = b.first
@@ -154,6 +155,23 @@ before_small upto (p ∷ q ∷ ps) = by (nat_le q.first upto) (before_small upto
     by true le = omega (arith, le)
     by false le = omega arith
 
+each_more : (upto f g n : ℕ) (fs : List ℕ) → g ≤ upto → ((i : ℕ) → i < n → get_or (g ∷ fs) (i + 1) 0 ≤ upto) → (i : ℕ) → i < suc n → get_or (f ∷ g ∷ fs) (i + 1) 0 ≤ upto
+each_more upto f g n fs le rest zero lt = le
+each_more upto f g n fs le rest (suc i) lt = let e : suc (i + 1) ≡ suc i + 1 = omega arith in subst (λ m. get_or (f ∷ g ∷ fs) m 0 ≤ upto) e (rest i (omega (arith, lt)))
+
+pub end_before : (upto : ℕ) (ps : List Place) → EndBefore upto ps (before_lsn upto ps)
+end_before upto [] = record { not_last = omega arith; each = λ i lt. absurd (omega (arith, lt)); no_more = λ lt. absurd (omega (arith, lt)) }
+end_before upto (p ∷ []) = record { not_last = omega arith; each = λ i lt. absurd (omega (arith, lt)); no_more = λ lt. absurd (omega (arith, lt)) }
+end_before upto (p ∷ q ∷ ps) = by (nat_le q.first upto) refl (end_before upto (q ∷ ps))
+  where
+    by : (b : Bool) → nat_le q.first upto ≡ b → EndBefore upto (q ∷ ps) (before_lsn upto (q ∷ ps)) → EndBefore upto (p ∷ q ∷ ps) (if b then suc (before_lsn upto (q ∷ ps)) else 0)
+    by true is rest = let n = before_lsn upto (q ∷ ps) in record {
+      not_last = omega (arith, rest.not_last);
+      each = each_more upto p.first q.first n (map (λ (x : Place). x.first) ps) (leb-true q.first upto is) rest.each;
+      no_more = λ lt. let e : suc (n + 1) ≡ suc n + 1 = omega arith in subst (λ m. upto < get_or (map (λ (x : Place). x.first) (p ∷ q ∷ ps)) m 0) e (rest.no_more (omega (arith, lt)));
+    }
+    by false is rest = record { not_last = omega arith; each = λ i lt. absurd (omega (arith, lt)); no_more = λ _. leb-false q.first upto is }
+
 -- the first record doesn't depend on the blocks in memory
 pub first_same : {D : Type 0} (log : LogState D) (bs : List Block) → first_kept (with_batch log bs) ≡ first_kept log
 first_same log bs = by log.places log.pending bs
@@ -195,3 +213,26 @@ length-firsts log = omega (arith, length-append (map (λ (p : Place). p.first) l
     of_blocks : (bs : List Block) → length (map first_of bs) ≡ length bs
     of_blocks [] = refl
     of_blocks (b ∷ bs) = omega (arith, of_blocks bs)
+
+-- the blocks that stand, and some of the pending ones, begin with the first LSN that the log keeps
+pub first_front : (start next n : ℕ) (bs pending : List Block) → IsRun (lsn_behind (places start bs)) pending → next ≡ next_lsn (lsn_behind (places start bs)) pending
+    → first_lsn (bs ++ take n pending) ≡ get_or (map (λ (p : Place). p.first) (places start bs) ++ map (λ (b : Block). b.first) pending) 0 next
+first_front start next zero [] [] run is = sym is
+first_front start next (suc n) [] [] run is = sym is
+first_front start next zero [] (b ∷ pending) run is = sym run.0
+first_front start next (suc n) [] (b ∷ pending) run is = refl
+first_front start next n (b ∷ bs) pending run is = refl
+
+-- a flush moves blocks, and the first LSN stays
+pub first_progress : {D : Type 0} (old new : LogState D) → Progress old.gate old.places old.pending new.gate new.places new.pending → new.next ≡ old.next → first_kept new ≡ first_kept old
+first_progress old new p next =
+    let done = take p.count old.pending in
+    let rest = drop p.count old.pending in
+    let of : Block → ℕ = λ b. b.first in
+    let at : Place → ℕ = λ p. p.first in
+    let is : firsts new ≡ firsts old =
+    ap (λ (l : List Place). map at l ++ map of new.pending) p.places_are ∙ ap (λ (l : List Block). map at (old.places ++ places old.gate done) ++ map of l) p.left
+    ∙ ap (λ (l : List ℕ). l ++ map of rest) (map-append at old.places (places old.gate done)) ∙ append_assoc (map at old.places) (map at (places old.gate done)) (map of rest)
+    ∙ ap (λ (l : List ℕ). map at old.places ++ (l ++ map of rest)) (firsts-places old.gate done)
+    ∙ ap (λ (l : List ℕ). map at old.places ++ l) (sym (map-append of done rest) ∙ ap (map of) (take-append-drop p.count old.pending)) in
+    ap (λ (l : List ℕ). get_or l 0 new.next) is ∙ ap (λ n. get_or (firsts old) 0 n) next

@@ -1,17 +1,17 @@
 -- Records that join blocks, and blocks that join a log.
-use Rattle.std.proofs.Common.{◌≡◌, ℕ, zero, suc, ◌+◌, ◌-◌, ◌≤◌, Bool, true, false, List, [], ◌∷◌, ◌++◌, length, take, drop, refl, sym, ◌∙◌, ap, subst, arith, append_assoc, append-nil, length-append}
+use Rattle.std.proofs.Common.{◌≡◌, inl, inr, ℕ, zero, suc, ◌+◌, ◌-◌, ◌≤◌, Bool, true, false, List, [], ◌∷◌, ◌++◌, length, take, drop, refl, sym, ◌∙◌, ap, subst, arith, append_assoc, append-nil, length-append}
 use Rattle.std.specs.Prelude.{if◌then◌else◌}
 use Rattle.std.specs.List.{All}
-use Rattle.std.proofs.lemmas.List.Elements.{All-append}
+use Rattle.std.proofs.lemmas.List.Elements.{All-append, All-cons, All-nil}
 use Rattle.std.proofs.lemmas.Grind.{flat_map-append}
 use Rattle.log_blocks.specs.Batch.{begun, joined, joins, numbered, records_in, with_group}
-use Rattle.log_blocks.specs.Log.{Block, body, next_lsn, open_gate}
+use Rattle.log_blocks.specs.Log.{Block, IsRun, body, next_lsn, open_gate}
 use Rattle.log_blocks.specs.Opening.{places}
 use Rattle.wal_record.specs.Rules.{HasSpelling}
 use Rattle.wal_record.specs.Spelling.{spelling}
 use Rattle.wal_record.specs.declared.record.Record.{Record}
 use Rattle.log_manager.specs.Managed.{records_at}
-use Rattle.log_manager.specs.Records.{AreIn, Holds, bytes_of, checkpoint_after, checkpoint_in, is_checkpoint}
+use Rattle.log_manager.specs.Records.{AreIn, Holds, IsLastCheckpoint, bytes_of, checkpoint_after, checkpoint_in, is_checkpoint}
 
 -- ---- blocks one behind the other
 
@@ -103,6 +103,27 @@ checkpoint_after-append c n [] ss = ap (λ m. checkpoint_after c m ss) (omega ar
 checkpoint_after-append c n (r ∷ rs) ss =
     let d = if is_checkpoint r then n else c in
     checkpoint_after-append d (suc n) rs ss ∙ ap (λ m. checkpoint_after (checkpoint_after d (suc n) rs) m ss) (omega arith)
+
+-- what the fold over the records gives is the last Checkpoint
+pub last_is : (c n : ℕ) (rs : List Record) → IsLastCheckpoint c n rs (checkpoint_after c n rs)
+last_is c n [] = inl (refl, All-nil (λ r. is_checkpoint r ≡ false))
+last_is c n (r ∷ rs) = by (is_checkpoint r) refl (last_is (if is_checkpoint r then n else c) (suc n) rs)
+  where
+    by : (b : Bool) → is_checkpoint r ≡ b → IsLastCheckpoint (if b then n else c) (suc n) rs (checkpoint_after (if b then n else c) (suc n) rs)
+        → IsLastCheckpoint c n (r ∷ rs) (checkpoint_after (if b then n else c) (suc n) rs)
+    by true e (inl none) = inr (record { front = []; found = r; back = rs; is = refl; checkpoint = e; none_behind = none.1; place = omega (arith, none.0) })
+    by true e (inr l) = inr (record { front = r ∷ l.front; found = l.found; back = l.back; is = ap (λ (m : List Record). r ∷ m) l.is; checkpoint = l.checkpoint; none_behind = l.none_behind; place = omega (arith, l.place) })
+    by false e (inl none) = inl (none.0, All-cons (λ r. is_checkpoint r ≡ false) r rs e none.1)
+    by false e (inr l) = inr (record { front = r ∷ l.front; found = l.found; back = l.back; is = ap (λ (m : List Record). r ∷ m) l.is; checkpoint = l.checkpoint; none_behind = l.none_behind; place = omega (arith, l.place) })
+
+-- the Checkpoint that the last header tells is that of the records
+pub checkpoint_is : (c n : ℕ) (xs : List Block) (rs : List Record) → IsRun n xs → AreIn c xs rs → checkpoint_in c xs ≡ checkpoint_after c n rs
+checkpoint_is c n [] rs run a = sym (ap (checkpoint_after c n) a)
+checkpoint_is c n (x ∷ xs) rs run a =
+    let here : x.checkpoint ≡ checkpoint_after c n a.0 = a.3.checkpoint ∙ ap (λ m. checkpoint_after c m a.0) run.0 in
+    checkpoint_is x.checkpoint (n + x.count) xs a.1 run.2 a.4
+    ∙ ap (λ m. checkpoint_after m (n + x.count) a.1) here ∙ ap (λ m. checkpoint_after (checkpoint_after c n a.0) (n + m) a.1) a.3.count
+    ∙ sym (checkpoint_after-append c n a.0 a.1) ∙ ap (checkpoint_after c n) (sym a.2)
 
 -- the last Checkpoint stands among the records before
 pub checkpoint_below : (c n : ℕ) (rs : List Record) → c ≤ n - 1 → checkpoint_after c n rs ≤ n + length rs - 1

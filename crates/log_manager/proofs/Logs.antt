@@ -16,11 +16,11 @@ use Rattle.log_blocks.proofs.BlockLists.{run_front}
 use Rattle.wal_record.specs.Rules.{HasSpelling}
 use Rattle.wal_record.specs.declared.record.Record.{Record}
 use Rattle.log_manager.specs.declared.counted.Counted.{Counted}
-use Rattle.log_manager.specs.Records.{AreIn, AreRecordsOf, IsLogOf, RecordsLeft, StandsForMoreRecords, StandsForRecords, bytes_of, checkpoint_after, checkpoint_in}
-use Rattle.log_manager.specs.Managed.{HasLsn, IsAt, IsCounted, first_kept, records_at, with_batch}
+use Rattle.log_manager.specs.Records.{AreIn, AreRecordsOf, IsLastCheckpoint, IsLogOf, StandsForMoreRecords, StandsForRecords, bytes_of, checkpoint_after, checkpoint_in}
+use Rattle.log_manager.specs.Managed.{HasLsn, IsAt, IsCounted, RecordsLeft, first_kept, records_at, with_batch}
 use Rattle.log_manager.proofs.Counting.{checkpoint_of_block, checkpoints-places, group_run, without_first}
-use Rattle.log_manager.proofs.Finding.{at_more, first_of, firsts-places, found_at, found_in, next_of_all}
-use Rattle.log_manager.proofs.Joining.{checkpoint_in-append, group_in, in_append, in_count, in_drop, in_split, in_take, next_count, records_most, records_places, records_take}
+use Rattle.log_manager.proofs.Finding.{at_more, first_front, first_of, firsts-places, found_at, found_in, next_of_all}
+use Rattle.log_manager.proofs.Joining.{checkpoint_in-append, checkpoint_is, last_is, group_in, in_append, in_count, in_drop, in_split, in_take, next_count, records_most, records_places, records_take}
 
 -- ---- the last Checkpoint
 
@@ -59,6 +59,27 @@ module _ {D : Type 0} (told : D → Kept) (may_leave : D → Kept → Type 0) wh
       ap (λ (l : List Place). last_or (last_or 0 (map (λ p. p.checkpoint) l)) (map checkpoint_of_block log.pending)) h.durable.places_are
       ∙ ap (λ (l : List ℕ). last_or (last_or 0 l) (map checkpoint_of_block log.pending)) (checkpoints-places (told log.device).start h.bs)
       ∙ ap (λ n. checkpoint_in n log.pending) (none_before h.records.before h.bs h.records.none)
+
+  -- it is the last of them
+  pub checkpoint_last : (log : LogState D) (s w : List Record) (h : IsLogOf told may_leave log s w) → IsLastCheckpoint h.records.before (first_kept log) (s ++ w) (checkpoint_of log)
+  checkpoint_last log s w h =
+      let before = h.records.before in
+      let start = (told log.device).start in
+      let all = h.bs ++ log.pending in
+      let run = subst (λ (l : List Place). IsRun (lsn_behind l) log.pending) h.durable.places_are h.numbered.run in
+      let sequence = sequence_whole start h.bs log.pending h.durable.stands.sequence run in
+      let records = in_append before h.bs log.pending s w h.records.records h.more in
+      let is : firsts log ≡ map first_of all =
+      ap (λ (l : List Place). map (λ (p : Place). p.first) l ++ map first_of log.pending) h.durable.places_are
+      ∙ ap (λ (l : List ℕ). l ++ map first_of log.pending) (firsts-places start h.bs) ∙ sym (map-append first_of h.bs log.pending) in
+      let last = checkpoint_told log s w h ∙ sym (checkpoint_in-append before h.bs log.pending) ∙ checkpoint_is before (first_lsn all) all (s ++ w) sequence.run records
+      ∙ kept all (s ++ w) before log.next records ∙ ap (λ (l : List ℕ). checkpoint_after before (get_or l 0 log.next) (s ++ w)) (sym is) in
+      subst (IsLastCheckpoint before (first_kept log) (s ++ w)) (sym last) (last_is before (first_kept log) (s ++ w))
+    where
+      -- the first LSN tells nothing where there is no block
+      kept : (all : List Block) (rs : List Record) (c d : ℕ) → AreIn c all rs → checkpoint_after c (first_lsn all) rs ≡ checkpoint_after c (get_or (map first_of all) 0 d) rs
+      kept [] rs c d a = ap (checkpoint_after c 1) a ∙ sym (ap (checkpoint_after c d) a)
+      kept (b ∷ bs) rs c d a = refl
 
   checkpoint_below_next : (log : LogState D) (s w : List Record) → IsLogOf told may_leave log s w → checkpoint_of log ≤ log.next - 1
   checkpoint_below_next log s w h =
@@ -165,17 +186,30 @@ module _ {D : Type 0} (told : D → Kept) (may_leave : D → Kept → Type 0) wh
       front_none [] ys e = refl
       front_none (x ∷ xs) ys e = absurd cc
 
+  -- they begin with the first LSN that the log keeps
+  first_number : (log : LogState D) (s w : List Record) (h : IsLogOf told may_leave log s w) (n : ℕ) → first_lsn (h.bs ++ take n log.pending) ≡ first_kept log
+  first_number log s w h n =
+      let start = (told log.device).start in
+      let is = h.durable.places_are in
+      first_front start log.next n h.bs log.pending (subst (λ (l : List Place). IsRun (lsn_behind l) log.pending) is h.numbered.run)
+      (subst (λ (l : List Place). log.next ≡ next_lsn (lsn_behind l) log.pending) is h.numbered.next)
+      ∙ ap (λ (l : List Place). get_or (map (λ (p : Place). p.first) l ++ map first_of log.pending) 0 log.next) (sym is)
+
   -- what a crash within a flush leaves
-  pub some_flushed : (log : LogState D) (s w : List Record) (h : IsLogOf told may_leave log s w) (k : Kept) → StandsForSome h.bs log.pending k → (n : ℕ) × StandsForRecords (s ++ take n w) k
-  some_flushed log s w h k some = (records_in (take some.whole log.pending), first_stand log s w h k some.whole some.stands)
+  pub some_flushed : (log : LogState D) (s w : List Record) (h : IsLogOf told may_leave log s w) (k : Kept) → StandsForSome h.bs log.pending k
+      → (n : ℕ) × (t : StandsForRecords (s ++ take n w) k) × (first_lsn t.bs ≡ first_kept log)
+  unfolding first_stand
+  some_flushed log s w h k some = (records_in (take some.whole log.pending), first_stand log s w h k some.whole some.stands, first_number log s w h some.whole)
 
   more_flushed : (log : LogState D) (s w : List Record) (h : IsLogOf told may_leave log s w) (k : Kept) (done : ℕ) → StandsForMore h.bs log.pending done k
-      → StandsForMoreRecords s w (records_in (take done log.pending)) k
+      → StandsForMoreRecords (first_kept log) s w (records_in (take done log.pending)) k
+  unfolding first_stand
   more_flushed log s w h k done some = record {
     whole = records_in (take some.whole log.pending);
     no_fewer = records_take done some.whole log.pending some.no_fewer;
     within = omega (arith, records_most some.whole log.pending, in_count (checkpoint_in h.records.before h.bs) log.pending w h.more);
     stands = first_stand log s w h k some.whole some.stands;
+    numbered = first_number log s w h some.whole;
   }
 
   -- what a flush leaves
@@ -216,15 +250,14 @@ module _ {D : Type 0} (told : D → Kept) (may_leave : D → Kept → Type 0) wh
       record { done = left.done; within = left.within; durable = left.durable; read = left.read; crash = left.crash }
 
   -- what the disk has now
-  pub none_flushed : (log : LogState D) (s w : List Record) → IsLogOf told may_leave log s w → (k : Kept) → may_leave log.device k → (n : ℕ) × StandsForRecords (s ++ take n w) k
-  none_flushed log s w h k left = (
-    0,
-    record {
-      bs = h.bs;
-      stands = subst (StandsFor h.bs) (sym (h.durable.only k left)) h.durable.stands;
-      records = record { before = h.records.before; none = h.records.none; records = subst (AreIn h.records.before h.bs) (sym (append-nil s)) h.records.records };
-    },
-  )
+  pub none_flushed : (log : LogState D) (s w : List Record) → IsLogOf told may_leave log s w → (k : Kept) → may_leave log.device k
+      → (n : ℕ) × (t : StandsForRecords (s ++ take n w) k) × (first_lsn t.bs ≡ first_kept log)
+  none_flushed log s w h k left =
+      some_flushed log s w h k (record {
+        whole = 0;
+        within = omega arith;
+        stands = subst (λ (l : List Block). StandsFor l k) (sym (append-nil h.bs)) (subst (StandsFor h.bs) (sym (h.durable.only k left)) h.durable.stands);
+      })
 
   -- a log that has just been opened
   pub opened : (log : LogState D) (bs : List Block) (rs : List Record) → log.pending ≡ [] → AreNumbered log → Stands log bs → AreRecordsOf bs rs → IsLogOf told may_leave log rs []

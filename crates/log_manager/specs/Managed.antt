@@ -1,14 +1,15 @@
 -- The log of records as contracts see it.
-use Rattle.std.specs.Prelude.{◌≡◌, ◌≤◌, ◌<◌, ◌+◌, ◌-◌, ◌*◌, ◌^◌, ℕ, suc, List, [], ◌∷◌, ◌++◌, length, take, min, None, Some, ⊤, nat_le, if◌then◌else◌, slice_index_or, Err}
+use Rattle.std.specs.Prelude.{◌≡◌, ◌≤◌, ◌<◌, ◌+◌, ◌-◌, ◌*◌, ◌^◌, ℕ, suc, List, [], ◌∷◌, ◌++◌, length, map, take, min, None, Some, ⊤, nat_le, if◌then◌else◌, slice_index_or, Err}
+use Rattle.media.specs.Kept.{Kept}
 use Rattle.store_model.specs.declared.fault.Fault.{Fault}
 use Rattle.store_model.specs.declared.fault.Fault.TheVariants.{Memory, LogBad, Ended}
 use Rattle.log_blocks.specs.Batch.{numbered, records_in, IsChecked}
 use Rattle.log_blocks.specs.Log.{Block, blocks}
-use Rattle.log_blocks.specs.LogState.{LogState, Refused, checkpoint_of, firsts, log_end, payload_at}
+use Rattle.log_blocks.specs.LogState.{LogState, Refused, checkpoint_of, durable_lsn, firsts, log_end, payload_at}
 use Rattle.log_blocks.specs.declared.header.Place.{Place}
 use Rattle.wal_record.specs.Reading.{record_at}
 use Rattle.wal_record.specs.declared.record.Record.{Record}
-use Rattle.log_manager.specs.Records.{bytes_of}
+use Rattle.log_manager.specs.Records.{StandsForMoreRecords, bytes_of}
 use Rattle.log_manager.specs.declared.counted.Counted.{Counted}
 
 -- the block log, with the blocks in memory among its pending ones, and for how many commits there is room
@@ -62,6 +63,12 @@ before_lsn upto [] = 0
 before_lsn upto (p ∷ []) = 0
 before_lsn upto (p ∷ q ∷ ps) = if nat_le q.first upto then suc (before_lsn upto (q ∷ ps)) else 0
 
+-- the first n of these durable blocks end before an LSN, and aren't the last; the next one doesn't, or is the last
+pub record EndBefore (upto : ℕ) (ps : List Place) (n : ℕ) : Type 0 where
+  pub not_last : n ≤ length ps - 1
+  pub each : (i : ℕ) → i < n → slice_index_or (map (λ p. p.first) ps) (i + 1) 0 ≤ upto
+  pub no_more : n + 1 < length ps → upto < slice_index_or (map (λ p. p.first) ps) (n + 1) 0
+
 -- how many records blocks at these places have
 abbrev pub records_at : List Place → ℕ
 records_at [] = 0
@@ -114,3 +121,12 @@ pub record IsAt (rs : List Record) (i : ℕ) (r : Record) : Type 0 where
   pub back : List Record
   pub is : rs ≡ front ++ r ∷ back
   pub place : length front ≡ i
+
+-- What a flush leaves, also one that failed. The first of the waiting records are stable now. A read now, and one after
+-- a crash that comes now, gives the records that were stable, these, and maybe further ones in order.
+pub record RecordsLeft {D : Type 0} (told : D → Kept) (may_leave : D → Kept → Type 0) (stable waiting : List Record) (old new : LogState D) : Type 0 where
+  pub done : ℕ
+  pub within : done ≤ length waiting
+  pub durable : durable_lsn new.places ≡ durable_lsn old.places + done
+  pub read : StandsForMoreRecords (first_kept old) stable waiting done (told new.device)
+  pub crash : (k : Kept) → may_leave new.device k → StandsForMoreRecords (first_kept old) stable waiting done k

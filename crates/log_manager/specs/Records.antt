@@ -1,9 +1,9 @@
 -- Which records the blocks of a log hold.
-use Rattle.std.specs.Prelude.{◌≡◌, ◌≤◌, ◌+◌, ℕ, suc, List, [], ◌∷◌, ◌++◌, length, take, flat_map, map, Bool, true, false, if◌then◌else◌}
+use Rattle.std.specs.Prelude.{◌≡◌, ◌⊎◌, ◌≤◌, ◌+◌, ℕ, suc, List, [], ◌∷◌, ◌++◌, length, take, flat_map, map, Bool, true, false, if◌then◌else◌}
 use Rattle.std.specs.List.{All}
 use Rattle.media.specs.Kept.{Kept}
-use Rattle.log_blocks.specs.Log.{Block, StandsFor}
-use Rattle.log_blocks.specs.LogState.{LogState, AreNumbered, IsDurable, durable_lsn, last_or}
+use Rattle.log_blocks.specs.Log.{Block, StandsFor, first_lsn}
+use Rattle.log_blocks.specs.LogState.{LogState, AreNumbered, IsDurable, last_or}
 use Rattle.wal_record.specs.Rules.{HasSpelling}
 use Rattle.wal_record.specs.Spelling.{spelling}
 use Rattle.wal_record.specs.declared.record.Record.{Record}
@@ -21,6 +21,20 @@ is_checkpoint _ = false
 abbrev pub checkpoint_after : ℕ → ℕ → List Record → ℕ
 checkpoint_after before lsn [] = before
 checkpoint_after before lsn (r ∷ rs) = checkpoint_after (if is_checkpoint r then lsn else before) (suc lsn) rs
+
+-- of these records, the first of which has the LSN first, the one with this LSN is the last Checkpoint
+pub record IsLastOf (first : ℕ) (rs : List Record) (lsn : ℕ) : Type 0 where
+  pub front : List Record
+  pub found : Record
+  pub back : List Record
+  pub is : rs ≡ front ++ found ∷ back
+  pub checkpoint : is_checkpoint found ≡ true
+  pub none_behind : All (λ r. is_checkpoint r ≡ false) back
+  pub place : lsn ≡ first + length front
+
+-- the LSN of the last Checkpoint of these records; where none of them is one, `before`
+abbrev pub IsLastCheckpoint : ℕ → ℕ → List Record → ℕ → Type 0
+IsLastCheckpoint before first rs lsn = ((lsn ≡ before) × All (λ r. is_checkpoint r ≡ false) rs) ⊎ IsLastOf first rs lsn
 
 -- the block holds these records, where the last Checkpoint before them has the LSN `before`
 pub record Holds (before : ℕ) (b : Block) (rs : List Record) : Type 0 where
@@ -58,18 +72,11 @@ pub record IsLogOf {D : Type 0} (told : D → Kept) (may_leave : D → Kept → 
   pub more : AreIn (checkpoint_in records.before bs) log.pending waiting
   pub numbered : AreNumbered log
 
--- the kept bytes stand for the stable records and some of the waiting ones in order, at least so many of them
-pub record StandsForMoreRecords (stable waiting : List Record) (least : ℕ) (k : Kept) : Type 0 where
+-- The kept bytes stand for the stable records and some of the waiting ones in order, at least so many of them. The first
+-- record has this LSN.
+pub record StandsForMoreRecords (first : ℕ) (stable waiting : List Record) (least : ℕ) (k : Kept) : Type 0 where
   pub whole : ℕ
   pub no_fewer : least ≤ whole
   pub within : whole ≤ length waiting
   pub stands : StandsForRecords (stable ++ take whole waiting) k
-
--- What a flush leaves, also one that failed. The first of the waiting records are stable now. A read now, and one after
--- a crash that comes now, gives the records that were stable, these, and maybe further ones in order.
-pub record RecordsLeft {D : Type 0} (told : D → Kept) (may_leave : D → Kept → Type 0) (stable waiting : List Record) (old new : LogState D) : Type 0 where
-  pub done : ℕ
-  pub within : done ≤ length waiting
-  pub durable : durable_lsn new.places ≡ durable_lsn old.places + done
-  pub read : StandsForMoreRecords stable waiting done (told new.device)
-  pub crash : (k : Kept) → may_leave new.device k → StandsForMoreRecords stable waiting done k
+  pub numbered : first_lsn stands.bs ≡ first

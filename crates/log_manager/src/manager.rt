@@ -5,13 +5,13 @@ ghost use Rattle.media.specs.Counted.{Armed, Blames};
 ghost use Rattle.media.specs.Crash.{LeavesOnly};
 ghost use Rattle.store_model.specs.declared.fault.Fault.TheVariants as faults;
 ghost use Rattle.log_blocks.specs.Batch.{records_in};
-ghost use Rattle.log_blocks.specs.Log.{Block};
+ghost use Rattle.log_blocks.specs.Log.{Block, first_lsn};
 ghost use Rattle.log_blocks.specs.LogState.{IsDurable, Refused, checkpoint_of, durable_lsn, firsts};
 ghost use Rattle.log_blocks.specs.Opening.{IsLogFault, Progress};
 ghost use Rattle.wal_record.specs.Rules.{HasSpelling};
 ghost use Rattle.wal_record.specs.declared.record.Record.{Record};
-ghost use Rattle.log_manager.specs.Records.{bytes_of, AreRecordsOf, IsLogOf, RecordsLeft, StandsForRecords};
-ghost use Rattle.log_manager.specs.Managed.{HasMore, HasLsn, IsAt, IsBadIn, IsCounted, IsNoBadLog, NotAdded, ReadRefused, before_lsn, first_kept, recycled, with_batch};
+ghost use Rattle.log_manager.specs.Records.{bytes_of, AreRecordsOf, IsLastCheckpoint, IsLogOf, StandsForRecords};
+ghost use Rattle.log_manager.specs.Managed.{EndBefore, HasMore, HasLsn, IsAt, IsBadIn, IsCounted, IsNoBadLog, NotAdded, ReadRefused, RecordsLeft, before_lsn, first_kept, recycled, with_batch};
 
 use crate::counted::{COMMIT, Counted};
 use crate::reading::record_in;
@@ -134,9 +134,10 @@ impl<L: Disk> LogManager<L> {
             → OnOk result ((self.new ≡ self.old) ⊎ IsLogOf L.told L.may_leave self.new.log (stable ++ waiting) []) }
         ensures durable { OnOk result (lsn ≤ durable_lsn self.new.log.places) }
         ensures next { (self.new.log.next ≡ self.old.log.next) × (self.new.spare ≡ self.old.spare) }
-        // A crash at any moment leaves the stable records, then some of the waiting ones in order.
+        ensures first { first_kept self.new.log ≡ first_kept self.old.log }
+        // A crash at any moment leaves the stable records, then some of the waiting ones in order, with the same LSNs.
         ensures any_moment { L.tells → (stable waiting : List Record) → IsLogOf L.told L.may_leave self.old.log stable waiting
-            → LeavesOnly L.moment L.left_since self.old.log.device self.new.log.device (λ k. (n : ℕ) × StandsForRecords (stable ++ take n waiting) k) }
+            → LeavesOnly L.moment L.left_since self.old.log.device self.new.log.device (λ k. (n : ℕ) × (s : StandsForRecords (stable ++ take n waiting) k) × (first_lsn s.bs ≡ first_kept self.old.log)) }
         // After a fault, too, a read gives the stable records, of which the durable LSN tells the last, and then maybe
         // further ones in order.
         ensures left { L.tells → (stable waiting : List Record) → IsLogOf L.told L.may_leave self.old.log stable waiting
@@ -181,6 +182,7 @@ impl<L: Disk> LogManager<L> {
 
     /// Forgets the durable blocks that end before an LSN, but never the last one.
     pub fn recycle_to(&mut self, upto: Lsn) -> Result<(), Fault>
+        ensures these { EndBefore upto self.old.log.places (before_lsn upto self.old.log.places) }
         ensures dropped { OnOk result (self.new ≡ record self.old { log = record self.old.log { device = self.new.log.device; places = drop (before_lsn upto self.old.log.places) self.old.log.places } }) }
         ensures same { OnErr result (self.new ≡ record self.old { log = record self.old.log { device = self.new.log.device; ended = self.new.log.ended } }) }
         ensures records { L.tells → (stable waiting : List Record) → IsLogOf L.told L.may_leave self.old.log stable waiting
@@ -229,7 +231,10 @@ impl<L: Disk> LogManager<L> {
 
     /// The LSN of the last Checkpoint, 0 where the log has none.
     pub fn checkpoint(&self) -> Lsn
-        ensures { L.tells → (stable waiting : List Record) → IsLogOf L.told L.may_leave self.now.log stable waiting → result ≡ checkpoint_of self.now.log }
+        // Where none of the records that are kept is one, it stood before them.
+        ensures last { L.tells → (stable waiting : List Record) → (log : IsLogOf L.told L.may_leave self.now.log stable waiting)
+            → IsLastCheckpoint log.records.before (first_kept self.now.log) (stable ++ waiting) result }
+        ensures header { L.tells → (stable waiting : List Record) → IsLogOf L.told L.may_leave self.now.log stable waiting → result ≡ checkpoint_of self.now.log }
     {
         self.counted.checkpoint
     }
@@ -255,6 +260,7 @@ impl<L: Disk> LogManager<L> {
         ensures any_moment { LeavesOnly L.moment L.left_since self.old.log.device self.new.log.device (λ k. L.may_leave self.old.log.device k) }
         ensures faults { L.faults self.new.log.device ≡ L.faults self.old.log.device }
         ensures fuse { Armed L.fuses L.passes L.refused L.own n self.old.log.device self.new.log.device }
+        ensures told { L.tells → L.told self.new.log.device ≡ L.told self.old.log.device }
     {
         self.log.fuse(n);
     }

@@ -1,23 +1,25 @@
-use Rattle.std.proofs.Common.{◌++◌, ℕ, [], subst, ap, ◌∙◌, sym, inr, take}
+use Rattle.std.proofs.Common.{◌≡◌, ◌++◌, ℕ, [], subst, ap, ◌∙◌, sym, inr, take}
 use Rattle.media.specs.Crash.{LeavesOnly}
 use Rattle.log_blocks.specs.Batch.{Batched}
+use Rattle.log_blocks.specs.Log.{first_lsn}
 use Rattle.log_blocks.specs.LogState.{LogState}
 use Rattle.log_blocks.specs.Opening.{Progress}
 use Rattle.log_blocks.proofs.Moments.{started, weaker}
-use Rattle.log_manager.specs.Managed.{Managed, IsCounted, with_batch}
-use Rattle.log_manager.specs.Records.{IsLogOf, RecordsLeft, StandsForRecords}
+use Rattle.log_manager.specs.Managed.{Managed, IsCounted, RecordsLeft, first_kept, with_batch}
+use Rattle.log_manager.specs.Records.{IsLogOf, StandsForRecords}
 use Rattle.log_manager.proofs.Counting.{checkpoint_written, counted_same, end_written, with_none}
+use Rattle.log_manager.proofs.Finding.{first_progress}
 use Rattle.log_manager.proofs.Logs.{flushed, none_flushed, none_left, records_left, some_flushed}
 use Rattle.log_manager.proofs.manager.LogManager.flush_to.Goals as goal
 
 pub returns-in_err-live-clause-any_moment : goal.returns-in_err-live-clause-any_moment
 returns-in_err-live-clause-any_moment g c tells s w h =
-    started g.L.Disk.moment g.L.Disk.left_since c.args.self.now.log.device (λ k. (n : ℕ) × StandsForRecords (s ++ take n w) k)
+    started g.L.Disk.moment g.L.Disk.left_since c.args.self.now.log.device (λ k. (n : ℕ) × (t : StandsForRecords (s ++ take n w) k) × (first_lsn t.bs ≡ first_kept c.args.self.now.log))
     (λ k left. none_flushed g.L.Disk.told g.L.Disk.may_leave c.args.self.now.log s w h k (g.met.L.Disk.only_now c.args.self.now.log.device k left))
 
 pub returns-then-lsn-durable-clause-any_moment : goal.returns-then-lsn-durable-clause-any_moment
 returns-then-lsn-durable-clause-any_moment g c tells s w h =
-    started g.L.Disk.moment g.L.Disk.left_since c.args.self.now.log.device (λ k. (n : ℕ) × StandsForRecords (s ++ take n w) k)
+    started g.L.Disk.moment g.L.Disk.left_since c.args.self.now.log.device (λ k. (n : ℕ) × (t : StandsForRecords (s ++ take n w) k) × (first_lsn t.bs ≡ first_kept c.args.self.now.log))
     (λ k left. none_flushed g.L.Disk.told g.L.Disk.may_leave c.args.self.now.log s w h k (g.met.L.Disk.only_now c.args.self.now.log.device k left))
 
 pub invariant_of-self : goal.invariant_of-self
@@ -50,7 +52,7 @@ pub returns-clause-any_moment : goal.returns-clause-any_moment
 returns-clause-any_moment g c tells s w h =
     let view = c.hand_over.ensures.log ∙ ap (λ (m : Managed _). m.log) c.self.view_is in
     let k = subst (λ (l : LogState _). IsLogOf g.L.Disk.told g.L.Disk.may_leave l s w) (sym view) h in
-    subst (λ (l : LogState _). LeavesOnly g.L.Disk.moment g.L.Disk.left_since l.device c.flush.new.self.device (λ k. (n : ℕ) × StandsForRecords (s ++ take n w) k)) view
+    subst (λ (l : LogState _). LeavesOnly g.L.Disk.moment g.L.Disk.left_since l.device c.flush.new.self.device (λ k. (n : ℕ) × (t : StandsForRecords (s ++ take n w) k) × (first_lsn t.bs ≡ first_kept l))) view
     (weaker g.L.Disk.moment g.L.Disk.left_since c.hand_over.new.log.device c.flush.new.self.device _ _ (c.flush.ensures.any_moment tells k.bs k.durable)
     (some_flushed g.L.Disk.told g.L.Disk.may_leave c.hand_over.new.log s w k))
 
@@ -58,7 +60,7 @@ pub returns-in_err-flush-clause-any_moment : goal.returns-in_err-flush-clause-an
 returns-in_err-flush-clause-any_moment g c tells s w h =
     let view = c.hand_over.ensures.log ∙ ap (λ (m : Managed _). m.log) c.self.view_is in
     let k = subst (λ (l : LogState _). IsLogOf g.L.Disk.told g.L.Disk.may_leave l s w) (sym view) h in
-    subst (λ (l : LogState _). LeavesOnly g.L.Disk.moment g.L.Disk.left_since l.device c.flush.new.self.device (λ k. (n : ℕ) × StandsForRecords (s ++ take n w) k)) view
+    subst (λ (l : LogState _). LeavesOnly g.L.Disk.moment g.L.Disk.left_since l.device c.flush.new.self.device (λ k. (n : ℕ) × (t : StandsForRecords (s ++ take n w) k) × (first_lsn t.bs ≡ first_kept l))) view
     (weaker g.L.Disk.moment g.L.Disk.left_since c.hand_over.new.log.device c.flush.new.self.device _ _ (c.flush.ensures.any_moment tells k.bs k.durable)
     (some_flushed g.L.Disk.told g.L.Disk.may_leave c.hand_over.new.log s w k))
 
@@ -97,3 +99,15 @@ returns-in_err-live-clause-left g c tells s w h = none_left g.L.Disk.told g.L.Di
 
 pub returns-then-lsn-durable-clause-left : goal.returns-then-lsn-durable-clause-left
 returns-then-lsn-durable-clause-left g c tells s w h = none_left g.L.Disk.told g.L.Disk.may_leave c.args.self.now.log s w h
+
+pub returns-clause-first : goal.returns-clause-first
+returns-clause-first g c =
+    let view = c.hand_over.ensures.log ∙ ap (λ (m : Managed _). m.log) c.self.view_is in
+    let new = c.flush.new.self in
+    ap (λ (b : Batched). first_kept (with_batch new b.blocks)) c.hand_over.ensures.batch ∙ ap first_kept (with_none new) ∙ first_progress c.hand_over.new.log new c.flush.ensures.progress c.flush.ensures.next ∙ ap first_kept view
+
+pub returns-in_err-flush-clause-first : goal.returns-in_err-flush-clause-first
+returns-in_err-flush-clause-first g c =
+    let view = c.hand_over.ensures.log ∙ ap (λ (m : Managed _). m.log) c.self.view_is in
+    let new = c.flush.new.self in
+    ap (λ (b : Batched). first_kept (with_batch new b.blocks)) c.hand_over.ensures.batch ∙ ap first_kept (with_none new) ∙ first_progress c.hand_over.new.log new c.flush.ensures.progress c.flush.ensures.next ∙ ap first_kept view

@@ -1,11 +1,11 @@
-use Rattle.std.proofs.Common.{◌≡◌, ◌⊎◌, inl, ◌<◌, ℕ, subst, ap, sym, ◌∙◌, arith, drop, take, length}
+use Rattle.std.proofs.Common.{◌≡◌, ◌⊎◌, inl, ◌<◌, subst, ap, sym, ◌∙◌, arith, drop, take, length}
 use Rattle.media.specs.Crash.{LeavesOnly}
 use Rattle.log_blocks.specs.LogState.{IsDurable, LogState}
 use Rattle.log_blocks.proofs.Moments.{started, weaker}
 use Rattle.log_manager.specs.Managed.{IsCounted, Managed, before_lsn, recycled, records_at, with_batch}
 use Rattle.log_manager.specs.Records.{IsLogOf, StandsForRecords}
 use Rattle.log_manager.proofs.Counting.{counted_dropped, counted_elsewhere}
-use Rattle.log_manager.proofs.Finding.{before_small}
+use Rattle.log_manager.proofs.Finding.{before_small, end_before}
 use Rattle.log_manager.proofs.Logs.{all_or_dropped, dropped, inner, none_dropped}
 use Rattle.log_manager.proofs.manager.LogManager.recycle_to.Goals as goal
 
@@ -91,3 +91,15 @@ pub returns-then-n-eq0-clause-records : goal.returns-then-n-eq0-clause-records
 returns-then-n-eq0-clause-records g c tells s w h =
     let none : before_lsn c.args.upto c.args.self.now.log.places ≡ 0 = omega (arith, c.blocks_before-n.ensures, c.if-n-eq0.true, ap (λ (m : Managed _). before_lsn c.args.upto m.log.places) c.self.view_is) in
     subst (λ n. IsLogOf g.L.Disk.told g.L.Disk.may_leave c.args.self.now.log (drop (records_at (take n c.args.self.now.log.places)) s) w) (sym none) h
+
+pub returns-clause-these : goal.returns-clause-these
+returns-clause-these g c = end_before c.args.upto c.args.self.now.log.places
+
+pub returns-in_err-live-clause-these : goal.returns-in_err-live-clause-these
+returns-in_err-live-clause-these g c = end_before c.args.upto c.args.self.now.log.places
+
+pub returns-then-n-eq0-clause-these : goal.returns-then-n-eq0-clause-these
+returns-then-n-eq0-clause-these g c = end_before c.args.upto c.args.self.now.log.places
+
+pub returns-in_err-drop_front-clause-these : goal.returns-in_err-drop_front-clause-these
+returns-in_err-drop_front-clause-these g c = end_before c.args.upto c.args.self.now.log.places
