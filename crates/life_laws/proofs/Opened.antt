@@ -36,17 +36,17 @@ use Rattle.life_laws.proofs.Start.{nothing_told, nothing_legal}
 -- ---- one page
 
 -- page 1 is a leaf with all keys, and there is no other page
-record IsOneLeaf (image : ℕ → Option PageState) : Type 0 where
-  rows : List LeafRow
-  leaf : image 1 ≡ Some (only_leaf rows)
-  others : (p : ℕ) → p ≢ 1 → image p ≡ None
+pub record IsOneLeaf (image : ℕ → Option PageState) : Type 0 where
+  pub rows : List LeafRow
+  pub leaf : image 1 ≡ Some (only_leaf rows)
+  pub others : (p : ℕ) → p ≢ 1 → image p ≡ None
 
-record HasOnePage (log : List Record) : Type 0 where
-  one : IsOneLeaf (image log)
-  count : pages log ≡ 1
+pub record HasOnePage (log : List Record) : Type 0 where
+  pub one : IsOneLeaf (image log)
+  pub count : pages log ≡ 1
 
 -- who has an image is page 1
-is_first : (image : ℕ → Option PageState) → IsOneLeaf image → (P : PageState → Type 0) (p : ℕ) → OnPage P (image p) → p ≡ 1
+pub is_first : (image : ℕ → Option PageState) → IsOneLeaf image → (P : PageState → Type 0) (p : ℕ) → OnPage P (image p) → p ≡ 1
 is_first image o P p (s, is, holds) = by (eqb p 1) refl
   where
     by : (b : Bool) → eqb p 1 ≡ b → p ≡ 1
@@ -81,7 +81,7 @@ rows_changed : (log : List Record) (o : IsOneLeaf (image log)) (change : PageSta
 rows_changed log o change rows e = ap (option_map change) o.leaf ∙ ap Some e
 
 -- no page is a branch, and none has a foster child: so none is adopted
-nothing_adopted : (image : ℕ → Option PageState) → IsOneLeaf image → (a : Adopt) → IsApplicable (kinds.Adopt a) a.parent (image a.parent) → ⊥
+pub nothing_adopted : (image : ℕ → Option PageState) → IsOneLeaf image → (a : Adopt) → IsApplicable (kinds.Adopt a) a.parent (image a.parent) → ⊥
 unfolding CanApply
 nothing_adopted image o a applicable =
     let can = applicable.can.0 refl in
@@ -120,7 +120,7 @@ unfolding image along applied pages
 first_page_made (kinds.Format f) e = record { one = record { rows = []; leaf = refl; others = λ p n. ap (λ (b : Bool). cond b (Some first_page) None) (eqb_differ p 1 n) }; count = refl }
 first_page_made _ e = absurd cc
 
-one_page : (log : List Record) → AreLawful log → list_any splits_page log ≡ false → has_items log ≡ true → HasOnePage log
+pub one_page : (log : List Record) → AreLawful log → list_any splits_page log ≡ false → has_items log ≡ true → HasOnePage log
 one_page = by_pushes (λ (log : List Record). AreLawful log → list_any splits_page log ≡ false → has_items log ≡ true → HasOnePage log) (λ _ _ e. absurd cc) (λ log r before lawful whole some.
     let parts = lawful_front log r lawful in
     let splits = either_false (list_any splits_page log) (splits_page r || false) (sym (list_any-append splits_page log (r ∷ [])) ∙ whole) in
@@ -142,7 +142,7 @@ unfolding head along
 no_head p = omega arith
 
 -- a page head is an LSN of the log
-head_below : (p : ℕ) (log : List Record) → head log p ≤ length log
+pub head_below : (p : ℕ) (log : List Record) → head log p ≤ length log
 head_below p = by_pushes (λ (log : List Record). head log p ≤ length log) (no_head p) (λ log r before.
     by (names p r) log r before (head_push log r p) (length-append log (r ∷ [])))
   where

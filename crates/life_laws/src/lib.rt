@@ -3,9 +3,10 @@
 //! The crate runs nothing. `specs/Calm.antt` says what holds between two commands of such a life, seen
 //! from what its code keeps: the rows of the leaf, the LSN of the leaf's last record, the open transaction,
 //! the next number, the number of commits, and the LSN of the last record. The lemmas in `proofs/` (`Start`,
-//! `CalmSteps`, `CalmLives`, `Leaving`, `Reopening`, `Opened`) lead from one command to the next. So code has to show only that it enters these
-//! records and gives these answers; that the history is legal, has the replies of a serial run, and loses
-//! nothing acknowledged at a stop follows, as the functions here say of whole lives.
+//! `CalmSteps`, `CalmLives`, `Leaving`, `Reopening`, `Opened`) lead from one command to the next, and from a log
+//! that is found to a life on it. So code has to show only that it enters these records and gives these answers; that
+//! the history is legal, has the replies of a serial run, and loses nothing acknowledged at a stop follows, as the
+//! functions here say of whole lives.
 #![tactic(auto)]
 
 ghost use Rattle.std.specs.Prelude.{List, ℕ};
