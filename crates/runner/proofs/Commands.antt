@@ -1,9 +1,10 @@
 -- What each command of a life adds, over any stage.
 use Rattle.std.proofs.Common.{◌≡◌, ◌≢◌, ℕ, ◌+◌, ◌<◌, ◌≤◌, Bool, true, false, List, [], ◌∷◌, ◌++◌, Option, Some, None, refl, sym, ap, subst, ◌∙◌, arith, append_assoc, append-nil, length, length-append, take, drop}
-use Rattle.std.specs.Prelude.{codes, IsTrue, ◌||◌, ◌^◌}
+use Rattle.std.specs.Prelude.{codes, IsTrue, ◌||◌, ◌^◌, nat_le}
 use Rattle.std.specs.List.{All, list_any}
 use Rattle.std.proofs.lemmas.List.Folds.{list_any-append}
 use Rattle.std.proofs.lemmas.List.Elements.{All-cons, All-nil}
+use Rattle.std.proofs.lemmas.Bool.{leb-true, leb-false}
 use Rattle.std.specs.Fmt.{decimal}
 use Rattle.media.specs.Crash.{NoMore}
 use Rattle.media.specs.Kept.{Kept}
@@ -11,7 +12,7 @@ use Rattle.media.specs.declared.disk.Disk.{Ghosts}
 use Rattle.log_blocks.specs.LogState.{LogState, durable_lsn}
 use Rattle.log_manager.specs.Managed.{HasMore}
 use Rattle.log_manager.specs.Records.{IsLogOf}
-use Rattle.page_rows.specs.Redo.{Redone}
+use Rattle.page_rows.specs.Redo.{IsRedoable, Redone}
 use Rattle.store_model.specs.Range.{point}
 use Rattle.store_model.specs.declared.request.Request.TheVariants as requests
 use Rattle.store_model.specs.declared.reply.Reply.TheVariants as replies
@@ -22,7 +23,7 @@ use Rattle.wal_record.specs.Chains.{pages}
 use Rattle.wal_record.specs.OpenWrites.{pending}
 use Rattle.wal_record.specs.Checkpoints.{commits, limit_of}
 use Rattle.wal_record.specs.History.{log_of, life_log}
-use Rattle.wal_record.specs.Images.{applied, image, OnPage, with_value}
+use Rattle.wal_record.specs.Images.{applied, image, CanApply, OnPage}
 use Rattle.wal_record.specs.declared.page.LeafRow.{LeafRow}
 use Rattle.wal_record.specs.declared.page.PageState.{PageState}
 use Rattle.wal_record.specs.declared.record.Record.{Record}
@@ -32,7 +33,7 @@ use Rattle.log_laws.specs.Beginnings.{is_commit}
 use Rattle.life_laws.specs.Calm.{Opened, Calm, only_leaf}
 use Rattle.life_laws.specs.Commands.{begun, with_write, with_row, written, committing, get_entries, put_entries, full_entries, commit_entries}
 use Rattle.life_laws.proofs.CalmSteps.{calm_begin, calm_get, calm_put, calm_declined}
-use Rattle.life_laws.proofs.CalmLog.{limit_kept}
+use Rattle.life_laws.proofs.CalmLog.{all_own, limit_kept}
 use Rattle.life_laws.proofs.Leaving.{log_of_append}
 use Rattle.script.specs.Word.{same_text}
 use Rattle.script.specs.declared.command.Command.{Command}
@@ -46,8 +47,8 @@ use Rattle.runner.specs.Machine.{actives, IsFused, In, IsCalm, Runs, IsOver, Liv
 use Rattle.runner.specs.Printing.{escaped, shown}
 use Rattle.runner.specs.Refusals.{RefusesAt, HasNoPlace, IsSplit}
 use Rattle.runner.specs.Session.{write_record}
-use Rattle.runner.specs.Turns.{Turn, Life, Active, Stage, Left, Done, Ended, IsAid, HasRoom, turn, stage_step, longer, is_known, is_lawful, no_life, tx_of, log_of_life, Answers, EndedRow}
-use Rattle.runner.specs.Text.{lines, lines_at, headed}
+use Rattle.runner.specs.Turns.{Turn, Life, Active, Stage, Left, Done, Ended, IsAid, HasRoom, IsRightLife, turn, stage_step, longer, is_known, is_lawful, no_life, tx_of, log_of_life, Answers, EndedRow}
+use Rattle.runner.specs.Text.{lines, head}
 use Rattle.runner.specs.declared.session.Session.{Session}
 use Rattle.runner.specs.declared.standing.Standing.{Standing}
 use Rattle.runner.specs.declared.status.Status.{Status}
@@ -97,6 +98,50 @@ same_count opening h es n none e =
 same_records : (h es : List Entry) (durable waiting : List Record) → log_of es ≡ [] → log_of h ≡ durable ++ waiting → log_of (h ++ es) ≡ durable ++ waiting
 same_records h es durable waiting none e = log_of_append h es ∙ ap (λ (rs : List Record). log_of h ++ rs) none ∙ append-nil (log_of h) ∙ e
 
+-- the open transaction has one put more
+has_put : (lsn : ℕ) (z : Session) (new : Option Session) → HasPut lsn (Some z) new → (z' : Session) × (actives new ≡ record { name = z.name; tx = z.tx } ∷ []) × (opened_by new ≡ Some (with_write (record { session = z.tx; tx = z.tx; last_lsn = z.last; writes = z.puts }) lsn))
+has_put lsn z None h = absurd h
+has_put lsn z (Some z') h = (
+  z',
+  (λ i. record { name = h.0 i; tx = h.1 i } ∷ []),
+  (λ i. let x : Opened = record { session = h.1 i; tx = h.1 i; last_lsn = h.2 i; writes = h.3 i } in Some x),
+)
+
+-- ---- the page
+
+some_same : (a b : PageState) → ◌≡◌ {A = Option PageState} (Some a) (Some b) → a ≡ b
+some_same a b e = cc
+
+fitting : (x : Option PageState) (s : PageState) → x ≡ Some s → OnPage (λ s. state_size s ≤ page_room) x → state_size s ≤ page_room
+fitting x s e (s', e', size) = subst (λ (y : PageState). state_size y ≤ page_room) (some_same s' s (sym e' ∙ e)) size
+
+-- a put that is redone on a leaf with all keys
+did_fit : (w : Record) (page page' : Option PageState) (o : Opened) (top : ℕ) (rows : List LeafRow) (key value : List ℕ) → w ≡ written o top rows key value → page ≡ Some (only_leaf rows) → Redone w 1 page page' true
+    → (page' ≡ Some (only_leaf (with_row rows key value))) × (state_size (only_leaf (with_row rows key value)) ≤ page_room)
+unfolding applied
+did_fit w page page' o top rows key value is leaf redone =
+    let made : applied (written o top rows key value) 1 (Some (only_leaf rows)) ≡ Some (only_leaf (with_row rows key value)) = refl in
+    let same : applied w 1 page ≡ Some (only_leaf (with_row rows key value)) = (λ i. applied (is i) 1 (leaf i)) ∙ made in
+    (redone.1 ∙ same, fitting (applied w 1 page) (only_leaf (with_row rows key value)) same redone.0.applicable.fits)
+
+not_fit : (w : Record) (page : Option PageState) (o : Opened) (top : ℕ) (rows : List LeafRow) (key value : List ℕ) → w ≡ written o top rows key value → page ≡ Some (only_leaf rows) → (IsRedoable w 1 page → ⊥)
+    → page_room < state_size (only_leaf (with_row rows key value))
+unfolding applied CanApply
+not_fit w page o top rows key value is leaf not = by (nat_le (state_size (only_leaf (with_row rows key value))) page_room) refl
+  where
+    redoable : state_size (only_leaf (with_row rows key value)) ≤ page_room → IsRedoable (written o top rows key value) 1 (Some (only_leaf rows))
+    redoable size = record {
+      names = refl;
+      applicable = record {
+        can = (only_leaf rows, refl, record { at = record { leaf = refl; own = all_own rows key }; value = refl });
+        fits = (only_leaf (with_row rows key value), refl, size);
+      };
+    }
+
+    by : (b : Bool) → nat_le (state_size (only_leaf (with_row rows key value))) page_room ≡ b → page_room < state_size (only_leaf (with_row rows key value))
+    by true e = absurd (not (subst (λ (x : Record). IsRedoable x 1 page) (sym is) (subst (λ (x : Option PageState). IsRedoable (written o top rows key value) 1 x) (sym leaf) (redoable (leb-true _ _ e)))))
+    by false e = leb-false _ _ e
+
 -- ---- in a life
 
 module _ {D : Type 0} (L : Ghosts D) where
@@ -141,7 +186,7 @@ module _ {D : Type 0} (L : Ghosts D) where
     did_nothing out is = record { turn = turn commands.Nothing [] Done; is = refl; fits = record { goes = h.goes; lawful = refl; row = refl }; holds = h; lines = is }
 
     -- the life has ended
-    pub did_end : (c : Command) (n : ℕ) (out : List ℕ) → log.ended ≡ Some n → is_lawful s c ≡ true → EndedRow c [] → out ≡ headed c (codes " ended " ++ decimal n ++ codes "\n") → Adds L.tells (In L log standing) s c out
+    pub did_end : (c : Command) (n : ℕ) (out : List ℕ) → log.ended ≡ Some n → is_lawful s c ≡ true → EndedRow c [] → out ≡ head c ++ codes " ended " ++ decimal n ++ codes "\n" → Adds L.tells (In L log standing) s c out
     did_end c n out ended lawful row is = record { turn = turn c [] (Ended n); is = refl; fits = record { goes = h.goes; lawful = lawful; row = (h.ended ∙ ended, row) }; holds = h; lines = is }
 
     running : log.ended ≡ None → Runs L log standing h.here
@@ -151,16 +196,241 @@ module _ {D : Type 0} (L : Ghosts D) where
     not_ended none = h.ended ∙ none
 
     -- one turn more in a life that goes on, behind which it goes on
-    more : (none : log.ended ≡ None) (c : Command) (es : List Entry) (out : List ℕ) (log' : LogState D) (standing' : Standing) → is_lawful s c ≡ true
-        → (s' : Stage) → stage_step s (turn c es Done) ≡ s' → s'.past ≡ s.past → s'.life ≡ longer s.life es → s'.active ≡ actives standing'.session → s'.ended ≡ s.ended → s'.cut ≡ s.cut → s'.armed ≡ s.armed
+    more : (none : log.ended ≡ None) (es : List Entry) (log' : LogState D) (standing' : Standing) (s' : Stage) → s'.past ≡ s.past → s'.life ≡ longer s.life es → s'.active ≡ actives standing'.session → s'.ended ≡ s.ended → s'.cut ≡ s.cut → s'.armed ≡ s.armed
         → log'.ended ≡ log.ended → log'.device ≡ log.device → Runs L log' standing' (record { opening = h.here.opening; history = h.here.history ++ es }) → In L log' standing' s'
-    more none c es out log' standing' lawful s' step past life active ended cut armed ended' same runs = record {
-      past = λ t. subst (All _) (sym past) (h.past t);
+    more none es log' standing' s' past life active ended cut armed ended' same runs = record {
+      past = λ t. subst (All IsRightLife) (sym past) (h.past t);
       here = record { opening = h.here.opening; history = h.here.history ++ es };
       life = life ∙ ap (λ (o : Option Life). longer o es) h.life;
       active = active;
       ended = ended ∙ h.ended ∙ sym ended';
       goes = cut ∙ h.goes;
       fused = subst (λ (b : Bool). IsFused L log'.device b) (sym armed) (subst (λ (d : D). IsFused L d s.armed) (sym same) h.fused);
-      lives = runs_on log' standing' _ log'.ended (ended' ∙ none) runs;
+      lives = runs_on log' standing' (record { opening = h.here.opening; history = h.here.history ++ es }) log'.ended (ended' ∙ none) runs;
     }
+
+    -- a transaction begins
+    pub did_begin : (none : log.ended ≡ None) (log' : LogState D) (standing' : Standing) (name out : List ℕ) → standing.session ≡ None → Begins name standing.next standing'.session → standing'.next ≡ standing.next + 1 → log' ≡ log
+        → standing'.page ≡ standing.page → standing'.head ≡ standing.head → standing'.commits ≡ standing.commits → standing'.limit ≡ standing.limit → out ≡ name ++ codes " begin\n" → Adds L.tells (In L log' standing') s (commands.Begin name) out
+    did_begin none log' standing' name out closed begins next same page head count limit is =
+        let z = begins_some name standing.next standing'.session begins in
+        let idle : s.active ≡ [] = h.active ∙ ap actives closed in
+        let e : Entry = Began standing.next standing.next in
+        let r = running none in
+        let opened : opened_by standing'.session ≡ Some (begun standing.next standing.next) = ap opened_by z.1 ∙ (λ i. let o : Opened = record { session = z.3 i; tx = z.3 i; last_lsn = z.4 i; writes = z.5 i } in Some o) in
+        let t : Turn = turn (commands.Begin name) (e ∷ []) Done in
+        record {
+          turn = t;
+          is = refl;
+          fits = record { goes = h.goes; lawful = rw (living, idle) refl; row = (not_ended none, idle, standing.next, standing.next, refl) };
+          holds = more none (e ∷ []) log' standing' (stage_step s t) refl refl
+              ((λ i. record { name = sym z.2 i; tx = sym z.3 i } ∷ idle i) ∙ sym (ap actives z.1)) refl refl refl (ap (λ (x : LogState D). x.ended) same) (ap (λ (x : LogState D). x.device) same)
+              (record {
+                count = same_count h.here.opening h.here.history (e ∷ []) standing'.commits refl (r.count ∙ sym count);
+                lsn = r.lsn;
+                calm = λ t.
+                    let c = r.calm t in
+                    record {
+                      page = page ∙ c.page ∙ ap (λ (x : Option PageState). Some (only_leaf (rows_of x))) (sym page);
+                      calm = calm_as h.here.opening (h.here.history ++ e ∷ []) (rows_of standing.page) (rows_of standing'.page) standing.head standing'.head (Some (begun standing.next standing.next)) (opened_by standing'.session) (standing.next + 1) standing'.next standing.commits standing'.commits r.lsn r.lsn
+                          (ap rows_of page) head opened next count refl
+                          (calm_begin h.here.opening h.here.history (rows_of standing.page) standing.head standing.next standing.commits r.lsn (subst (λ (o : Option Session). Calm h.here.opening h.here.history (rows_of standing.page) standing.head (opened_by o) standing.next standing.commits r.lsn) closed c.calm));
+                      place = c.place ∙ ap (λ (x : LogState D). x.next) (sym same);
+                      limit = limit ∙ c.limit;
+                      first = ap (λ (x : LogState D). lsn_from x.places) same ∙ c.first;
+                      durable = c.durable;
+                      waiting = c.waiting;
+                      whole = same_records h.here.history (e ∷ []) c.durable c.waiting refl c.whole;
+                      uncommitted = c.uncommitted;
+                      stands = subst (λ (x : LogState D). IsLogOf L.told L.may_leave x (h.here.opening ++ c.durable) c.waiting) (sym same) c.stands;
+                    };
+              });
+          lines = is;
+        }
+
+    -- ---- in the open transaction
+
+    module _ (name : List ℕ) (z : Session) (has : standing.session ≡ Some z) (named : same_text name z.name ≡ true) where
+      abbrev o : Opened
+      o = record { session = z.tx; tx = z.tx; last_lsn = z.last; writes = z.puts }
+
+      names_are : s.active ≡ record { name = z.name; tx = z.tx } ∷ []
+      names_are = h.active ∙ ap actives has
+
+      pub tx_here : tx_of s.active name ≡ Some z.tx
+      tx_here = rw (names_are, named) refl
+
+      pub lawful_here : is_known s.active name ≡ true
+      lawful_here = known_here name ∙ ap (λ (x : Option Session). is_active x name) has ∙ named
+
+      opened_here : opened_by standing.session ≡ Some o
+      opened_here = ap opened_by has
+
+      -- entries that leave the log and the transaction as they are
+      asked : (none : log.ended ≡ None) (c : Command) (es : List Entry) → log_of es ≡ [] → (s' : Stage) → s'.past ≡ s.past → s'.life ≡ longer s.life es → s'.active ≡ s.active → s'.ended ≡ s.ended → s'.cut ≡ s.cut → s'.armed ≡ s.armed
+          → ((lsn : ℕ) → standing.limit ≡ limit_of h.here.opening → Calm h.here.opening h.here.history (rows_of standing.page) standing.head (Some o) standing.next standing.commits lsn → Calm h.here.opening (h.here.history ++ es) (rows_of standing.page) standing.head (Some o) standing.next standing.commits lsn)
+          → In L log standing s'
+      asked none c es silent s' past life active ended cut armed calms =
+          let r = running none in
+          more none es log standing s' past life (active ∙ h.active) ended cut armed refl refl (record {
+            count = same_count h.here.opening h.here.history es standing.commits (ap commits silent) r.count;
+            lsn = r.lsn;
+            calm = λ t.
+                let c = r.calm t in
+                record {
+                  page = c.page;
+                  calm = subst (λ (x : Option Opened). Calm h.here.opening (h.here.history ++ es) (rows_of standing.page) standing.head x standing.next standing.commits r.lsn) (sym opened_here)
+                      (calms r.lsn c.limit (subst (λ (x : Option Opened). Calm h.here.opening h.here.history (rows_of standing.page) standing.head x standing.next standing.commits r.lsn) opened_here c.calm));
+                  place = c.place;
+                  limit = c.limit;
+                  first = c.first;
+                  durable = c.durable;
+                  waiting = c.waiting;
+                  whole = same_records h.here.history es c.durable c.waiting silent c.whole;
+                  uncommitted = c.uncommitted;
+                  stands = c.stands;
+                };
+          })
+
+      pub did_get : (none : log.ended ≡ None) (key out : List ℕ) → out ≡ name ++ codes " get " ++ escaped key ++ shown (page_live standing.page key) ++ codes "\n" → Adds L.tells (In L log standing) s (commands.Ask name (requests.Get key)) out
+      did_get none key out is =
+          let es = get_entries o (rows_of standing.page) key in
+          let lock : Entry = Lock z.tx (point key) Shared in
+          let c : Command = commands.Ask name (requests.Get key) in
+          let t : Turn = turn c es Done in
+          record {
+            turn = t;
+            is = refl;
+            fits = record {
+              goes = h.goes;
+              lawful = lawful_here;
+              row = (
+                not_ended none,
+                tt,
+                subst (λ (x : Option ℕ). Answers L.tells (log_of_life s.life) x (requests.Get key) es) (sym tx_here) (
+                  lock ∷ [],
+                  Said z.tx z.tx (requests.Get key) (replies.Found (live (rows_of standing.page) key)),
+                  refl,
+                  (refl, refl, λ _. tt),
+                  All-cons (IsAid z.tx (requests.Get key)) lock [] (refl, refl, refl) (All-nil (IsAid z.tx (requests.Get key))),
+                ),
+              );
+            };
+            holds = asked none c es refl (stage_step s t) refl refl refl refl refl refl (λ lsn limit calm. calm_get h.here.opening h.here.history (rows_of standing.page) standing.head o standing.next standing.commits lsn calm key);
+            lines = is;
+          }
+
+      -- a put that could not be undone
+      pub did_full : (none : log.ended ≡ None) (key value out : List ℕ) → standing.limit < z.puts + 3 → out ≡ name ++ codes " put " ++ escaped key ++ (codes " full " ++ decimal 1 ++ codes " " ++ decimal z.puts) ++ codes "\n" → Adds L.tells (In L log standing) s (commands.Ask name (requests.Put key value)) out
+      did_full none key value out over is =
+          let es = full_entries o key value in
+          let lock : Entry = Lock z.tx (point key) Exclusive in
+          let c : Command = commands.Ask name (requests.Put key value) in
+          let t : Turn = turn c es Done in
+          record {
+            turn = t;
+            is = refl;
+            fits = record {
+              goes = h.goes;
+              lawful = lawful_here;
+              row = (
+                not_ended none,
+                tt,
+                subst (λ (x : Option ℕ). Answers L.tells (log_of_life s.life) x (requests.Put key value) es) (sym tx_here) (
+                  lock ∷ [],
+                  Declined z.tx z.tx (requests.Put key value) (outcomes.Full 1 z.puts),
+                  refl,
+                  (refl, refl),
+                  All-cons (IsAid z.tx (requests.Put key value)) lock [] (refl, refl, refl) (All-nil (IsAid z.tx (requests.Put key value))),
+                ),
+              );
+            };
+            holds = asked none c es refl (stage_step s t) refl refl refl refl refl refl
+                (λ lsn limit calm. calm_declined h.here.opening h.here.history (rows_of standing.page) standing.head o standing.next standing.commits lsn calm key value (omega (arith, over, limit)));
+            lines = is;
+          }
+
+      module _ (none : log.ended ≡ None) (key value : List ℕ) (w : Record) (writes : Writes standing.session standing.head key (page_live standing.page key) value w) where
+        w_is : w ≡ written o standing.head (rows_of standing.page) key value
+        w_is = subst (λ (x : Option Session). Writes x standing.head key (page_live standing.page key) value w) has writes
+
+        calm_here : (t : L.tells) → Calm h.here.opening h.here.history (rows_of standing.page) standing.head (Some o) standing.next standing.commits (running none).lsn
+        calm_here t = subst (λ (x : Option Opened). Calm h.here.opening h.here.history (rows_of standing.page) standing.head x standing.next standing.commits (running none).lsn) opened_here ((running none).calm t).calm
+
+        -- there is room to undo one write more
+        room_here : L.tells → z.puts + 3 ≤ standing.limit → HasRoom (log_of_life s.life) (requests.Put key value)
+        room_here t room =
+            let c = (running none).calm t in
+            let l = (calm_here t).log in
+            let limit = limit_kept h.here.opening (log_of h.here.history) (calm_here t).found in
+            subst (λ (x : Option Life). HasRoom (log_of_life x) (requests.Put key value)) (sym h.life) (omega (arith, l.one_page, l.unfinished, limit, c.limit, room))
+
+        -- the row of a put has no place on the page
+        pub did_not_fit : (line : ℕ) → z.puts + 3 ≤ standing.limit → Redone w 1 standing.page standing.page false → RefusesAt L log.device s (commands.Ask name (requests.Put key value)) line (statuses.NoSplit line)
+        did_not_fit line room not = (refl, lawful_here, (not_ended none, no_place), leaves_here)
+          where
+            no_place : L.tells → HasNoPlace (log_of_life s.life) key value
+            no_place t =
+                let c = (running none).calm t in
+                record {
+                  rows = rows_of standing.page;
+                  leaf = ap (λ (x : Option Life). image (log_of_life x) 1) h.life ∙ (calm_here t).log.leaf;
+                  size = not_fit w standing.page o standing.head (rows_of standing.page) key value w_is c.page not.0;
+                  room = room_here t room;
+                }
+
+        pub did_put : (log' : LogState D) (standing' : Standing) (page' : Option PageState) (out : List ℕ) → z.puts + 3 ≤ standing.limit → IsTrue (is_key key) → IsTrue (is_value value) → Redone w 1 standing.page page' true → standing'.page ≡ page'
+            → HasMore (w ∷ []) log log' → (L.tells → (stable waiting : List Record) → IsLogOf L.told L.may_leave log stable waiting → IsLogOf L.told L.may_leave log' stable (waiting ++ w ∷ []))
+            → standing'.head ≡ log.next → HasPut log.next standing.session standing'.session → standing'.next ≡ standing.next → standing'.commits ≡ standing.commits → standing'.limit ≡ standing.limit → log.next < 2 ^ 62 → standing.next < 2 ^ 62
+            → out ≡ name ++ codes " put " ++ escaped key ++ (codes " was" ++ shown (page_live standing.page key)) ++ codes "\n" → Adds L.tells (In L log' standing') s (commands.Ask name (requests.Put key value)) out
+        did_put log' standing' page' out room k v redone page added adds top put next count limit low low_next is =
+            let r = running none in
+            let es = put_entries o standing.head (rows_of standing.page) r.lsn key value in
+            let lock : Entry = Lock z.tx (point key) Exclusive in
+            let write : Entry = Rec (r.lsn + 1) (written o standing.head (rows_of standing.page) key value) in
+            let c : Command = commands.Ask name (requests.Put key value) in
+            let t : Turn = turn c es Done in
+            let z' = has_put log.next z standing'.session (subst (λ (x : Option Session). HasPut log.next x standing'.session) has put) in
+            record {
+              turn = t;
+              is = refl;
+              fits = record {
+                goes = h.goes;
+                lawful = lawful_here;
+                row = (
+                  not_ended none,
+                  tt,
+                  subst (λ (x : Option ℕ). Answers L.tells (log_of_life s.life) x (requests.Put key value) es) (sym tx_here) (
+                    lock ∷ write ∷ [],
+                    Said z.tx z.tx (requests.Put key value) (replies.Was (live (rows_of standing.page) key)),
+                    refl,
+                    (refl, refl, λ u. room_here u room),
+                    All-cons (IsAid z.tx (requests.Put key value)) lock (write ∷ []) (refl, refl, refl) (All-cons (IsAid z.tx (requests.Put key value)) write [] (refl, refl, refl) (All-nil (IsAid z.tx (requests.Put key value)))),
+                  ),
+                );
+              };
+              holds = more none es log' standing' (stage_step s t) refl refl (h.active ∙ ap actives has ∙ sym z'.1) refl refl refl (ap (λ (x : LogState D). x.ended) added.is) (ap (λ (x : LogState D). x.device) added.is) (record {
+                count = same_count h.here.opening h.here.history es standing'.commits refl (r.count ∙ sym count);
+                lsn = r.lsn + 1;
+                calm = λ u.
+                    let c = r.calm u in
+                    let made = did_fit w standing.page page' o standing.head (rows_of standing.page) key value w_is c.page redone in
+                    let page_is : standing'.page ≡ Some (only_leaf (with_row (rows_of standing.page) key value)) = page ∙ made.0 in
+                    let place : log.next ≡ r.lsn + 1 = sym c.place in
+                    record {
+                      page = page_is ∙ ap (λ (x : Option PageState). Some (only_leaf (rows_of x))) (sym page_is);
+                      calm = calm_as h.here.opening (h.here.history ++ es) (with_row (rows_of standing.page) key value) (rows_of standing'.page) (r.lsn + 1) standing'.head (Some (with_write o (r.lsn + 1))) (opened_by standing'.session) standing.next standing'.next standing.commits standing'.commits (r.lsn + 1) (r.lsn + 1)
+                          (ap rows_of page_is) (top ∙ place) (z'.2 ∙ ap (λ (n : ℕ). Some (with_write o n)) place) next count refl
+                          (calm_put h.here.opening h.here.history (rows_of standing.page) standing.head o standing.next standing.commits r.lsn (calm_here u) key value k v made.1 (omega (arith, room, c.limit)) (omega (arith, low, place)) (omega (arith, low_next)));
+                      place = omega (arith, c.place) ∙ sym (ap (λ (x : LogState D). x.next) added.is);
+                      limit = limit ∙ c.limit;
+                      first = ap (λ (x : LogState D). lsn_from x.places) added.is ∙ c.first;
+                      durable = c.durable;
+                      waiting = c.waiting ++ written o standing.head (rows_of standing.page) key value ∷ [];
+                      whole = log_of_append h.here.history es ∙ ap (λ (rs : List Record). rs ++ written o standing.head (rows_of standing.page) key value ∷ []) c.whole ∙ append_assoc c.durable c.waiting (written o standing.head (rows_of standing.page) key value ∷ []);
+                      uncommitted = list_any-append is_commit c.waiting (written o standing.head (rows_of standing.page) key value ∷ []) ∙ ap (λ (b : Bool). b || false) c.uncommitted;
+                      stands = subst (λ (x : Record). IsLogOf L.told L.may_leave log' (h.here.opening ++ c.durable) (c.waiting ++ x ∷ [])) w_is (adds u (h.here.opening ++ c.durable) c.waiting c.stands);
+                    };
+              });
+              lines = is;
+            }

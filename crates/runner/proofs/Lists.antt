@@ -1,12 +1,13 @@
 -- Records of blocks, and LSNs.
-use Rattle.std.proofs.Common.{◌≡◌, ℕ, zero, suc, ◌+◌, ◌≤◌, Bool, true, false, List, [], ◌∷◌, ◌++◌, refl, sym, ap, ◌∙◌, arith, length, length-append, take}
-use Rattle.std.specs.Prelude.{◌||◌}
+use Rattle.std.proofs.Common.{◌≡◌, ℕ, zero, suc, ◌+◌, ◌≤◌, Bool, true, false, List, [], ◌∷◌, ◌++◌, refl, sym, ap, ◌∙◌, arith, length, length-append, take, map}
+use Rattle.std.specs.Prelude.{◌||◌, slice_index_or}
 use Rattle.std.specs.List.{list_any}
 use Rattle.media.specs.Kept.{Kept}
 use Rattle.log_blocks.specs.declared.header.Place.{Place}
 use Rattle.log_blocks.specs.Log.{Block, IsRun, next_lsn, first_lsn}
-use Rattle.log_blocks.specs.LogState.{LogState, lsn_behind, durable_lsn}
+use Rattle.log_blocks.specs.LogState.{AreNumbered, LogState, lsn_behind, durable_lsn}
 use Rattle.log_blocks.specs.Opening.{places}
+use Rattle.log_manager.specs.Managed.{first_kept}
 use Rattle.log_manager.specs.Records.{AreIn, IsLogOf}
 use Rattle.wal_record.specs.Checkpoints.{commits}
 use Rattle.wal_record.specs.declared.record.Record.{Record}
@@ -19,12 +20,14 @@ pub first_is : (at : ℕ) (bs : List Block) → lsn_from (places at bs) ≡ firs
 first_is at [] = refl
 first_is at (b ∷ bs) = refl
 
--- blocks that join keep the first LSN
-pub from_kept : (ps : List Place) (gate n : ℕ) (bs : List Block) → lsn_from ps ≡ 1 → IsRun (lsn_behind ps) bs → lsn_from (ps ++ places gate (take n bs)) ≡ 1
-from_kept [] gate zero bs e run = refl
-from_kept [] gate (suc n) [] e run = refl
-from_kept [] gate (suc n) (b ∷ bs) e run = run.0
-from_kept (p ∷ ps) gate n bs e run = e
+-- the pending blocks go on behind the durable ones
+pub first_kept_is : {D : Type 0} (log : LogState D) → AreNumbered log → first_kept log ≡ lsn_from log.places
+first_kept_is log n = by log.places log.pending n.run n.next
+  where
+    by : (ps : List Place) (bs : List Block) → IsRun (lsn_behind ps) bs → log.next ≡ next_lsn (lsn_behind ps) bs → slice_index_or (map (λ p. p.first) ps ++ map (λ b. b.first) bs) 0 log.next ≡ lsn_from ps
+    by [] [] run next = next
+    by [] (b ∷ bs) run next = run.0
+    by (p ∷ ps) bs run next = refl
 
 -- ---- how many records
 

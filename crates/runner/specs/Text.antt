@@ -33,22 +33,22 @@ answer_text (Said session tx request reply ∷ es) = reply_text reply
 answer_text (Declined session tx request why ∷ es) = outcome_text why
 answer_text (_ ∷ es) = answer_text es
 
--- a command's line up to its answer, and then this answer
-abbrev pub headed : Command → List ℕ → List ℕ
-headed (commands.Format limit) answer = codes "format" ++ answer
-headed commands.Open answer = codes "open" ++ answer
-headed (commands.Begin name) answer = name ++ codes " begin" ++ answer
-headed (commands.Ask name (requests.Get key)) answer = name ++ codes " get " ++ escaped key ++ answer
-headed (commands.Ask name (requests.Put key value)) answer = name ++ codes " put " ++ escaped key ++ answer
-headed (commands.Commit name) answer = name ++ codes " commit" ++ answer
-headed _ answer = []
+-- a command's line up to its answer
+abbrev pub head : Command → List ℕ
+head (commands.Format limit) = codes "format"
+head commands.Open = codes "open"
+head (commands.Begin name) = name ++ codes " begin"
+head (commands.Ask name (requests.Get key)) = name ++ codes " get " ++ escaped key
+head (commands.Ask name (requests.Put key value)) = name ++ codes " put " ++ escaped key
+head (commands.Commit name) = name ++ codes " commit"
+head _ = []
 
 abbrev pub done_lines : Stage → Command → List Entry → List Record → List ℕ
 done_lines s commands.Nothing es found = []
 done_lines s (commands.Format limit) es found = codes "format ok\n"
 done_lines s commands.Open es found = codes "open commits=" ++ decimal (commits found) ++ codes " losers=0\n"
 done_lines s (commands.Begin name) es found = name ++ codes " begin\n"
-done_lines s (commands.Ask name request) es found = headed (commands.Ask name request) (answer_text es ++ codes "\n")
+done_lines s (commands.Ask name request) es found = head (commands.Ask name request) ++ answer_text es ++ codes "\n"
 done_lines s (commands.Commit name) es found = name ++ codes " commit " ++ decimal (commits (log_of_life (longer s.life es))) ++ codes "\n"
 done_lines s (commands.Stop keep) es found = codes "stop\n"
 done_lines s (commands.Fuse device calls) es found = codes "fuse log " ++ decimal calls ++ codes "\n"
@@ -57,8 +57,8 @@ done_lines s _ es found = []
 
 abbrev pub lines_at : Stage → Command → List Entry → List Record → End → List ℕ
 lines_at s c es found Done = done_lines s c es found
-lines_at s c es found (LogFault n) = headed c (codes " log failed\n")
-lines_at s c es found (Ended n) = headed c (codes " ended " ++ decimal n ++ codes "\n")
+lines_at s c es found (LogFault n) = head c ++ codes " log failed\n"
+lines_at s c es found (Ended n) = head c ++ codes " ended " ++ decimal n ++ codes "\n"
 lines_at s c es found Cut = []
 
 -- the lines of a turn after the turns that led to this stage

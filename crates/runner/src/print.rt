@@ -154,11 +154,12 @@ pub fn begin_line(alloc: Global, name: &Name) -> Result<Vec<u8>, AllocError>
 
 /// `T begin ended N`.
 pub fn begin_ended(alloc: Global, name: &Name, at: Lsn) -> Result<Vec<u8>, AllocError>
-    ensures { IfOk result (λ out. out.items ≡ name.now ++ codes " begin ended " ++ decimal at ++ codes "\n") }
+    ensures { IfOk result (λ out. out.items ≡ name.now ++ codes " begin" ++ codes " ended " ++ decimal at ++ codes "\n") }
 {
     let mut out = Vec::new(alloc);
     add(&mut out, name.as_bytes())?;
-    add(&mut out, b" begin ended ".as_slice())?;
+    add(&mut out, b" begin".as_slice())?;
+    add(&mut out, b" ended ".as_slice())?;
     add_number(&mut out, at)?;
     add(&mut out, b"\n".as_slice())?;
     Ok(out)
@@ -272,21 +273,23 @@ pub fn commit_line(alloc: Global, name: &Name, number: u64) -> Result<Vec<u8>, A
 
 /// `T commit log failed`.
 pub fn commit_failed(alloc: Global, name: &Name) -> Result<Vec<u8>, AllocError>
-    ensures { IfOk result (λ out. out.items ≡ name.now ++ codes " commit log failed\n") }
+    ensures { IfOk result (λ out. out.items ≡ name.now ++ codes " commit" ++ codes " log failed\n") }
 {
     let mut out = Vec::new(alloc);
     add(&mut out, name.as_bytes())?;
-    add(&mut out, b" commit log failed\n".as_slice())?;
+    add(&mut out, b" commit".as_slice())?;
+    add(&mut out, b" log failed\n".as_slice())?;
     Ok(out)
 }
 
 /// `T commit ended N`.
 pub fn commit_ended(alloc: Global, name: &Name, at: Lsn) -> Result<Vec<u8>, AllocError>
-    ensures { IfOk result (λ out. out.items ≡ name.now ++ codes " commit ended " ++ decimal at ++ codes "\n") }
+    ensures { IfOk result (λ out. out.items ≡ name.now ++ codes " commit" ++ codes " ended " ++ decimal at ++ codes "\n") }
 {
     let mut out = Vec::new(alloc);
     add(&mut out, name.as_bytes())?;
-    add(&mut out, b" commit ended ".as_slice())?;
+    add(&mut out, b" commit".as_slice())?;
+    add(&mut out, b" ended ".as_slice())?;
     add_number(&mut out, at)?;
     add(&mut out, b"\n".as_slice())?;
     Ok(out)
