@@ -6,3 +6,5 @@ pub mod Blocks
 pub mod Payload
 pub mod ReadBlocks
 pub mod Opening
+pub mod WholeLogs
+pub mod Examples

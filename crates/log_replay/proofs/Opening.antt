@@ -1,5 +1,5 @@
 -- What opening a log answers, from what was read of it.
-use Rattle.std.proofs.Common.{◌≡◌, ◌≢◌, ℕ, ◌+◌, ◌<◌, ◌≤◌, suc, Bool, true, false, eqb, List, [], ◌∷◌, ◌++◌, length, get_or, refl, sym, ap, subst, ◌∙◌, arith, inl, inr}
+use Rattle.std.proofs.Common.{◌≡◌, ◌≢◌, ℕ, ◌+◌, ◌<◌, ◌≤◌, suc, Bool, true, false, eqb, List, [], ◌∷◌, ◌++◌, length, get_or, take, refl, sym, ap, subst, ◌∙◌, arith, inl, inr}
 use Rattle.std.specs.Prelude.{◌||◌, Result, Ok, Err, OnOk, IfErr, MatchResult}
 use Rattle.std.specs.List.{list_any}
 use Rattle.std.proofs.lemmas.Bool.{eqb-true}
@@ -7,7 +7,7 @@ use Rattle.std.proofs.lemmas.List.Folds.{list_any-append}
 use Rattle.store_model.specs.Along.{along}
 use Rattle.media.specs.Kept.{Kept}
 use Rattle.log_blocks.specs.Log.{Block, first_lsn}
-use Rattle.log_blocks.specs.LogState.{LogState, IsDurable, firsts}
+use Rattle.log_blocks.specs.LogState.{LogState, IsDurable, firsts, payload_at}
 use Rattle.log_manager.specs.Records.{AreRecordsOf}
 use Rattle.wal_record.specs.Chains.{pages_step, pages}
 use Rattle.wal_record.specs.OpenWrites.{has_items}
@@ -17,7 +17,7 @@ use Rattle.wal_record.specs.declared.record.Record.TheVariants as kinds
 use Rattle.wal_record.proofs.Along.{by_pushes}
 use Rattle.wal_record.proofs.Pushes.{lawful_front, pages_push}
 use Rattle.log_laws.proofs.Central.{differ}
-use Rattle.log_replay.specs.Answers.{IsNotFound, IsNotReplayed, IsUnread, IsCaused, Opens}
+use Rattle.log_replay.specs.Answers.{IsBadHere, IsBadIn, IsOfRecords, IsNotFound, IsNotReplayed, IsUnread, IsCaused, Opens}
 use Rattle.log_replay.specs.Replayed.{makes_page}
 use Rattle.log_replay.specs.Standing.{HoldEnd}
 use Rattle.log_replay.specs.declared.found.Found.{Found}
@@ -82,18 +82,18 @@ first_kept told may_leave log [] d fresh n = refl
 first_kept told may_leave log (b ∷ bs) d fresh n = by (eqb b.first 1) refl
   where
     first : get_or (firsts log) 0 0 ≡ b.first
-    first = ap (λ (l : List ℕ). get_or l 0 0) (firsts_are log (told log.device).start (b ∷ bs) [] d.places_are fresh)
+    first = ap (λ (l : List ℕ). get_or l 0 0) (firsts_are log (told log.device).start (b ∷ bs) d.places_are fresh)
 
     by : (c : Bool) → eqb b.first 1 ≡ c → b.first ≡ 1
     by true e = eqb-true b.first 1 e
-    by false e = absurd (n (omega (arith, blocks_are log (told log.device).start (b ∷ bs) [] d.places_are fresh), λ one. differ b.first 1 e (sym first ∙ one)))
+    by false e = absurd (n (omega (arith, blocks_are log (told log.device).start (b ∷ bs) d.places_are fresh), λ one. differ b.first 1 e (sym first ∙ one)))
 
 -- and where it doesn't begin with 1, records were dropped
 pub first_dropped : {D : Type 0} (told : D → Kept) (may_leave : D → Kept → Type 0) (log : LogState D) (bs : List Block) (rs : List Record) → IsDurable told may_leave log bs → log.pending ≡ [] → HoldEnd rs bs
     → get_or (firsts log) 0 0 ≢ 1 → 0 < length log.places + length log.pending → 2 ≤ first_lsn bs
-first_dropped told may_leave log [] rs d fresh h other some = absurd (omega (arith, some, blocks_are log (told log.device).start [] [] d.places_are fresh))
+first_dropped told may_leave log [] rs d fresh h other some = absurd (omega (arith, some, blocks_are log (told log.device).start [] d.places_are fresh))
 first_dropped told may_leave log (b ∷ bs) rs d fresh h other some =
-    let first : get_or (firsts log) 0 0 ≡ b.first = ap (λ (l : List ℕ). get_or l 0 0) (firsts_are log (told log.device).start (b ∷ bs) [] d.places_are fresh) in
+    let first : get_or (firsts log) 0 0 ≡ b.first = ap (λ (l : List ℕ). get_or l 0 0) (firsts_are log (told log.device).start (b ∷ bs) d.places_are fresh) in
     let not_one : b.first ≢ 1 = λ e. other (first ∙ e) in
     let low = h.first in
     omega (arith, not_one, low)
@@ -126,7 +126,24 @@ on_ok (Ok a) P p = p
 on_ok (Err e) P p = tt
 
 -- no fault of the log came, so it has any cause
-pub no_fault : (a b : ℕ) (x : Result Found NotReplayed) → IfErr x (IsCaused 0 0) → IfErr x (IsCaused a b)
-no_fault a b (Ok f) c = tt
-no_fault a b (Err refusals.LogFault) c = absurd (omega (arith, c))
-no_fault a b (Err e) c = tt
+pub no_fault : (a b : ℕ) (x : Result Found NotReplayed) → IfErr x IsOfRecords → IfErr x (IsCaused a b)
+no_fault a b (Ok f) k = tt
+no_fault a b (Err refusals.LogFault) k = absurd k
+no_fault a b (Err e) k = tt
+
+-- and no block was bad
+pub none_bad : (bs : List Block) (x : Result Found NotReplayed) → IfErr x IsOfRecords → IfErr x (IsBadIn bs)
+none_bad bs (Ok f) k = tt
+none_bad bs (Err (refusals.LogBad block byte)) k = absurd k
+none_bad bs (Err e) k = tt
+
+-- a block whose records, of whatever log up to it, weren't read is bad
+pub bad_in : (bs : List Block) (block : ℕ) (payload : List ℕ) (e : NotReplayed) → IsBadHere block payload e → payload ≡ payload_at bs block → block < length bs
+    → ((rs : List Record) → AreRecordsOf (take (suc block) bs) rs → AreLawful rs → (own : List Record) × IsUnread own e) → IsBadIn bs e
+bad_in bs block payload (refusals.LogBad b byte) here is within unread = record {
+  within = omega (arith, here.0, within);
+  from = here.1;
+  upto = let size : length payload ≡ length (payload_at bs b) = ap length is ∙ ap (λ (n : ℕ). length (payload_at bs n)) (sym here.0) in let most = here.2 in omega (arith, size, most);
+  unlawful = λ rs a lawful. (unread rs (subst (λ (n : ℕ). AreRecordsOf (take (suc n) bs) rs) here.0 a) lawful).1;
+}
+bad_in bs block payload e here is within unread = tt

@@ -46,6 +46,9 @@ unread_more front own back refusals.NotBuilt u =
     list_any-append makes_page front (own ++ back)
     ∙ or_right (list_any makes_page front) (list_any makes_page (own ++ back)) (list_any-append makes_page own back ∙ or_left (list_any makes_page own) (list_any makes_page back) u)
 
+pub unread_all : (rs front own back : List Record) (e : NotReplayed) → rs ≡ (front ++ own) ++ back → IsUnread own e → IsUnread rs e
+unread_all rs front own back e is u = subst (λ (l : List Record). IsUnread l e) (sym (is ∙ append_assoc front own back)) (unread_more front own back e u)
+
 all_at : (front back : List Record) (r : Record) → All HasSpelling (front ++ r ∷ back) → HasSpelling r
 all_at [] back r all = all 0 r (omega arith)
 all_at (x ∷ front) back r all = all_at front back r (λ k d lt. all (suc k) d (omega (arith, lt)))

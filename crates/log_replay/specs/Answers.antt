@@ -1,9 +1,12 @@
 -- What opening a log answers.
-use Rattle.std.specs.Prelude.{◌≡◌, ℕ, List, [], length, None, true}
+use Rattle.std.specs.Prelude.{◌≡◌, ◌≤◌, ◌<◌, ◌+◌, ℕ, suc, List, [], length, take, None, true}
 use Rattle.std.specs.List.{list_any}
 use Rattle.media.specs.Cause.{Rose}
 use Rattle.log_blocks.specs.Log.{Block}
+use Rattle.log_blocks.specs.LogState.{payload_at}
+use Rattle.log_manager.specs.Records.{AreRecordsOf}
 use Rattle.wal_record.specs.Checkpoints.{limit_of}
+use Rattle.wal_record.specs.Sound.{AreLawful}
 use Rattle.wal_record.specs.declared.page.LeafRow.{LeafRow}
 use Rattle.wal_record.specs.declared.record.Record.{Record}
 use Rattle.life_laws.specs.Calm.{only_leaf, Calm}
@@ -26,6 +29,12 @@ IsNotFound log NotFormatted = log ≡ []
 IsNotFound log NotBuilt = HasLoser log
 IsNotFound log refused = ⊥
 
+-- not because of memory, the disk or a block
+abbrev pub IsOfRecords : NotReplayed → Type 0
+IsOfRecords NotFormatted = Unit {0}
+IsOfRecords NotBuilt = Unit {0}
+IsOfRecords refused = ⊥
+
 -- why some of these records weren't read
 abbrev pub IsUnread : List Record → NotReplayed → Type 0
 IsUnread rs NotFormatted = ⊥
@@ -41,7 +50,29 @@ IsNotReplayed log bs (LogBad block byte) = ⊥
 -- memory and the disk have their causes
 IsNotReplayed log bs refused = Unit {0}
 
+-- A block is named as bad only where the blocks up to it hold no lawful log; the byte lies behind its header, in its
+-- payload or at its end.
+pub record IsBadBlock (bs : List Block) (block byte : ℕ) : Type 0 where
+  pub within : block < length bs
+  pub from : 23 ≤ byte
+  pub upto : byte ≤ 23 + length (payload_at bs block)
+  pub unlawful : (rs : List Record) → AreRecordsOf (take (suc block) bs) rs → AreLawful rs → ⊥
+
+abbrev pub IsBadIn : List Block → NotReplayed → Type 0
+IsBadIn bs (LogBad block byte) = IsBadBlock bs block byte
+IsBadIn bs refused = Unit {0}
+
+-- this block, and a byte of this payload
+abbrev pub IsBadHere : ℕ → List ℕ → NotReplayed → Type 0
+IsBadHere number payload (LogBad block byte) = (block ≡ number) × (23 ≤ byte) × (byte ≤ 23 + length payload)
+IsBadHere number payload refused = Unit {0}
+
 -- a fault of the log has its cause
 abbrev pub IsCaused : ℕ → ℕ → NotReplayed → Type 0
 IsCaused before now LogFault = Rose before now
 IsCaused before now refused = Unit {0}
+
+-- the log disk failed
+abbrev pub IsLogFault : NotReplayed → Type 0
+IsLogFault LogFault = Unit {0}
+IsLogFault refused = ⊥

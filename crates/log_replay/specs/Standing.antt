@@ -34,6 +34,12 @@ pub record HoldEnd (log : List Record) (bs : List Block) : Type 0 where
   pub first : first_lsn bs ≡ suc (length dropped)
   pub enough : IsEnough log (first_lsn bs)
 
+-- the kept bytes stand for the log
+pub record StandsForLog (log : List Record) (k : Kept) : Type 0 where
+  pub bs : List Block
+  pub stands : StandsFor bs k
+  pub records : HoldEnd log bs
+
 -- the disk keeps such blocks, whatever crash comes now; without an open block it keeps the empty log
 pub record KeepsLog {D : Type 0} (told : D → Kept) (may_leave : D → Kept → Type 0) (disk : D) (log : List Record) : Type 0 where
   pub bs : List Block

@@ -1,14 +1,16 @@
 //! Opening: all records of the log in order, block by block.
-ghost use Rattle.std.specs.Prelude.{◌≡◌, ◌≢◌, ◌↔◌, ◌≤◌, ◌<◌, ◌+◌, ◌-◌, ◌^◌, ◌∷◌, ◌++◌, [], ℕ, List, None, drop, length, true, slice_index_or, OnOk, IfErr, IfOk, MatchResult};
+ghost use Rattle.std.specs.Prelude.{◌≡◌, ◌≢◌, ◌↔◌, ◌≤◌, ◌<◌, ◌+◌, ◌-◌, ◌^◌, ◌∷◌, ◌++◌, [], ℕ, List, None, drop, length, true, slice_index_or, OnOk, IfErr, IfOk, IsErrAnd, MatchResult};
 ghost use Rattle.std.specs.List.{All};
+ghost use Rattle.media.specs.Counted.{Blames};
 ghost use Rattle.log_blocks.specs.Log.{Block, first_lsn};
 ghost use Rattle.log_blocks.specs.LogState.{IsDurable, firsts};
 ghost use Rattle.wal_record.specs.Rules.{HasSpelling};
 ghost use Rattle.wal_record.specs.Spelling.{spelling};
+ghost use Rattle.wal_record.specs.State.{KeepsState};
 ghost use Rattle.wal_record.specs.Sound.{AreLawful, IsSound};
 ghost use Rattle.wal_record.specs.declared.record.Record.{Record};
 ghost use Rattle.log_manager.specs.Records.{AreRecordsOf, bytes_of};
-ghost use Rattle.log_replay.specs.Answers.{IsCaused, IsNotReplayed, IsUnread, Opens};
+ghost use Rattle.log_replay.specs.Answers.{IsBadHere, IsBadIn, IsCaused, IsLogFault, IsNotReplayed, IsUnread, Opens};
 ghost use Rattle.log_replay.specs.Replayed.{HasReplayed, IsReplayOf};
 ghost use Rattle.log_replay.specs.Standing.{HoldEnd};
 ghost use Rattle.log_replay.specs.declared.found.NotReplayed.TheVariants as refusals;
@@ -38,12 +40,17 @@ pub fn replay<L: Disk>(
         → MatchResult result (Opens rs) (IsNotReplayed rs bs) }
     ensures records { L.tells → (bs : List Block) (rs : List Record) → IsDurable L.told L.may_leave log.old bs → HoldEnd rs bs → IsSound rs
         → OnOk result (AreRecordsOf bs rs × (log.new.next ≡ length rs + 1)) }
+    // Where the disk stands for none, or counts others.
+    ensures bad { L.tells → (bs : List Block) → IsDurable L.told L.may_leave log.old bs → IfErr result (IsBadIn bs) }
     // No byte changes.
     ensures durable { L.tells → (bs : List Block) → IsDurable L.told L.may_leave log.old bs → IsDurable L.told L.may_leave log.new bs }
     ensures same { log.new ≡ record log.old { device = log.new.device; ended = log.new.ended } }
+    ensures rules { IfOk result (λ found. KeepsState found.page) }
+    ensures number { IfOk result (λ found. 1 ≤ found.next) }
     ensures live { OnOk result (log.new.ended ≡ None) }
     ensures later { L.faults log.old.device ≤ L.faults log.new.device }
     ensures cause { IfErr result (IsCaused (L.faults log.old.device) (L.faults log.new.device)) }
+    ensures fuse { Blames L.passes L.refused L.own log.old.device log.new.device (IsErrAnd result IsLogFault) }
 {
     if is_cut(log) {
         return Err(NotReplayed::NotBuilt);
@@ -70,11 +77,14 @@ fn replay_all<L: Disk>(
     requires fresh { log.old.pending ≡ [] }
     ensures met { L.tells → (bs : List Block) (rs : List Record) → IsDurable L.told L.may_leave log.old bs → AreRecordsOf bs rs → first_lsn bs ≡ 1 → AreLawful rs
         → MatchResult result (λ found. IsReplayOf rs found × (log.new.next ≡ length rs + 1)) (IsUnread rs) }
+    ensures bad { L.tells → (bs : List Block) → IsDurable L.told L.may_leave log.old bs → first_lsn bs ≡ 1 → IfErr result (IsBadIn bs) }
+    ensures replayed { IfOk result HasReplayed }
     ensures durable { L.tells → (bs : List Block) → IsDurable L.told L.may_leave log.old bs → IsDurable L.told L.may_leave log.new bs }
     ensures same { log.new ≡ record log.old { device = log.new.device; ended = log.new.ended } }
     ensures live { OnOk result (log.new.ended ≡ None) }
     ensures later { L.faults log.old.device ≤ L.faults log.new.device }
     ensures cause { IfErr result (IsCaused (L.faults log.old.device) (L.faults log.new.device)) }
+    ensures fuse { Blames L.passes L.refused L.own log.old.device log.new.device (IsErrAnd result IsLogFault) }
 {
     let mut replay = Replay::new(alloc);
     let end = log.durable_lsn();
@@ -121,6 +131,7 @@ fn replay_block(
     ensures replayed { OnOk result (HasReplayed replay.new) }
     ensures met { (log own : List Record) → IsReplayOf log replay.old → All HasSpelling own → payload.now ≡ bytes_of own → AreLawful (log ++ own) → last ≡ length log + length own
         → MatchResult result (λ _. IsReplayOf (log ++ own) replay.new) (IsUnread own) }
+    ensures bad { IfErr result (IsBadHere block payload.now) }
     ensures cause { IfErr result (IsCaused 0 0) }
 {
     let mut at = 0;
@@ -152,6 +163,7 @@ fn replay_record(
     ensures replayed { OnOk result (HasReplayed replay.new) }
     ensures met { (log : List Record) (r : Record) (rest : List ℕ) → IsReplayOf log replay.old → HasSpelling r → drop at payload.now ≡ spelling r ++ rest → AreLawful (log ++ r ∷ []) → length log < last
         → MatchResult result (λ n. (n ≡ length (spelling r)) × IsReplayOf (log ++ r ∷ []) replay.new) (IsUnread (r ∷ [])) }
+    ensures bad { IfErr result (IsBadHere block payload.now) }
     ensures cause { IfErr result (IsCaused 0 0) }
 {
     let (_, rest) = payload.split_at(at);

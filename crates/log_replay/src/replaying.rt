@@ -1,11 +1,11 @@
 //! What the records so far make, and what one more does to it.
-ghost use Rattle.std.specs.Prelude.{◌≡◌, ◌≤◌, ◌<◌, ◌+◌, ◌-◌, ◌^◌, ◌++◌, ◌∷◌, [], ℕ, List, OnOk, IfErr, IfSome, MatchResult};
+ghost use Rattle.std.specs.Prelude.{◌≡◌, ◌≤◌, ◌<◌, ◌+◌, ◌-◌, ◌^◌, ◌++◌, ◌∷◌, [], ℕ, List, OnOk, IfErr, IfOk, IfSome, MatchResult};
 ghost use Rattle.wal_record.specs.Chains.{tx_of};
 ghost use Rattle.wal_record.specs.Rules.{HasSpelling};
 ghost use Rattle.wal_record.specs.State.{KeepsState};
 ghost use Rattle.wal_record.specs.Sound.{AreLawful};
 ghost use Rattle.wal_record.specs.declared.record.Record.{Record};
-ghost use Rattle.log_replay.specs.Answers.{IsCaused, IsNotFound, Opens};
+ghost use Rattle.log_replay.specs.Answers.{IsNotFound, IsOfRecords, Opens};
 ghost use Rattle.log_replay.specs.Counts.{count_of};
 ghost use Rattle.log_replay.specs.Replayed.{Counted, HasReplayed, IsNotTaken, IsPageRefusal, IsReplayOf, PageChanged, changes_page, makes_page};
 
@@ -137,8 +137,11 @@ impl Replay {
 
     /// What all records make.
     pub fn found(self) -> Result<Found, NotReplayed>
+        requires { HasReplayed self }
         ensures met { (log : List Record) → IsReplayOf log self → AreLawful log → MatchResult result (Opens log) (IsNotFound log) }
-        ensures cause { IfErr result (IsCaused 0 0) }
+        ensures rules { IfOk result (λ found. KeepsState found.page) }
+        ensures number { IfOk result (λ found. 1 ≤ found.next) }
+        ensures kind { IfErr result IsOfRecords }
     {
         let Replay {
             page,

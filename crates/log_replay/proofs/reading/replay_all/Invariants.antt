@@ -1,4 +1,5 @@
-use Rattle.std.proofs.Common.{◌≡◌, ◌≤◌, None, Option, List, ℕ}
+use Rattle.std.proofs.Common.{take, ◌≡◌, ◌≤◌, None, Option, List, ℕ}
+use Rattle.media.specs.Counted.{Blames}
 use Rattle.log_blocks.specs.Log.{Block, first_lsn}
 use Rattle.log_blocks.specs.LogState.{IsDurable}
 use Rattle.wal_record.specs.Sound.{AreLawful}
@@ -14,7 +15,8 @@ invariant-loop-block g l = record {
   live : ◌≡◌ {A = Option ℕ} l.log.ended None;
   durable : g.L.Disk.tells → (bs : List Block) → IsDurable g.L.Disk.told g.L.Disk.may_leave l.fn.log bs → IsDurable g.L.Disk.told g.L.Disk.may_leave l.log bs;
   faults : g.L.Disk.faults l.fn.log.device ≤ g.L.Disk.faults l.log.device;
+  fuse : Blames g.L.Disk.passes g.L.Disk.refused g.L.Disk.own l.fn.log.device l.log.device ⊥;
   replayed : HasReplayed l.replay;
-  met : g.L.Disk.tells → (bs : List Block) (rs : List Record) → IsDurable g.L.Disk.told g.L.Disk.may_leave l.fn.log bs → AreRecordsOf bs rs → first_lsn bs ≡ 1 → AreLawful rs
-      → (front : List Record) × IsReplayOf front l.replay × IsBefore bs rs l.block front;
+  met : g.L.Disk.tells → (bs : List Block) (m : ℕ) (rs : List Record) → IsDurable g.L.Disk.told g.L.Disk.may_leave l.fn.log bs → l.block ≤ m → AreRecordsOf (take m bs) rs → first_lsn bs ≡ 1 → AreLawful rs
+      → (front : List Record) × IsReplayOf front l.replay × IsBefore bs m rs l.block front;
 }
