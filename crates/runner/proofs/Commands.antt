@@ -1,5 +1,5 @@
 -- What each command of a life adds, over any stage.
-use Rattle.std.proofs.Common.{◌≡◌, ◌≢◌, ℕ, ◌+◌, ◌<◌, ◌≤◌, Bool, true, false, List, [], ◌∷◌, ◌++◌, Option, Some, None, refl, sym, ap, subst, ◌∙◌, arith, append_assoc, append-nil, length, length-append, take, drop}
+use Rattle.std.proofs.Common.{◌≡◌, ◌≢◌, ℕ, ◌+◌, ◌<◌, ◌≤◌, Bool, true, false, List, [], ◌∷◌, ◌++◌, Option, Some, None, refl, sym, ap, subst, ◌∙◌, arith, ◌⊎◌, ⊎_elim, append_assoc, append-nil, length, length-append, take, drop}
 use Rattle.std.specs.Prelude.{codes, IsTrue, ◌||◌, ◌^◌, nat_le}
 use Rattle.std.specs.List.{All, list_any}
 use Rattle.std.proofs.lemmas.List.Folds.{list_any-append}
@@ -10,8 +10,8 @@ use Rattle.media.specs.Crash.{NoMore}
 use Rattle.media.specs.Kept.{Kept}
 use Rattle.media.specs.declared.disk.Disk.{Ghosts}
 use Rattle.log_blocks.specs.LogState.{LogState, durable_lsn}
-use Rattle.log_manager.specs.Managed.{HasMore}
-use Rattle.log_manager.specs.Records.{IsLogOf}
+use Rattle.log_manager.specs.Managed.{HasMore, RecordsLeft, first_kept}
+use Rattle.log_manager.specs.Records.{AreRecordsOf, IsLogOf, StandsForMoreRecords}
 use Rattle.page_rows.specs.Redo.{IsRedoable, Redone}
 use Rattle.store_model.specs.Range.{point}
 use Rattle.store_model.specs.declared.request.Request.TheVariants as requests
@@ -23,6 +23,7 @@ use Rattle.wal_record.specs.Chains.{pages}
 use Rattle.wal_record.specs.OpenWrites.{pending}
 use Rattle.wal_record.specs.Checkpoints.{commits, limit_of}
 use Rattle.wal_record.specs.History.{log_of, life_log}
+use Rattle.wal_record.specs.Left.{IsLeft, acknowledges, is_commit_of}
 use Rattle.wal_record.specs.Images.{applied, image, CanApply, OnPage}
 use Rattle.wal_record.specs.declared.page.LeafRow.{LeafRow}
 use Rattle.wal_record.specs.declared.page.PageState.{PageState}
@@ -32,9 +33,10 @@ use Rattle.wal_record.specs.declared.entry.Entry.TheVariants.{Rec, Lock, Said, D
 use Rattle.log_laws.specs.Beginnings.{is_commit}
 use Rattle.life_laws.specs.Calm.{Opened, Calm, only_leaf}
 use Rattle.life_laws.specs.Commands.{begun, with_write, with_row, written, committing, get_entries, put_entries, full_entries, commit_entries}
-use Rattle.life_laws.proofs.CalmSteps.{calm_begin, calm_get, calm_put, calm_declined}
+use Rattle.life_laws.proofs.CalmSteps.{calm_begin, calm_get, calm_put, calm_declined, calm_commit, calm_committed}
+use Rattle.life_laws.proofs.CalmLives.{calm_right}
 use Rattle.life_laws.proofs.CalmLog.{all_own, limit_kept}
-use Rattle.life_laws.proofs.Leaving.{log_of_append}
+use Rattle.life_laws.proofs.Leaving.{log_of_append, left_longer, left_more}
 use Rattle.script.specs.Word.{same_text}
 use Rattle.script.specs.declared.command.Command.{Command}
 use Rattle.script.specs.declared.command.Command.TheVariants as commands
@@ -45,16 +47,16 @@ use Rattle.runner.specs.Leaf.{rows_of, page_live}
 use Rattle.runner.specs.LogDisk.{Keeps, HoldsOne, Leaves, lsn_from}
 use Rattle.runner.specs.Machine.{actives, IsFused, In, IsCalm, Runs, IsOver, LivesOn, Adds}
 use Rattle.runner.specs.Printing.{escaped, shown}
-use Rattle.runner.specs.Refusals.{RefusesAt, HasNoPlace, IsSplit}
+use Rattle.runner.specs.Refusals.{RefusesAt, CutAt, HasNoPlace}
 use Rattle.runner.specs.Session.{write_record}
-use Rattle.runner.specs.Turns.{Turn, Life, Active, Stage, Left, Done, Ended, IsAid, HasRoom, IsRightLife, turn, stage_step, longer, is_known, is_lawful, no_life, tx_of, log_of_life, Answers, EndedRow}
+use Rattle.runner.specs.Turns.{Turn, Life, Active, Stage, Left, Done, LogFault, Ended, Commits, CutCommit, IsEnd, IsEndedAt, lives_of, last_of, without, IsAid, HasRoom, IsRightLife, turn, stage_step, longer, is_known, is_lawful, no_life, tx_of, log_of_life, Answers, EndedRow}
 use Rattle.runner.specs.Text.{lines, head}
 use Rattle.runner.specs.declared.session.Session.{Session}
 use Rattle.runner.specs.declared.standing.Standing.{Standing}
 use Rattle.runner.specs.declared.status.Status.{Status}
 use Rattle.runner.specs.declared.status.Status.TheVariants as statuses
-use Rattle.runner.proofs.Lists.{commits_append}
-use Rattle.runner.proofs.Lives.{safe_in, keeps_same}
+use Rattle.runner.proofs.Lists.{any_taken, commits_append, first_kept_is, next_is, take_drop}
+use Rattle.runner.proofs.Lives.{calm_left, keeps_same, left_stands, right_more, safe_in}
 
 -- ---- names
 
@@ -79,7 +81,7 @@ begins_some name tx (Some z) h = (z, refl, h.0, h.1, h.2, h.3)
 
 -- ---- a calm life by other words for its numbers
 
-calm_as : (opening : List Record) (h : List Entry) (rows rows' : List LeafRow) (top top' : ℕ) (active active' : Option Opened) (next next' count count' lsn lsn' : ℕ) → rows' ≡ rows → top' ≡ top → active' ≡ active → next' ≡ next → count' ≡ count → lsn' ≡ lsn
+pub calm_as : (opening : List Record) (h : List Entry) (rows rows' : List LeafRow) (top top' : ℕ) (active active' : Option Opened) (next next' count count' lsn lsn' : ℕ) → rows' ≡ rows → top' ≡ top → active' ≡ active → next' ≡ next → count' ≡ count → lsn' ≡ lsn
     → Calm opening h rows top active next count lsn → Calm opening h rows' top' active' next' count' lsn'
 calm_as opening h rows rows' top top' active active' next next' count count' lsn lsn' r t a n c l calm =
     subst (λ (x : List LeafRow). Calm opening h x top' active' next' count' lsn') (sym r)
@@ -93,6 +95,11 @@ calm_as opening h rows rows' top top' active active' next next' count count' lsn
 same_count : (opening : List Record) (h es : List Entry) (n : ℕ) → commits (log_of es) ≡ 0 → commits (life_log opening h) ≡ n → commits (life_log opening (h ++ es)) ≡ n
 same_count opening h es n none e =
     ap (λ (rs : List Record). commits (opening ++ rs)) (log_of_append h es) ∙ ap commits (sym (append_assoc opening (log_of h) (log_of es))) ∙ commits_append (opening ++ log_of h) (log_of es) ∙ omega (arith, none, e)
+
+-- one Commit is entered
+one_commit : (opening : List Record) (h es : List Entry) (n : ℕ) → commits (log_of es) ≡ 1 → commits (life_log opening h) ≡ n → commits (life_log opening (h ++ es)) ≡ n + 1
+one_commit opening h es n one e =
+    ap (λ (rs : List Record). commits (opening ++ rs)) (log_of_append h es) ∙ ap commits (sym (append_assoc opening (log_of h) (log_of es))) ∙ commits_append (opening ++ log_of h) (log_of es) ∙ omega (arith, one, e)
 
 -- nothing enters the log
 same_records : (h es : List Entry) (durable waiting : List Record) → log_of es ≡ [] → log_of h ≡ durable ++ waiting → log_of (h ++ es) ≡ durable ++ waiting
@@ -189,7 +196,7 @@ module _ {D : Type 0} (L : Ghosts D) where
     pub did_end : (c : Command) (n : ℕ) (out : List ℕ) → log.ended ≡ Some n → is_lawful s c ≡ true → EndedRow c [] → out ≡ head c ++ codes " ended " ++ decimal n ++ codes "\n" → Adds L.tells (In L log standing) s c out
     did_end c n out ended lawful row is = record { turn = turn c [] (Ended n); is = refl; fits = record { goes = h.goes; lawful = lawful; row = (h.ended ∙ ended, row) }; holds = h; lines = is }
 
-    running : log.ended ≡ None → Runs L log standing h.here
+    pub running : log.ended ≡ None → Runs L log standing h.here
     running none = runs_of log standing h.here log.ended h.lives none
 
     not_ended : log.ended ≡ None → s.ended ≡ None
@@ -366,7 +373,7 @@ module _ {D : Type 0} (L : Ghosts D) where
             subst (λ (x : Option Life). HasRoom (log_of_life x) (requests.Put key value)) (sym h.life) (omega (arith, l.one_page, l.unfinished, limit, c.limit, room))
 
         -- the row of a put has no place on the page
-        pub did_not_fit : (line : ℕ) → z.puts + 3 ≤ standing.limit → Redone w 1 standing.page standing.page false → RefusesAt L log.device s (commands.Ask name (requests.Put key value)) line (statuses.NoSplit line)
+        pub did_not_fit : (line : ℕ) → z.puts + 3 ≤ standing.limit → (IsRedoable w 1 standing.page → ⊥) → RefusesAt L log.device s (commands.Ask name (requests.Put key value)) line (statuses.NoSplit line)
         did_not_fit line room not = (refl, lawful_here, (not_ended none, no_place), leaves_here)
           where
             no_place : L.tells → HasNoPlace (log_of_life s.life) key value
@@ -375,7 +382,7 @@ module _ {D : Type 0} (L : Ghosts D) where
                 record {
                   rows = rows_of standing.page;
                   leaf = ap (λ (x : Option Life). image (log_of_life x) 1) h.life ∙ (calm_here t).log.leaf;
-                  size = not_fit w standing.page o standing.head (rows_of standing.page) key value w_is c.page not.0;
+                  size = not_fit w standing.page o standing.head (rows_of standing.page) key value w_is c.page not;
                   room = room_here t room;
                 }
 
@@ -434,3 +441,216 @@ module _ {D : Type 0} (L : Ghosts D) where
               });
               lines = is;
             }
+
+      -- ---- its commit, flushed with the records that wait
+
+      module _ (none : log.ended ≡ None) (mid new : LogState D) (added : HasMore (committing o ∷ []) log mid)
+          (adds : L.tells → (stable waiting : List Record) → IsLogOf L.told L.may_leave log stable waiting → IsLogOf L.told L.may_leave mid stable (waiting ++ committing o ∷ []))
+          (low : log.next < 2 ^ 62) (low_next : standing.next < 2 ^ 62) where
+        abbrev r : Runs L log standing h.here
+        r = running none
+
+        abbrev e : Entry
+        e = Rec (r.lsn + 1) (committing o)
+
+        abbrev after : Life
+        after = record { opening = h.here.opening; history = h.here.history ++ e ∷ [] }
+
+        calm_now : (t : L.tells) → Calm h.here.opening h.here.history (rows_of standing.page) standing.head (Some o) standing.next standing.commits r.lsn
+        calm_now t = subst (λ (x : Option Opened). Calm h.here.opening h.here.history (rows_of standing.page) standing.head x standing.next standing.commits r.lsn) opened_here (r.calm t).calm
+
+        stands_mid : (t : L.tells) → IsLogOf L.told L.may_leave mid (h.here.opening ++ (r.calm t).durable) ((r.calm t).waiting ++ committing o ∷ [])
+        stands_mid t = adds t (h.here.opening ++ (r.calm t).durable) (r.calm t).waiting (r.calm t).stands
+
+        first_mid : L.tells → first_kept mid ≡ 1
+        first_mid t = first_kept_is mid (stands_mid t).numbered ∙ ap (λ (x : LogState D). lsn_from x.places) added.is ∙ (r.calm t).first
+
+        -- the records of the life with the Commit
+        whole_commit : (t : L.tells) (more : List Entry) → log_of more ≡ [] → log_of (h.here.history ++ e ∷ more) ≡ (r.calm t).durable ++ ((r.calm t).waiting ++ committing o ∷ [])
+        whole_commit t more silent =
+            let c = r.calm t in
+            log_of_append h.here.history (e ∷ more) ∙ (λ i. c.whole i ++ committing o ∷ silent i) ∙ append_assoc c.durable c.waiting (committing o ∷ [])
+
+        -- how many records are durable before it
+        durable_here : (t : L.tells) → durable_lsn log.places ≡ length (h.here.opening ++ (r.calm t).durable)
+        durable_here t =
+            let c = r.calm t in
+            let whole : length (log_of h.here.history) ≡ length c.durable + length c.waiting = ap length c.whole ∙ length-append c.durable c.waiting in
+            omega (arith, next_is L.told L.may_leave log (h.here.opening ++ c.durable) c.waiting c.stands, c.place, c.calm.log.size, length-append h.here.opening (log_of h.here.history), whole, length-append h.here.opening c.durable)
+
+        calm_then : (t : L.tells) → Calm h.here.opening (h.here.history ++ e ∷ []) (rows_of standing.page) standing.head None standing.next (standing.commits + 1) (r.lsn + 1)
+        calm_then t = calm_committed h.here.opening h.here.history (rows_of standing.page) standing.head o standing.next standing.commits r.lsn (calm_now t) (omega (arith, low, (r.calm t).place)) (omega (arith, low_next))
+
+        pub right_then : L.tells → IsRightLife after
+        right_then t = calm_right h.here.opening (h.here.history ++ e ∷ []) (rows_of standing.page) standing.head None standing.next (standing.commits + 1) (r.lsn + 1) (calm_then t)
+
+        -- the first of the waiting records, with those that were stable, are what a stop may leave
+        left_then : (t : L.tells) (n : ℕ) → IsLeft h.here.opening (h.here.history ++ e ∷ []) ((r.calm t).durable ++ take n ((r.calm t).waiting ++ committing o ∷ []))
+        left_then t n =
+            let c = r.calm t in
+            let w = c.waiting ++ committing o ∷ [] in
+            let kept : IsLeft h.here.opening (h.here.history ++ e ∷ []) c.durable = left_longer h.here.opening h.here.history (e ∷ []) c.durable (calm_left L log standing h.here r.lsn c) (λ _. refl) in
+            left_more h.here.opening c.calm.begins (h.here.history ++ e ∷ []) (right_then t).legal (calm_then t).log.whole c.durable (take n w) (drop n w) kept
+                (whole_commit t [] refl ∙ ap (λ (rs : List Record). c.durable ++ rs) (sym (take_drop n w)) ∙ sym (append_assoc c.durable (take n w) (drop n w)))
+
+        module _ (left : (t : L.tells) → RecordsLeft L.told L.may_leave (h.here.opening ++ (r.calm t).durable) ((r.calm t).waiting ++ committing o ∷ []) mid new) where
+          holds_then : (t : L.tells) (k : Kept) → StandsForMoreRecords (first_kept mid) (h.here.opening ++ (r.calm t).durable) ((r.calm t).waiting ++ committing o ∷ []) (left t).done k → HoldsOne (Left after) k
+          holds_then t k m =
+              let c = r.calm t in
+              let w = c.waiting ++ committing o ∷ [] in
+              left_stands after (c.durable ++ take m.whole w) k (left_then t m.whole) (record { bs = m.stands.bs; stands = m.stands.stands; records = subst (AreRecordsOf m.stands.bs) (append_assoc h.here.opening c.durable (take m.whole w)) m.stands.records }) (m.numbered ∙ first_mid t)
+
+          pub over_then : L.tells → IsOver L new after
+          over_then t = record { right = right_then t; keeps = record { now = holds_then t (L.told new.device) (left t).read; crash = λ c may. holds_then t c ((left t).crash c may) } }
+
+          pub ended_then : (t : L.tells) (n : ℕ) → n ≡ durable_lsn new.places → IsEndedAt after n
+          ended_then t n is =
+              let c = r.calm t in
+              let w = c.waiting ++ committing o ∷ [] in
+              let all : life_log h.here.opening (h.here.history ++ e ∷ []) ≡ (h.here.opening ++ c.durable) ++ w = ap (λ (rs : List Record). h.here.opening ++ rs) (whole_commit t [] refl) ∙ sym (append_assoc h.here.opening c.durable w) in
+              let number : n ≡ length (h.here.opening ++ c.durable) + (left t).done = is ∙ (left t).durable ∙ ap (λ (x : LogState D). durable_lsn x.places + (left t).done) added.is ∙ ap (λ (m : ℕ). m + (left t).done) (durable_here t) in
+              record {
+                most = omega (arith, number, (left t).within, ap length all, length-append (h.here.opening ++ c.durable) w);
+                least = λ x acked. ap (λ (rs : List Record). list_any (is_commit_of x) (take n rs)) all
+                    ∙ any_taken (is_commit_of x) (h.here.opening ++ c.durable) w n (omega (arith, number)) ((calm_left L log standing h.here r.lsn c).acknowledged x (sym (list_any-append (acknowledges x) h.here.history (e ∷ []) ∙ only (list_any (acknowledges x) h.here.history)) ∙ acked));
+              }
+
+          -- a fuse refused a call of it
+          pub failed_commit : (n : ℕ) (out : List ℕ) → new.ended ≡ Some n → n ≡ durable_lsn new.places → s.armed ≡ true → IsFused L new.device s.armed → out ≡ name ++ codes " commit" ++ codes " log failed\n" → Adds L.tells (In L new standing) s (commands.Commit name) out
+          failed_commit n out ended number armed fused is =
+              let t : Turn = turn (commands.Commit name) (e ∷ []) (LogFault n) in
+              let here : Option Life = longer s.life (e ∷ []) in
+              let life : ◌≡◌ {A = Option Life} here (Some after) = ap (λ (x : Option Life). longer x (e ∷ [])) h.life in
+              record {
+                turn = t;
+                is = refl;
+                fits = record {
+                  goes = h.goes;
+                  lawful = lawful_here;
+                  row = (
+                    armed,
+                    (not_ended none, subst (λ (x : Option ℕ). CutCommit x (e ∷ [])) (sym tx_here) (r.lsn + 1, z.last, refl)),
+                    λ u. subst (λ (x : Option Life). IsEnd x (Some n)) (sym life) (ended_then u n number),
+                  );
+                };
+                holds = record {
+                  past = h.past;
+                  here = after;
+                  life = life;
+                  active = h.active;
+                  ended = sym ended;
+                  goes = h.goes;
+                  fused = fused;
+                  lives = subst (LivesOn L new standing after) (sym ended) over_then;
+                };
+                lines = is;
+              }
+
+          -- the disk itself failed in it
+          pub cut_commit : CutAt L new.device s (commands.Commit name)
+          cut_commit =
+              let life : ◌≡◌ {A = Option Life} (longer s.life (e ∷ [])) (Some after) = ap (λ (x : Option Life). longer x (e ∷ [])) h.life in
+              record {
+                entries = e ∷ [];
+                fits = record { goes = h.goes; lawful = lawful_here; row = (not_ended none, subst (λ (x : Option ℕ). CutCommit x (e ∷ [])) (sym tx_here) (r.lsn + 1, z.last, refl)) };
+                right = λ t. subst (λ (x : Option Life). All IsRightLife (lives_of x s.past)) (sym life) (right_more L s.past after (h.past t) (right_then t));
+                leaves = λ t. subst (λ (x : Option Life). Keeps L (HoldsOne (last_of x s.last)) new.device) (sym life) (over_then t).keeps;
+              }
+
+        -- it is acknowledged
+        pub did_commit : (standing' : Standing) (out : List ℕ) → log.next ≤ durable_lsn new.places → new.ended ≡ None → new.next ≡ mid.next → first_kept new ≡ first_kept mid
+            → (L.tells → (stable waiting : List Record) → IsLogOf L.told L.may_leave mid stable waiting → (new ≡ mid) ⊎ IsLogOf L.told L.may_leave new (stable ++ waiting) [])
+            → standing'.session ≡ None → standing'.commits ≡ standing.commits + 1 → standing'.page ≡ standing.page → standing'.head ≡ standing.head → standing'.next ≡ standing.next → standing'.limit ≡ standing.limit → IsFused L new.device s.armed
+            → out ≡ name ++ codes " commit " ++ decimal (standing.commits + 1) ++ codes "\n" → Adds L.tells (In L new standing') s (commands.Commit name) out
+        did_commit standing' out reached live next first flushed closed count page head number limit fused is =
+            let es = commit_entries o r.lsn in
+            let t : Turn = turn (commands.Commit name) es Done in
+            let life : ◌≡◌ {A = Option Life} (longer s.life es) (Some (record { opening = h.here.opening; history = h.here.history ++ es })) = ap (λ (x : Option Life). longer x es) h.life in
+            let counted : commits (life_log h.here.opening (h.here.history ++ es)) ≡ standing.commits + 1 = one_commit h.here.opening h.here.history es standing.commits refl r.count in
+            record {
+              turn = t;
+              is = refl;
+              fits = record {
+                goes = h.goes;
+                lawful = lawful_here;
+                row = (not_ended none, subst (λ (x : Option ℕ). Commits x es) (sym tx_here) (z.tx, r.lsn + 1, z.last, refl));
+              };
+              holds = record {
+                past = h.past;
+                here = record { opening = h.here.opening; history = h.here.history ++ es };
+                life = life;
+                active = gone ∙ sym (ap actives closed);
+                ended = not_ended none ∙ sym live;
+                goes = h.goes;
+                fused = fused;
+                lives = runs_on new standing' (record { opening = h.here.opening; history = h.here.history ++ es }) new.ended live (record {
+                  count = counted ∙ sym count;
+                  lsn = r.lsn + 1;
+                  calm = λ u.
+                      let c = r.calm u in
+                      let stands = flushed_whole u in
+                      record {
+                        page = page ∙ c.page ∙ ap (λ (x : Option PageState). Some (only_leaf (rows_of x))) (sym page);
+                        calm = calm_as h.here.opening (h.here.history ++ es) (rows_of standing.page) (rows_of standing'.page) standing.head standing'.head None (opened_by standing'.session) standing.next standing'.next (standing.commits + 1) standing'.commits (r.lsn + 1) (r.lsn + 1)
+                            (ap rows_of page) head (ap opened_by closed) number count refl
+                            (calm_commit h.here.opening h.here.history (rows_of standing.page) standing.head o standing.next standing.commits r.lsn (calm_now u) (omega (arith, low, c.place)) (omega (arith, low_next)));
+                        place = ap (λ (n : ℕ). n + 1) c.place ∙ sym (next ∙ ap (λ (x : LogState D). x.next) added.is);
+                        limit = limit ∙ c.limit;
+                        first = sym (first_kept_is new stands.numbered) ∙ first ∙ first_mid u;
+                        durable = c.durable ++ (c.waiting ++ committing o ∷ []);
+                        waiting = [];
+                        whole = whole_commit u (Acked z.tx z.tx ∷ []) refl ∙ sym (append-nil (c.durable ++ (c.waiting ++ committing o ∷ [])));
+                        uncommitted = refl;
+                        stands = subst (λ (rs : List Record). IsLogOf L.told L.may_leave new rs []) (append_assoc h.here.opening c.durable (c.waiting ++ committing o ∷ [])) stands;
+                      };
+                });
+              };
+              lines = is ∙ ap (λ (n : ℕ). name ++ codes " commit " ++ decimal n ++ codes "\n") (sym counted ∙ sym (ap (λ (x : Option Life). commits (log_of_life x)) life));
+            }
+          where
+            gone : without s.active name ≡ []
+            gone = rw (names_are, named) refl
+
+            -- the records didn't stand on the disk before
+            flushed_whole : (u : L.tells) → IsLogOf L.told L.may_leave new ((h.here.opening ++ (r.calm u).durable) ++ ((r.calm u).waiting ++ committing o ∷ [])) []
+            flushed_whole u = ⊎_elim
+                (λ same. absurd (let c = r.calm u in omega (arith, reached, ap (λ (x : LogState D). durable_lsn x.places) (same ∙ added.is), next_is L.told L.may_leave log (h.here.opening ++ c.durable) c.waiting c.stands)))
+                (λ stands. stands)
+                (flushed u (h.here.opening ++ (r.calm u).durable) ((r.calm u).waiting ++ committing o ∷ []) (stands_mid u))
+
+    -- ---- the fuse
+
+    module _ (new : D) (same : L.tells → L.told new ≡ L.told log.device) (nomore : NoMore L.may_leave log.device new) (still : L.tells → (stable waiting : List Record) → IsLogOf L.told L.may_leave log stable waiting → IsLogOf L.told L.may_leave (record log { device = new }) stable waiting) where
+      lives_still : (e : Option ℕ) → LivesOn L log standing h.here e → LivesOn L (record log { device = new }) standing h.here e
+      lives_still None runs = record {
+        count = runs.count;
+        lsn = runs.lsn;
+        calm = λ t.
+            let c = runs.calm t in
+            record { page = c.page; calm = c.calm; place = c.place; limit = c.limit; first = c.first; durable = c.durable; waiting = c.waiting; whole = c.whole; uncommitted = c.uncommitted; stands = still t (h.here.opening ++ c.durable) c.waiting c.stands };
+      }
+      lives_still (Some n) over = λ t. record { right = (over t).right; keeps = keeps_same L (HoldsOne (Left h.here)) log.device new (same t) nomore (over t).keeps }
+
+      pub did_fuse : (device : Device) (calls : ℕ) (out : List ℕ) → device ≡ Log → out ≡ codes "fuse log " ++ decimal calls ++ codes "\n" → Adds L.tells (In L (record log { device = new }) standing) s (commands.Fuse device calls) out
+      did_fuse device calls out log_is is = record {
+        turn = turn (commands.Fuse device calls) [] Done;
+        is = refl;
+        fits = record { goes = h.goes; lawful = refl; row = (refl, log_is) };
+        holds = record { past = h.past; here = h.here; life = h.life; active = h.active; ended = h.ended; goes = h.goes; fused = record { fuse = h.fused.fuse; renewed = λ e. absurd cc }; lives = lives_still log.ended h.lives };
+        lines = is;
+      }
+
+      pub did_renew : (device : Device) (out : List ℕ) → device ≡ Log → (L.fuses → L.passes new ≡ None) → out ≡ codes "renew log\n" → Adds L.tells (In L (record log { device = new }) standing) s (commands.Renew device) out
+      did_renew device out log_is renewed is = record {
+        turn = turn (commands.Renew device) [] Done;
+        is = refl;
+        fits = record { goes = h.goes; lawful = refl; row = (refl, log_is) };
+        holds = record { past = h.past; here = h.here; life = h.life; active = h.active; ended = h.ended; goes = h.goes; fused = record { fuse = h.fused.fuse; renewed = λ e. renewed h.fused.fuse }; lives = lives_still log.ended h.lives };
+        lines = is;
+      }
+
+    pub other_fuse : (device : Device) (calls line : ℕ) → device ≢ Log → RefusesAt L log.device s (commands.Fuse device calls) line (statuses.NotBuilt line)
+    other_fuse device calls line other = (refl, refl, other, leaves_here)
+
+    pub other_renew : (device : Device) (line : ℕ) → device ≢ Log → RefusesAt L log.device s (commands.Renew device) line (statuses.NotBuilt line)
+    other_renew device line other = (refl, refl, other, leaves_here)

@@ -1,4 +1,11 @@
 pub mod Commands
 pub mod Lists
 pub mod Lives
+pub mod Openings
+pub mod Places
 pub mod Reading
+pub mod Rows
+pub mod Runs
+pub mod Sizes
+pub mod Turning
+pub mod Without

@@ -1,5 +1,5 @@
 -- Records of blocks, and LSNs.
-use Rattle.std.proofs.Common.{◌≡◌, ℕ, zero, suc, ◌+◌, ◌≤◌, Bool, true, false, List, [], ◌∷◌, ◌++◌, refl, sym, ap, ◌∙◌, arith, length, length-append, take, map}
+use Rattle.std.proofs.Common.{◌≡◌, ℕ, zero, suc, ◌+◌, ◌≤◌, Bool, true, false, List, [], ◌∷◌, ◌++◌, refl, sym, ap, ◌∙◌, arith, length, length-append, take, drop, map}
 use Rattle.std.specs.Prelude.{◌||◌, slice_index_or}
 use Rattle.std.specs.List.{list_any}
 use Rattle.media.specs.Kept.{Kept}
@@ -31,7 +31,7 @@ first_kept_is log n = by log.places log.pending n.run n.next
 
 -- ---- how many records
 
-next_of : (n k : ℕ) (bs : List Block) (rs : List Record) → AreIn k bs rs → next_lsn n bs ≡ n + length rs
+pub next_of : (n k : ℕ) (bs : List Block) (rs : List Record) → AreIn k bs rs → next_lsn n bs ≡ n + length rs
 next_of n k [] rs none = omega (arith, ap length none)
 next_of n k (b ∷ bs) rs (own, more, whole, holds, rest) = next_of (n + b.count) b.checkpoint bs more rest ∙ omega (arith, holds.count, ap length whole, length-append own more)
 
@@ -64,3 +64,8 @@ pub commits_of_some : (n : ℕ) → commits (some_commits n) ≡ n
 unfolding some_commits
 commits_of_some zero = refl
 commits_of_some (suc n) = ap suc (commits_of_some n)
+
+pub take_drop : (n : ℕ) (xs : List Record) → take n xs ++ drop n xs ≡ xs
+take_drop zero xs = refl
+take_drop (suc n) [] = refl
+take_drop (suc n) (x ∷ xs) = ap (λ (ys : List Record). x ∷ ys) (take_drop n xs)

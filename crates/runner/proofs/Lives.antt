@@ -7,8 +7,8 @@ use Rattle.media.specs.Kept.{Kept}
 use Rattle.media.specs.declared.disk.Disk.{Ghosts}
 use Rattle.log_blocks.specs.Log.{Block, first_lsn}
 use Rattle.log_blocks.specs.LogState.{LogState}
-use Rattle.log_manager.specs.Records.{AreRecordsOf, StandsForRecords}
-use Rattle.log_replay.specs.Standing.{HoldEnd, IsEnough}
+use Rattle.log_manager.specs.Records.{StandsForRecords}
+use Rattle.log_replay.proofs.WholeLogs.{hold_whole}
 use Rattle.wal_record.specs.Left.{IsLeft}
 use Rattle.wal_record.specs.Sound.{IsSound}
 use Rattle.wal_record.specs.declared.record.Record.{Record}
@@ -16,11 +16,17 @@ use Rattle.life_laws.specs.CalmLaw.{IsRight}
 use Rattle.life_laws.proofs.CalmLives.{calm_right}
 use Rattle.runner.specs.Active.{opened_by}
 use Rattle.runner.specs.Leaf.{rows_of}
-use Rattle.runner.specs.LogDisk.{StandsOn, Keeps, HoldsOne, lsn_from}
+use Rattle.runner.specs.LogDisk.{View, Whole, Form, IsWhole, StandsOn, Keeps, HoldsOne, lsn_from}
 use Rattle.runner.specs.Machine.{Out, In, Safe, IsCalm, IsOver, LivesOn}
 use Rattle.runner.specs.Turns.{Life, Stage, Last, Left, IsRightLife, lives_of, last_of}
 use Rattle.runner.specs.declared.standing.Standing.{Standing}
 use Rattle.runner.proofs.Lists.{first_is}
+
+-- ---- views
+
+pub tells_of : {T : Type 0} (v : View T) → IsWhole v → T
+tells_of (Whole t) h = t
+tells_of Form h = absurd h
 
 -- ---- the disk
 
@@ -41,14 +47,8 @@ crashed L old new P only counts c left = only.each c (counts (L.moment old) c on
 
 -- ---- what the kept bytes stand for
 
-enough : (log : List Record) → IsEnough log 1
-enough log = ?
-
-pub held : (log : List Record) (bs : List Block) → AreRecordsOf bs log → first_lsn bs ≡ 1 → HoldEnd log bs
-held log bs records one = record { dropped = []; kept = log; is = refl; records = records; first = one; enough = subst (IsEnough log) (sym one) (enough log) }
-
 pub stands_on : (log : List Record) (k : Kept) → IsSound log → (s : StandsForRecords log k) → first_lsn s.bs ≡ 1 → StandsOn log k
-stands_on log k sound s one = record { sound = sound; bs = s.bs; stands = s.stands; records = held log s.bs s.records one }
+stands_on log k sound s one = record { sound = sound; bs = s.bs; stands = s.stands; records = hold_whole log s.bs s.records one }
 
 -- a member of what a stop may leave of a life
 pub left_stands : (l : Life) (own : List Record) (k : Kept) → IsLeft l.opening l.history own → (s : StandsForRecords (l.opening ++ own) k) → first_lsn s.bs ≡ 1 → HoldsOne (Left l) k

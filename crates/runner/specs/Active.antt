@@ -1,9 +1,9 @@
 -- The open transaction.
-use Rattle.std.specs.Prelude.{◌≡◌, ◌≤◌, ◌+◌, ℕ, List, [], ◌∷◌, Option, Some, None, is_some, Bool, true, false}
+use Rattle.std.specs.Prelude.{◌≡◌, ◌≤◌, ◌<◌, ◌+◌, ◌^◌, ℕ, List, [], ◌∷◌, Option, Some, None, is_some, Bool, true, false}
 use Rattle.wal_record.specs.declared.record.Record.{Record}
 use Rattle.life_laws.specs.Calm.{Opened}
 use Rattle.script.specs.Word.{same_text}
-use Rattle.runner.specs.Session.{write_record}
+use Rattle.runner.specs.Session.{IsNumbered, write_record}
 use Rattle.runner.specs.declared.session.Session.{Session}
 
 -- it has this name
@@ -25,6 +25,11 @@ opened_by (Some z) = Some (record { session = z.tx; tx = z.tx; last_lsn = z.last
 abbrev pub Writes : Option Session → ℕ → List ℕ → Option (List ℕ) → List ℕ → Record → Type 0
 Writes None head key old value r = ⊥
 Writes (Some z) head key old value r = r ≡ write_record z.tx z.last head key old value
+
+-- it has this number, and this is its last record
+abbrev pub IsOpened : Option Session → ℕ → ℕ → Type 0
+IsOpened None tx last = ⊥
+IsOpened (Some z) tx last = (tx ≡ z.tx) × (last ≡ z.last) × IsNumbered tx × (last < 2 ^ 62)
 
 -- it has begun with this number
 abbrev pub Begins : List ℕ → ℕ → Option Session → Type 0

@@ -9,6 +9,19 @@ use Rattle.wal_record.specs.Sound.{IsSound}
 use Rattle.wal_record.specs.declared.record.Record.{Record}
 use Rattle.runner.specs.Turns.{Stage, Last, MayFind, last_of}
 
+-- whether what the disk keeps is looked at, which disks of some types tell, or the form of a run alone
+pub data View (T : Type 0) : Type 0 where
+  Whole : T → View T
+  Form : View T
+
+abbrev pub IsWhole : {T : Type 0} → View T → Type 0
+IsWhole (Whole t) = Unit {0}
+IsWhole Form = ⊥
+
+-- disks as they tell in this view
+abbrev pub seen : {D : Type 0} (L : Ghosts D) → View L.tells → Ghosts D
+seen L v = record L { tells = IsWhole v }
+
 -- the kept bytes stand for a sound log
 pub record StandsOn (log : List Record) (k : Kept) : Type 0 where
   pub sound : IsSound log

@@ -1,6 +1,7 @@
 //! Where a run is, and one step of it.
 ghost use Rattle.std.specs.Prelude.{◌≡◌, ◌≤◌};
 ghost use Rattle.runner.specs.Causes.{SteppedCause, disk_at};
+ghost use Rattle.runner.specs.LogDisk.{View, seen};
 ghost use Rattle.runner.specs.Turns.{Stage};
 ghost use Rattle.runner.specs.Machine.{In, IsAt, Steps};
 
@@ -34,7 +35,7 @@ pub fn step<L: Disk>(
     command: &Command,
     line: u64,
 ) -> Stepped<L, Life<L>>
-    ensures turns { (s : Stage) → IsAt L.Disk (λ life. In L.Disk life.log.log life.standing) at s → Steps L.Disk (λ life. In L.Disk life.log.log life.standing) s command.now line result }
+    ensures turns { (v : View L.tells) (s : Stage) → IsAt (seen L.Disk v) (λ life. In (seen L.Disk v) life.log.log life.standing) at s → Steps (seen L.Disk v) (λ life. In (seen L.Disk v) life.log.log life.standing) s command.now line result }
     ensures cause { SteppedCause L.Disk (λ life. life.log.log.device) (disk_at (λ life. life.log.log.device) at) result }
 {
     match at {
@@ -51,7 +52,7 @@ fn step_inside<L: Disk>(
     command: &Command,
     line: u64,
 ) -> Stepped<L, Life<L>>
-    ensures turns { (s : Stage) → In L.Disk life.log.log life.standing s → Steps L.Disk (λ life. In L.Disk life.log.log life.standing) s command.now line result }
+    ensures turns { (v : View L.tells) (s : Stage) → In (seen L.Disk v) life.log.log life.standing s → Steps (seen L.Disk v) (λ life. In (seen L.Disk v) life.log.log life.standing) s command.now line result }
     ensures cause { SteppedCause L.Disk (λ life. life.log.log.device) life.log.log.device result }
 {
     let mut life = life;

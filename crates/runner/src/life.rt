@@ -1,9 +1,11 @@
 //! A life: what happens from an opening to its end.
-ghost use Rattle.std.specs.Prelude.{◌≡◌, ◌≢◌, ◌≤◌, ◌<◌, ◌+◌, ◌^◌, ℕ, List, true, None, Some, IfErr, IfOk};
+ghost use Rattle.std.specs.Prelude.{◌≡◌, ◌≢◌, ◌≤◌, ◌<◌, ◌+◌, ◌++◌, ◌^◌, ℕ, List, true, None, Some, IfErr, IfOk, codes};
+ghost use Rattle.std.specs.Fmt.{decimal};
 ghost use Rattle.runner.specs.Causes.{LogCause};
 ghost use Rattle.runner.specs.Active.{is_active, puts_of, HasCommitRoom};
 ghost use Rattle.runner.specs.Turns.{Stage, IsNoStop};
 ghost use Rattle.runner.specs.Refusals.{RefusesAt};
+ghost use Rattle.runner.specs.LogDisk.{View, IsWhole, seen};
 ghost use Rattle.runner.specs.Machine.{In, Adds};
 ghost use Rattle.script.specs.declared.command.Command.TheVariants as commands;
 ghost use Rattle.store_model.specs.declared.request.Request.TheVariants as requests;
@@ -42,8 +44,8 @@ impl<L: Disk> Life<L> {
         line: u64,
     ) -> Result<Vec<u8>, Status>
         requires { IsNoStop command.now }
-        ensures ok { IfOk result (λ lines. (s : Stage) → In L.Disk self.old.log.log self.old.standing s → Adds L.tells (In L.Disk self.new.log.log self.new.standing) s command.now lines.items) }
-        ensures err { IfErr result (λ status. (s : Stage) → In L.Disk self.old.log.log self.old.standing s → RefusesAt L.Disk self.new.log.log.device s command.now line status) }
+        ensures ok { IfOk result (λ lines. (v : View L.tells) (s : Stage) → In (seen L.Disk v) self.old.log.log self.old.standing s → Adds (IsWhole v) (In (seen L.Disk v) self.new.log.log self.new.standing) s command.now lines.items) }
+        ensures err { IfErr result (λ status. (v : View L.tells) (s : Stage) → In (seen L.Disk v) self.old.log.log self.old.standing s → RefusesAt (seen L.Disk v) self.new.log.log.device s command.now line status) }
         ensures cause { IfErr result (LogCause (L.own self.old.log.log.device) (L.own self.new.log.log.device)) }
         ensures later { L.own self.old.log.log.device ≤ L.own self.new.log.log.device }
     {
@@ -59,8 +61,8 @@ impl<L: Disk> Life<L> {
     }
 
     fn begin(&mut self, alloc: Global, name: &Name, line: u64) -> Result<Vec<u8>, Status>
-        ensures ok { IfOk result (λ lines. (s : Stage) → In L.Disk self.old.log.log self.old.standing s → Adds L.tells (In L.Disk self.new.log.log self.new.standing) s (commands.Begin name.now) lines.items) }
-        ensures err { IfErr result (λ status. (s : Stage) → In L.Disk self.old.log.log self.old.standing s → RefusesAt L.Disk self.new.log.log.device s (commands.Begin name.now) line status) }
+        ensures ok { IfOk result (λ lines. (v : View L.tells) (s : Stage) → In (seen L.Disk v) self.old.log.log self.old.standing s → Adds (IsWhole v) (In (seen L.Disk v) self.new.log.log self.new.standing) s (commands.Begin name.now) lines.items) }
+        ensures err { IfErr result (λ status. (v : View L.tells) (s : Stage) → In (seen L.Disk v) self.old.log.log self.old.standing s → RefusesAt (seen L.Disk v) self.new.log.log.device s (commands.Begin name.now) line status) }
         ensures cause { IfErr result (LogCause (L.own self.old.log.log.device) (L.own self.new.log.log.device)) }
         ensures later { L.own self.old.log.log.device ≤ L.own self.new.log.log.device }
     {
@@ -100,8 +102,8 @@ impl<L: Disk> Life<L> {
         request: &Request,
         line: u64,
     ) -> Result<Vec<u8>, Status>
-        ensures ok { IfOk result (λ lines. (s : Stage) → In L.Disk self.old.log.log self.old.standing s → Adds L.tells (In L.Disk self.new.log.log self.new.standing) s (commands.Ask name.now request.now) lines.items) }
-        ensures err { IfErr result (λ status. (s : Stage) → In L.Disk self.old.log.log self.old.standing s → RefusesAt L.Disk self.new.log.log.device s (commands.Ask name.now request.now) line status) }
+        ensures ok { IfOk result (λ lines. (v : View L.tells) (s : Stage) → In (seen L.Disk v) self.old.log.log self.old.standing s → Adds (IsWhole v) (In (seen L.Disk v) self.new.log.log self.new.standing) s (commands.Ask name.now request.now) lines.items) }
+        ensures err { IfErr result (λ status. (v : View L.tells) (s : Stage) → In (seen L.Disk v) self.old.log.log self.old.standing s → RefusesAt (seen L.Disk v) self.new.log.log.device s (commands.Ask name.now request.now) line status) }
         ensures cause { IfErr result (LogCause (L.own self.old.log.log.device) (L.own self.new.log.log.device)) }
         ensures later { L.own self.old.log.log.device ≤ L.own self.new.log.log.device }
     {
@@ -119,7 +121,7 @@ impl<L: Disk> Life<L> {
 
     fn get(&self, alloc: Global, name: &Name, key: &Key) -> Result<Vec<u8>, Status>
         requires { is_active self.now.standing.session name.now ≡ true }
-        ensures ok { IfOk result (λ lines. (s : Stage) → In L.Disk self.now.log.log self.now.standing s → Adds L.tells (In L.Disk self.now.log.log self.now.standing) s (commands.Ask name.now (requests.Get key.now)) lines.items) }
+        ensures ok { IfOk result (λ lines. (v : View L.tells) (s : Stage) → In (seen L.Disk v) self.now.log.log self.now.standing s → Adds (IsWhole v) (In (seen L.Disk v) self.now.log.log self.now.standing) s (commands.Ask name.now (requests.Get key.now)) lines.items) }
         ensures memory { IfErr result (λ status. status ≡ Status.Memory) }
     {
         match self.log.ended() {
@@ -146,8 +148,8 @@ impl<L: Disk> Life<L> {
         line: u64,
     ) -> Result<Vec<u8>, Status>
         requires { is_active self.old.standing.session name.now ≡ true }
-        ensures ok { IfOk result (λ lines. (s : Stage) → In L.Disk self.old.log.log self.old.standing s → Adds L.tells (In L.Disk self.new.log.log self.new.standing) s (commands.Ask name.now (requests.Put key.now value.now)) lines.items) }
-        ensures err { IfErr result (λ status. (s : Stage) → In L.Disk self.old.log.log self.old.standing s → RefusesAt L.Disk self.new.log.log.device s (commands.Ask name.now (requests.Put key.now value.now)) line status) }
+        ensures ok { IfOk result (λ lines. (v : View L.tells) (s : Stage) → In (seen L.Disk v) self.old.log.log self.old.standing s → Adds (IsWhole v) (In (seen L.Disk v) self.new.log.log self.new.standing) s (commands.Ask name.now (requests.Put key.now value.now)) lines.items) }
+        ensures err { IfErr result (λ status. (v : View L.tells) (s : Stage) → In (seen L.Disk v) self.old.log.log self.old.standing s → RefusesAt (seen L.Disk v) self.new.log.log.device s (commands.Ask name.now (requests.Put key.now value.now)) line status) }
         ensures cause { IfErr result (LogCause (L.own self.old.log.log.device) (L.own self.new.log.log.device)) }
         ensures later { L.own self.old.log.log.device ≤ L.own self.new.log.log.device }
     {
@@ -177,8 +179,11 @@ impl<L: Disk> Life<L> {
         value: &Value,
         line: u64,
     ) -> Result<Vec<u8>, Status>
-        ensures ok { IfOk result (λ lines. (s : Stage) → In L.Disk self.old.log.log self.old.standing s → Adds L.tells (In L.Disk self.new.log.log self.new.standing) s (commands.Ask name.now (requests.Put key.now value.now)) lines.items) }
-        ensures err { IfErr result (λ status. (s : Stage) → In L.Disk self.old.log.log self.old.standing s → RefusesAt L.Disk self.new.log.log.device s (commands.Ask name.now (requests.Put key.now value.now)) line status) }
+        requires active { is_active self.old.standing.session name.now ≡ true }
+        requires goes { self.old.log.log.ended ≡ None }
+        requires room { puts_of self.old.standing.session + 3 ≤ self.old.standing.limit }
+        ensures ok { IfOk result (λ lines. (v : View L.tells) (s : Stage) → In (seen L.Disk v) self.old.log.log self.old.standing s → Adds (IsWhole v) (In (seen L.Disk v) self.new.log.log self.new.standing) s (commands.Ask name.now (requests.Put key.now value.now)) lines.items) }
+        ensures err { IfErr result (λ status. (v : View L.tells) (s : Stage) → In (seen L.Disk v) self.old.log.log self.old.standing s → RefusesAt (seen L.Disk v) self.new.log.log.device s (commands.Ask name.now (requests.Put key.now value.now)) line status) }
         ensures cause { IfErr result (LogCause (L.own self.old.log.log.device) (L.own self.new.log.log.device)) }
         ensures later { L.own self.old.log.log.device ≤ L.own self.new.log.log.device }
     {
@@ -191,10 +196,12 @@ impl<L: Disk> Life<L> {
             Err(_) => return Err(Status::Memory),
         };
         let write = self.standing.write(key, &old, value);
-        match self.standing.redo(alloc, operators, &write) {
-            Ok(true) => {}
-            Ok(false) => return Err(Status::NoSplit { line }),
+        let fits = match self.standing.redo(alloc, operators, &write) {
+            Ok(fits) => fits,
             Err(_) => return Err(Status::Memory),
+        };
+        if !fits {
+            return Err(Status::NoSplit { line });
         }
         match self.log.append_group(alloc, slice::from_ref(&write)) {
             Ok(lsn) => {
@@ -206,8 +213,8 @@ impl<L: Disk> Life<L> {
     }
 
     fn commit(&mut self, alloc: Global, name: &Name, line: u64) -> Result<Vec<u8>, Status>
-        ensures ok { IfOk result (λ lines. (s : Stage) → In L.Disk self.old.log.log self.old.standing s → Adds L.tells (In L.Disk self.new.log.log self.new.standing) s (commands.Commit name.now) lines.items) }
-        ensures err { IfErr result (λ status. (s : Stage) → In L.Disk self.old.log.log self.old.standing s → RefusesAt L.Disk self.new.log.log.device s (commands.Commit name.now) line status) }
+        ensures ok { IfOk result (λ lines. (v : View L.tells) (s : Stage) → In (seen L.Disk v) self.old.log.log self.old.standing s → Adds (IsWhole v) (In (seen L.Disk v) self.new.log.log self.new.standing) s (commands.Commit name.now) lines.items) }
+        ensures err { IfErr result (λ status. (v : View L.tells) (s : Stage) → In (seen L.Disk v) self.old.log.log self.old.standing s → RefusesAt (seen L.Disk v) self.new.log.log.device s (commands.Commit name.now) line status) }
         ensures cause { IfErr result (LogCause (L.own self.old.log.log.device) (L.own self.new.log.log.device)) }
         ensures later { L.own self.old.log.log.device ≤ L.own self.new.log.log.device }
     {
@@ -233,11 +240,36 @@ impl<L: Disk> Life<L> {
             Ok(failed) => failed,
             Err(_) => return Err(Status::Memory),
         };
-        match self.flush_commit() {
+        self.commit_open(name, out, failed, refused)
+    }
+
+    /// Commits the open transaction, which has this name. These are the lines where it is done, and where a fuse refused
+    /// a call, of which so many were refused before. It takes no memory.
+    fn commit_open(
+        &mut self,
+        name: &Name,
+        done: Vec<u8>,
+        failed: Vec<u8>,
+        refused: u64,
+    ) -> Result<Vec<u8>, Status>
+        requires active { is_active self.old.standing.session name.now ≡ true }
+        requires goes { self.old.log.log.ended ≡ None }
+        requires numbers { (self.old.standing.commits < 2 ^ 62) × (self.old.log.log.next < 2 ^ 62) }
+        requires before { (L.refused self.old.log.log.device ≡ refused) × (refused < 2 ^ 62) }
+        requires done { done.items ≡ name.now ++ codes " commit " ++ decimal (self.old.standing.commits + 1) ++ codes "\n" }
+        requires failed { failed.items ≡ name.now ++ codes " commit" ++ codes " log failed\n" }
+        ensures ok { IfOk result (λ lines. (v : View L.tells) (s : Stage) → In (seen L.Disk v) self.old.log.log self.old.standing s → Adds (IsWhole v) (In (seen L.Disk v) self.new.log.log self.new.standing) s (commands.Commit name.now) lines.items) }
+        ensures err { IfErr result (λ status. (v : View L.tells) (line : ℕ) (s : Stage) → In (seen L.Disk v) self.old.log.log self.old.standing s → RefusesAt (seen L.Disk v) self.new.log.log.device s (commands.Commit name.now) line status) }
+        ensures kind { IfErr result (λ status. status ≡ Status.LogFault) }
+        ensures cause { IfErr result (LogCause (L.own self.old.log.log.device) (L.own self.new.log.log.device)) }
+        ensures later { L.own self.old.log.log.device ≤ L.own self.new.log.log.device }
+    {
+        let (tx, last) = self.standing.open();
+        let lsn = self.log.append_commit(tx, last);
+        match self.log.flush_to(lsn) {
             Ok(()) => {
-                self.standing.session = None;
-                self.standing.commits += 1;
-                Ok(out)
+                self.standing.committed();
+                Ok(done)
             }
             Err(Fault::LogFault) => {
                 if self.log.refused() > refused {
@@ -246,18 +278,8 @@ impl<L: Disk> Life<L> {
                     Err(Status::LogFault)
                 }
             }
-            Err(_) => Err(Status::Memory),
+            Err(_) => unreachable!(),
         }
-    }
-
-    /// Enters the Commit of the open transaction, and flushes the log. It takes no memory.
-    fn flush_commit(&mut self) -> Result<(), Fault> {
-        let (tx, last) = match &self.standing.session {
-            Some(session) => (session.tx, session.last),
-            None => unreachable!(),
-        };
-        let lsn = self.log.append_commit(tx, last);
-        self.log.flush_to(lsn)
     }
 
     fn fuse(
@@ -267,8 +289,8 @@ impl<L: Disk> Life<L> {
         calls: u64,
         line: u64,
     ) -> Result<Vec<u8>, Status>
-        ensures ok { IfOk result (λ lines. (s : Stage) → In L.Disk self.old.log.log self.old.standing s → Adds L.tells (In L.Disk self.new.log.log self.new.standing) s (commands.Fuse device calls) lines.items) }
-        ensures err { IfErr result (λ status. (s : Stage) → In L.Disk self.old.log.log self.old.standing s → RefusesAt L.Disk self.new.log.log.device s (commands.Fuse device calls) line status) }
+        ensures ok { IfOk result (λ lines. (v : View L.tells) (s : Stage) → In (seen L.Disk v) self.old.log.log self.old.standing s → Adds (IsWhole v) (In (seen L.Disk v) self.new.log.log self.new.standing) s (commands.Fuse device calls) lines.items) }
+        ensures err { IfErr result (λ status. (v : View L.tells) (s : Stage) → In (seen L.Disk v) self.old.log.log self.old.standing s → RefusesAt (seen L.Disk v) self.new.log.log.device s (commands.Fuse device calls) line status) }
         ensures cause { IfErr result (LogCause (L.own self.old.log.log.device) (L.own self.new.log.log.device)) }
         ensures later { L.own self.old.log.log.device ≤ L.own self.new.log.log.device }
     {
@@ -284,8 +306,8 @@ impl<L: Disk> Life<L> {
     }
 
     fn renew(&mut self, alloc: Global, device: Device, line: u64) -> Result<Vec<u8>, Status>
-        ensures ok { IfOk result (λ lines. (s : Stage) → In L.Disk self.old.log.log self.old.standing s → Adds L.tells (In L.Disk self.new.log.log self.new.standing) s (commands.Renew device) lines.items) }
-        ensures err { IfErr result (λ status. (s : Stage) → In L.Disk self.old.log.log self.old.standing s → RefusesAt L.Disk self.new.log.log.device s (commands.Renew device) line status) }
+        ensures ok { IfOk result (λ lines. (v : View L.tells) (s : Stage) → In (seen L.Disk v) self.old.log.log self.old.standing s → Adds (IsWhole v) (In (seen L.Disk v) self.new.log.log self.new.standing) s (commands.Renew device) lines.items) }
+        ensures err { IfErr result (λ status. (v : View L.tells) (s : Stage) → In (seen L.Disk v) self.old.log.log self.old.standing s → RefusesAt (seen L.Disk v) self.new.log.log.device s (commands.Renew device) line status) }
         ensures cause { IfErr result (LogCause (L.own self.old.log.log.device) (L.own self.new.log.log.device)) }
         ensures later { L.own self.old.log.log.device ≤ L.own self.new.log.log.device }
     {

@@ -1,25 +1,34 @@
 //! Opening a life, and making the log that a life can open.
-ghost use Rattle.std.specs.Prelude.{◌≡◌, ◌≤◌, ℕ, None, true, IsTrue, IfOk, IfErr, MatchResult};
+ghost use Rattle.std.specs.Prelude.{◌≡◌, ◌≤◌, ◌+◌, ℕ, List, [], None, length, IsTrue, IfOk, IfErr, OnOk, IsErrAnd, MatchResult};
 ghost use Rattle.media.specs.Counted.{Blames};
-ghost use Rattle.log_blocks.specs.Opening.{RoseFor};
+ghost use Rattle.log_blocks.specs.Log.{Block, first_lsn};
+ghost use Rattle.log_blocks.specs.LogState.{IsDurable};
+ghost use Rattle.log_manager.specs.Records.{AreRecordsOf, IsLogOf};
+ghost use Rattle.log_replay.specs.Answers.{Opens};
 ghost use Rattle.wal_record.specs.Rules.{is_limit};
-ghost use Rattle.wal_record.specs.Checkpoints.{commits};
+ghost use Rattle.wal_record.specs.State.{KeepsState};
+ghost use Rattle.wal_record.specs.declared.record.Record.{Record};
+ghost use Rattle.runner.specs.LogDisk.{View, seen};
+ghost use Rattle.runner.specs.Machine.{IsCalm};
 ghost use Rattle.runner.specs.Causes.{Shows};
-ghost use Rattle.runner.specs.Openings.{Makes, IsMade, IsNotMade, IsBegun, IsNotBegun};
+ghost use Rattle.runner.specs.Openings.{Makes, IsMade, IsFirst, IsFault, IsNotMade, IsBegun, IsNotBegun, MadeStatus, ReadStatus, ReplayStatus};
 ghost use Rattle.runner.specs.declared.status.Status.TheVariants as statuses;
 
 use crate::life::Life;
 use crate::standing::Standing;
 use crate::status::Status;
-use log_blocks::open_log;
+use log_blocks::{BlockLog, open_log};
 use log_manager::LogManager;
-use log_replay::{NotReplayed, replay};
+use log_replay::{Found, NotReplayed, replay};
 use media::Disk;
 use operators::Operators;
 use std::alloc::Global;
 use std::slice;
 use store_model::Fault;
 use wal_record::{Format, Record};
+
+/// The numbers of a life stay below this: no log comes so far.
+const MOST: u64 = 1 << 62;
 
 /// A log that isn't opened or made, with its disk.
 #[derive(Drop)]
@@ -31,8 +40,8 @@ pub struct NotOpened<L> {
 /// Makes the log of a store with this room on a disk whose log is empty.
 pub fn make_log<L: Disk>(alloc: Global, disk: L, limit: u32) -> Result<L, NotOpened<L>>
     requires { IsTrue (is_limit limit) }
-    ensures made { IfOk result (λ left. Makes L.Disk disk (IsMade L.Disk limit left)) }
-    ensures not { IfErr result (λ r. IsNotMade L.Disk limit disk r.disk r.status) }
+    ensures made { IfOk result (λ left. (v : View L.tells) → Makes (seen L.Disk v) disk (IsMade (seen L.Disk v) limit left)) }
+    ensures not { IfErr result (λ r. (v : View L.tells) → IsNotMade (seen L.Disk v) limit disk r.disk r.status) }
     ensures shows { IfErr result (λ r. Shows L.Disk r.disk r.status) }
     ensures fuse { MatchResult result (λ left. Blames L.passes L.refused L.own disk left ⊥) (λ r. Blames L.passes L.refused L.own disk r.disk (r.status ≡ statuses.LogFault)) }
 {
@@ -64,7 +73,16 @@ fn enter_format<L: Disk>(
     alloc: Global,
     log: &mut LogManager<L>,
     limit: u32,
-) -> Result<(), Status> {
+) -> Result<(), Status>
+    requires limit { IsTrue (is_limit limit) }
+    requires first { log.old.log.next ≡ 1 }
+    requires goes { log.old.log.ended ≡ None }
+    ensures made { OnOk result (L.tells → IsLogOf L.told L.may_leave log.old.log [] [] → IsFirst L.told L.may_leave limit 1 log.new.log.device) }
+    ensures cut { IfErr result (λ status. status ≡ statuses.LogFault → L.tells → IsLogOf L.told L.may_leave log.old.log [] [] → IsFirst L.told L.may_leave limit 0 log.new.log.device) }
+    ensures same { IfErr result (λ status. status ≡ statuses.Memory → log.new.log.device ≡ log.old.log.device) }
+    ensures kind { IfErr result IsFault }
+    ensures fuse { Blames L.passes L.refused L.own log.old.log.device log.new.log.device (IsErrAnd result (λ status. status ≡ statuses.LogFault)) }
+{
     let format = Record::Format(Format { limit });
     let lsn = match log.append_group(alloc, slice::from_ref(&format)) {
         Ok(lsn) => lsn,
@@ -78,7 +96,9 @@ fn enter_format<L: Disk>(
 }
 
 /// The status of a log that isn't made since it can't be read: an open gate stands there.
-fn not_made(fault: &Fault) -> Status {
+fn not_made(fault: &Fault) -> Status
+    ensures { MadeStatus fault.now result }
+{
     match fault {
         Fault::LogFault => Status::LogFault,
         Fault::LogBad { block: _, byte: _ } => Status::AlreadyFormatted,
@@ -93,9 +113,9 @@ pub fn open<L: Disk>(
     disk: L,
     line: u64,
 ) -> Result<Life<L>, NotOpened<L>>
-    ensures begun { IfOk result (λ life. Makes L.Disk disk (IsBegun L.Disk life.log.log life.standing)) }
+    ensures begun { IfOk result (λ life. (v : View L.tells) → Makes (seen L.Disk v) disk (IsBegun (seen L.Disk v) life.log.log life.standing)) }
     ensures first { IfOk result (λ life. (life.standing.session ≡ None) × (life.log.log.ended ≡ None)) }
-    ensures not { IfErr result (λ r. IsNotBegun L.Disk line disk r.disk r.status) }
+    ensures not { IfErr result (λ r. (v : View L.tells) → IsNotBegun (seen L.Disk v) line disk r.disk r.status) }
     ensures fuse { MatchResult result (λ life. Blames L.passes L.refused L.own disk life.log.log.device ⊥) (λ r. Blames L.passes L.refused L.own disk r.disk (r.status ≡ statuses.LogFault)) }
 {
     let mut log = match open_log(alloc, disk) {
@@ -106,17 +126,7 @@ pub fn open<L: Disk>(
         }),
     };
     match replay(alloc, &mut log, operators) {
-        Ok(found) => Ok(Life {
-            log: LogManager::start(alloc, log),
-            standing: Standing {
-                page: Some(found.page),
-                head: found.head,
-                session: None,
-                next: found.next,
-                commits: found.commits,
-                limit: found.limit,
-            },
-        }),
+        Ok(found) => begin(alloc, log, found),
         Err(why) => Err(NotOpened {
             disk: log.into_device(),
             status: not_replayed(&why, line),
@@ -124,8 +134,39 @@ pub fn open<L: Disk>(
     }
 }
 
+/// A life on a log in which this was found, where its numbers aren't used up.
+fn begin<L: Disk>(alloc: Global, log: BlockLog<L>, found: Found) -> Result<Life<L>, NotOpened<L>>
+    requires rules { KeepsState found.page }
+    requires number { 1 ≤ found.next }
+    requires fresh { log.pending ≡ [] }
+    requires goes { log.ended ≡ None }
+    ensures begun { IfOk result (λ life. (v : View L.tells) → L.tells → (bs : List Block) (rs : List Record) → IsDurable L.told L.may_leave log bs → AreRecordsOf bs rs → first_lsn bs ≡ 1 → Opens rs found → log.next ≡ length rs + 1 → IsCalm (seen L.Disk v) life.log.log life.standing (record { opening = rs; history = [] }) (length rs)) }
+    ensures first { IfOk result (λ life. (life.standing.session ≡ None) × (life.log.log.ended ≡ None) × (life.log.log.device ≡ log.device)) }
+    ensures not { IfErr result (λ r. (r.disk ≡ log.device) × (r.status ≡ statuses.Memory)) }
+{
+    if found.head >= MOST || found.next >= MOST {
+        return Err(NotOpened {
+            disk: log.into_device(),
+            status: Status::Memory,
+        });
+    }
+    Ok(Life {
+        log: LogManager::start(alloc, log),
+        standing: Standing {
+            page: Some(found.page),
+            head: found.head,
+            session: None,
+            next: found.next,
+            commits: found.commits,
+            limit: found.limit,
+        },
+    })
+}
+
 /// The status of a log whose blocks can't be read.
-fn not_read(fault: &Fault) -> Status {
+fn not_read(fault: &Fault) -> Status
+    ensures { ReadStatus fault.now result }
+{
     match fault {
         Fault::LogFault => Status::LogFault,
         Fault::LogBad { block, byte } => Status::LogBad {
@@ -137,7 +178,9 @@ fn not_read(fault: &Fault) -> Status {
 }
 
 /// The status of a log whose records make no life.
-fn not_replayed(why: &NotReplayed, line: u64) -> Status {
+fn not_replayed(why: &NotReplayed, line: u64) -> Status
+    ensures { ReplayStatus line why.now result }
+{
     match why {
         NotReplayed::Memory => Status::Memory,
         NotReplayed::LogFault => Status::LogFault,

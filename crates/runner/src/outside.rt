@@ -3,6 +3,7 @@ ghost use Rattle.std.specs.Prelude.{◌≡◌, ◌≤◌, ◌<◌, ◌^◌, ℕ,
 ghost use Rattle.media.specs.Crash.{Only};
 ghost use Rattle.wal_record.specs.Rules.{is_limit};
 ghost use Rattle.runner.specs.Causes.{SteppedCause};
+ghost use Rattle.runner.specs.LogDisk.{View, seen};
 ghost use Rattle.runner.specs.Turns.{Stage};
 ghost use Rattle.runner.specs.declared.status.Status.{Status};
 ghost use Rattle.runner.specs.Machine.{Out, In, Safe, Steps, Refuses};
@@ -32,7 +33,7 @@ pub fn step<L: Disk>(
     command: &Command,
     line: u64,
 ) -> Stepped<L, Life<L>>
-    ensures turns { (s : Stage) → Out L.Disk disk s → Steps L.Disk (λ life. In L.Disk life.log.log life.standing) s command.now line result }
+    ensures turns { (v : View L.tells) (s : Stage) → Out (seen L.Disk v) disk s → Steps (seen L.Disk v) (λ life. In (seen L.Disk v) life.log.log life.standing) s command.now line result }
     ensures cause { SteppedCause L.Disk (λ life. life.log.log.device) disk result }
 {
     match command {
@@ -54,7 +55,7 @@ pub fn step<L: Disk>(
 
 /// Makes the log of a disk that has none.
 fn format<L: Disk>(alloc: Global, disk: L, limit: Option<u32>, line: u64) -> Stepped<L, Life<L>>
-    ensures turns { (s : Stage) → Out L.Disk disk s → Steps L.Disk (λ life. In L.Disk life.log.log life.standing) s (commands.Format limit) line result }
+    ensures turns { (v : View L.tells) (s : Stage) → Out (seen L.Disk v) disk s → Steps (seen L.Disk v) (λ life. In (seen L.Disk v) life.log.log life.standing) s (commands.Format limit) line result }
     ensures cause { SteppedCause L.Disk (λ life. life.log.log.device) disk result }
 {
     let room = limit.unwrap_or(ROOM);
@@ -112,7 +113,7 @@ fn opens<L: Disk>(
     disk: L,
     line: u64,
 ) -> Stepped<L, Life<L>>
-    ensures turns { (s : Stage) → Out L.Disk disk s → Steps L.Disk (λ life. In L.Disk life.log.log life.standing) s commands.Open line result }
+    ensures turns { (v : View L.tells) (s : Stage) → Out (seen L.Disk v) disk s → Steps (seen L.Disk v) (λ life. In (seen L.Disk v) life.log.log life.standing) s commands.Open line result }
     ensures cause { SteppedCause L.Disk (λ life. life.log.log.device) disk result }
 {
     let refused = disk.refused();
@@ -173,7 +174,7 @@ fn refuse<L: Disk>(not: NotOpened<L>, before: u64, failed: Vec<u8>) -> Stepped<L
 
 /// The machine stops, and the disk's fuse is renewed.
 pub fn stop<L: Disk>(alloc: Global, disk: L, keep: Option<u64>, line: u64) -> Stepped<L, Life<L>>
-    ensures turns { (s : Stage) → Safe L.Disk disk s → Steps L.Disk (λ life. In L.Disk life.log.log life.standing) s (commands.Stop keep) line result }
+    ensures turns { (v : View L.tells) (s : Stage) → Safe (seen L.Disk v) disk s → Steps (seen L.Disk v) (λ life. In (seen L.Disk v) life.log.log life.standing) s (commands.Stop keep) line result }
     ensures cause { SteppedCause L.Disk (λ life. life.log.log.device) disk result }
 {
     match print::stop_line(alloc) {
@@ -211,7 +212,7 @@ fn fuse<L: Disk>(
     calls: u64,
     line: u64,
 ) -> Stepped<L, Life<L>>
-    ensures turns { (s : Stage) → Out L.Disk disk s → Steps L.Disk (λ life. In L.Disk life.log.log life.standing) s (commands.Fuse device calls) line result }
+    ensures turns { (v : View L.tells) (s : Stage) → Out (seen L.Disk v) disk s → Steps (seen L.Disk v) (λ life. In (seen L.Disk v) life.log.log life.standing) s (commands.Fuse device calls) line result }
     ensures cause { SteppedCause L.Disk (λ life. life.log.log.device) disk result }
 {
     let mut disk = disk;
@@ -238,7 +239,7 @@ fn fuse<L: Disk>(
 
 /// Renews the disk's fuse.
 fn renew<L: Disk>(alloc: Global, disk: L, device: Device, line: u64) -> Stepped<L, Life<L>>
-    ensures turns { (s : Stage) → Out L.Disk disk s → Steps L.Disk (λ life. In L.Disk life.log.log life.standing) s (commands.Renew device) line result }
+    ensures turns { (v : View L.tells) (s : Stage) → Out (seen L.Disk v) disk s → Steps (seen L.Disk v) (λ life. In (seen L.Disk v) life.log.log life.standing) s (commands.Renew device) line result }
     ensures cause { SteppedCause L.Disk (λ life. life.log.log.device) disk result }
 {
     let mut disk = disk;

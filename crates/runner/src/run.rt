@@ -5,6 +5,7 @@ ghost use Rattle.media.specs.Cause.{Rose};
 ghost use Rattle.wal_record.specs.declared.record.Record.{Record};
 ghost use Rattle.log_replay.specs.Standing.{DevicesStandFor};
 ghost use Rattle.runner.specs.Lines.{to_come, IsBounded};
+ghost use Rattle.runner.specs.LogDisk.{View, IsWhole, seen};
 ghost use Rattle.runner.specs.Turns.{Turn, begin_stage};
 ghost use Rattle.runner.specs.Machine.{Out, In, IsAt};
 ghost use Rattle.runner.specs.Clause.{Between, Headline, TakesCommand, TurnedTo, LivedTo};
@@ -39,8 +40,8 @@ pub fn run_words<S: Source, K: Sink, L: Disk, P: PageDevice, V: Vault>(
     // whatever a stop may leave of it has its first transactions. The log disk that is handed back keeps a log that may
     // be found next, also after any crash. What the reader has read and given to no line yet is still pending; at most
     // the longest script is read, and one byte more.
-    ensures headline { (log : List Record) → (L.tells → DevicesStandFor L.told L.may_leave devices.log log)
-        → (pending : List ℕ) × Headline L.Disk log result.1.log (S.left source.old) pending (S.left source.new) (K.told sink.old) (K.told sink.new) result.0 }
+    ensures headline { (v : View L.tells) (log : List Record) → (IsWhole v → DevicesStandFor L.told L.may_leave devices.log log)
+        → (pending : List ℕ) × Headline (seen L.Disk v) log result.1.log (S.left source.old) pending (S.left source.new) (K.told sink.old) (K.told sink.new) result.0 }
 
     // Where the words are a call, the devices stand for a log, and no device failed, the run is done, the script asked
     // for its end, or memory ran out.
@@ -100,7 +101,7 @@ fn run<S: Source, K: Sink, V: Vault, L: Disk>(
     disk: L,
 ) -> (Status, L)
     requires { (input.old.lines ≡ 0) × (input.old.taken ≡ 0) × IsBounded input.old }
-    ensures headline { (log : List Record) → Out L.Disk disk (begin_stage log) → Headline L.Disk log result.1 (to_come input.old (S.left source.old)) input.new.pending (S.left source.new) (K.told sink.old) (K.told sink.new) result.0 }
+    ensures headline { (v : View L.tells) (log : List Record) → Out (seen L.Disk v) disk (begin_stage log) → Headline (seen L.Disk v) log result.1 (to_come input.old (S.left source.old)) input.new.pending (S.left source.new) (K.told sink.old) (K.told sink.new) result.0 }
     ensures later { (S.faults source.old ≤ S.faults source.new) × (K.faults sink.old ≤ K.faults sink.new) × (L.own disk ≤ L.own result.1) }
     ensures cause { RunCause (S.faults source.old) (S.faults source.new) (K.faults sink.old) (K.faults sink.new) (L.own disk) (L.own result.1) result.0 }
     ensures shows { Shows L.Disk result.1 result.0 }
@@ -140,8 +141,8 @@ fn run_life<S: Source, K: Sink, V: Vault, L: Disk>(
     vault: &mut V,
     life: Life<L>,
 ) -> Lived<L>
-    ensures turns { (log : List Record) (left told : Option (List ℕ)) (turns : List Turn) → Between L.tells log (In L.Disk life.log.log life.standing) left told input.old turns (S.left source.old) (K.told sink.old)
-        → LivedTo L.Disk log left told input.new (S.left source.new) (K.told sink.new) result }
+    ensures turns { (v : View L.tells) (log : List Record) (left told : Option (List ℕ)) (turns : List Turn) → Between (IsWhole v) log (In (seen L.Disk v) life.log.log life.standing) left told input.old turns (S.left source.old) (K.told sink.old)
+        → LivedTo (seen L.Disk v) log left told input.new (S.left source.new) (K.told sink.new) result }
     ensures later { (S.faults source.old ≤ S.faults source.new) × (K.faults sink.old ≤ K.faults sink.new) }
     ensures cause { LivedCause L.Disk life.log.log.device (S.faults source.old) (S.faults source.new) (K.faults sink.old) (K.faults sink.new) result }
     ensures vault { IsCycled V.tells V.told V.faults vault.old vault.new }
@@ -179,8 +180,8 @@ fn turn<S: Source, K: Sink, V: Vault, L: Disk>(
     vault: &mut V,
     at: At<L, Life<L>>,
 ) -> Turned<L, Life<L>>
-    ensures turns { (log : List Record) (left told : Option (List ℕ)) (turns : List Turn) → Between L.tells log (IsAt L.Disk (λ life. In L.Disk life.log.log life.standing) at) left told input.old turns (S.left source.old) (K.told sink.old)
-        → TurnedTo L.Disk log (λ life. In L.Disk life.log.log life.standing) left told input.new turns (S.left source.new) (K.told sink.new) result }
+    ensures turns { (v : View L.tells) (log : List Record) (left told : Option (List ℕ)) (turns : List Turn) → Between (IsWhole v) log (IsAt (seen L.Disk v) (λ life. In (seen L.Disk v) life.log.log life.standing) at) left told input.old turns (S.left source.old) (K.told sink.old)
+        → TurnedTo (seen L.Disk v) log (λ life. In (seen L.Disk v) life.log.log life.standing) left told input.new turns (S.left source.new) (K.told sink.new) result }
     ensures later { (S.faults source.old ≤ S.faults source.new) × (K.faults sink.old ≤ K.faults sink.new) }
     ensures cause { TurnedCause L.Disk (λ life. life.log.log.device) (disk_at (λ life. life.log.log.device) at) (S.faults source.old) (S.faults source.new) (K.faults sink.old) (K.faults sink.new) result }
     ensures vault { IsCycled V.tells V.told V.faults vault.old vault.new }

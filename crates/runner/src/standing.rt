@@ -4,7 +4,7 @@ ghost use Rattle.runner.specs.Rules.{rules_prop};
 ghost use Rattle.wal_record.specs.State.{KeepsState, live};
 ghost use Rattle.wal_record.specs.Rules.{HasSpelling};
 ghost use Rattle.page_rows.specs.Redo.{Redone};
-ghost use Rattle.runner.specs.Active.{is_active, puts_of, Writes, HasPut, Begins};
+ghost use Rattle.runner.specs.Active.{is_active, puts_of, Writes, HasPut, Begins, IsOpened};
 ghost use Rattle.runner.specs.Leaf.{is_at, page_live};
 ghost use Rattle.runner.specs.Session.{IsNumbered};
 ghost use Rattle.std.specs.Option.{option_copied};
@@ -35,6 +35,7 @@ pub struct Standing {
     ghost rules: { IfSome page KeepsState } by { rules_prop page },
     ghost place: { head < 2 ^ 62 },
     ghost number: { IsNumbered next },
+    ghost few: { limit < 2 ^ 32 },
 }
 
 impl Standing {
@@ -116,6 +117,28 @@ impl Standing {
             None => {}
             Some(session) => session.wrote(lsn),
         }
+    }
+
+    /// The number of the open transaction, and the LSN of its last record.
+    pub fn open(&self) -> (TxId, Lsn)
+        requires { self.now.session ≢ None }
+        ensures { IsOpened self.now.session result.0 result.1 }
+    {
+        match &self.session {
+            Some(session) => (session.tx, session.last),
+            None => unreachable!(),
+        }
+    }
+
+    /// The open transaction has committed.
+    pub fn committed(&mut self)
+        requires { self.old.commits < 2 ^ 62 }
+        ensures session { self.new.session ≡ None }
+        ensures commits { self.new.commits ≡ self.old.commits + 1 }
+        ensures same { (self.new.page ≡ self.old.page) × (self.new.head ≡ self.old.head) × (self.new.next ≡ self.old.next) × (self.new.limit ≡ self.old.limit) }
+    {
+        self.session = None;
+        self.commits += 1;
     }
 
     /// A transaction with the next number begins.
