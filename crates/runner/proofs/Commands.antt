@@ -1,6 +1,6 @@
 -- What each command of a life adds, over any stage.
-use Rattle.std.proofs.Common.{◌≡◌, ◌≢◌, ℕ, ◌+◌, ◌<◌, ◌≤◌, Bool, true, false, List, [], ◌∷◌, ◌++◌, Option, Some, None, refl, sym, ap, subst, ◌∙◌, arith, ◌⊎◌, ⊎_elim, append_assoc, append-nil, length, length-append, take, drop}
-use Rattle.std.specs.Prelude.{codes, IsTrue, ◌||◌, ◌^◌, nat_le}
+use Rattle.std.proofs.Common.{◌≡◌, ◌≢◌, ℕ, ◌+◌, ◌<◌, ◌≤◌, Bool, true, false, List, [], ◌∷◌, ◌++◌, Option, Some, None, refl, sym, ap, subst, ◌∙◌, arith, ◌⊎◌, inl, inr, ⊎_elim, Result, Ok, Err, append_assoc, append-nil, length, length-append, take, drop}
+use Rattle.std.specs.Prelude.{codes, IfErr, IsTrue, ◌||◌, ◌^◌, nat_le}
 use Rattle.std.specs.List.{All, list_any}
 use Rattle.std.proofs.lemmas.List.Folds.{list_any-append}
 use Rattle.std.proofs.lemmas.List.Elements.{All-cons, All-nil}
@@ -10,7 +10,7 @@ use Rattle.media.specs.Crash.{NoMore}
 use Rattle.media.specs.Kept.{Kept}
 use Rattle.media.specs.declared.disk.Disk.{Ghosts}
 use Rattle.log_blocks.specs.LogState.{LogState, durable_lsn}
-use Rattle.log_manager.specs.Managed.{HasMore, RecordsLeft, first_kept}
+use Rattle.log_manager.specs.Managed.{HasMore, Managed, RecordsLeft, first_kept}
 use Rattle.log_manager.specs.Records.{AreRecordsOf, IsLogOf, StandsForMoreRecords}
 use Rattle.page_rows.specs.Redo.{IsRedoable, Redone}
 use Rattle.store_model.specs.Range.{point}
@@ -28,6 +28,7 @@ use Rattle.wal_record.specs.Images.{applied, image, CanApply, OnPage}
 use Rattle.wal_record.specs.declared.page.LeafRow.{LeafRow}
 use Rattle.wal_record.specs.declared.page.PageState.{PageState}
 use Rattle.wal_record.specs.declared.record.Record.{Record}
+use Rattle.wal_record.specs.declared.record.Record.TheVariants as kinds
 use Rattle.wal_record.specs.declared.entry.Entry.{Entry}
 use Rattle.wal_record.specs.declared.entry.Entry.TheVariants.{Rec, Lock, Said, Declined, Acked, Began}
 use Rattle.log_laws.specs.Beginnings.{is_commit}
@@ -42,7 +43,7 @@ use Rattle.script.specs.declared.command.Command.{Command}
 use Rattle.script.specs.declared.command.Command.TheVariants as commands
 use Rattle.script.specs.declared.command.Device.{Device}
 use Rattle.script.specs.declared.command.Device.TheVariants.{Log}
-use Rattle.runner.specs.Active.{is_active, puts_of, opened_by, Writes, Begins, HasPut}
+use Rattle.runner.specs.Active.{is_active, opened_by, Writes, Begins, HasPut, IsOpened}
 use Rattle.runner.specs.Leaf.{rows_of, page_live}
 use Rattle.runner.specs.LogDisk.{Keeps, HoldsOne, Leaves, lsn_from}
 use Rattle.runner.specs.Machine.{actives, IsFused, In, IsCalm, Runs, IsOver, LivesOn, Adds}
@@ -654,3 +655,14 @@ module _ {D : Type 0} (L : Ghosts D) where
 
     pub other_renew : (device : Device) (line : ℕ) → device ≢ Log → RefusesAt L log.device s (commands.Renew device) line (statuses.NotBuilt line)
     other_renew device line other = (refl, refl, other, leaves_here)
+
+-- the Commit that is entered is the open transaction's
+pub commit_is : (session : Option Session) (z : Session) → session ≡ Some z → (tx last : ℕ) → IsOpened session tx last → kinds.Commit (record { tx = tx; prev = last }) ≡ committing (record { session = z.tx; tx = z.tx; last_lsn = z.last; writes = z.puts })
+commit_is session z e tx last opened = let o = subst (λ (x : Option Session). IsOpened x tx last) e opened in (λ i. kinds.Commit (record { tx = o.0 i; prev = o.1 i }))
+
+pub flushed_log : {D : Type 0} (a b : Managed D) (X : Type 0) → ((a ≡ b) ⊎ X) → (a.log ≡ b.log) ⊎ X
+flushed_log a b X f = ⊎_elim (λ e. inl (ap (λ (m : Managed _). m.log) e)) (λ x. inr x) f
+
+pub err_map : {A B : Type 0} (r : Result A B) (P Q : B → Type 0) → ((e : B) → P e → Q e) → IfErr r P → IfErr r Q
+err_map (Ok a) P Q f h = tt
+err_map (Err e) P Q f h = f e h

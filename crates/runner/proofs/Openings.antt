@@ -13,6 +13,7 @@ use Rattle.log_blocks.proofs.Unique.{one_log}
 use Rattle.log_manager.specs.Managed.{RecordsLeft, first_kept}
 use Rattle.log_manager.specs.Records.{AreIn, AreRecordsOf, IsLogOf, StandsForRecords, StandsForMoreRecords}
 use Rattle.log_replay.specs.Answers.{Opens, IsNotReplayed}
+use Rattle.log_replay.specs.Answers.{IsLogFault as IsReplayFault}
 use Rattle.log_replay.specs.Standing.{HoldEnd, IsUnbuilt}
 use Rattle.log_replay.specs.declared.found.Found.{Found}
 use Rattle.log_replay.specs.declared.found.NotReplayed.{NotReplayed}
@@ -269,3 +270,25 @@ first_left L limit mid new one left least le =
   where
     fewer : (k : Kept) → StandsForMoreRecords (first_kept mid) [] (first_log limit) left.done k → StandsForMoreRecords 1 [] (first_log limit) least k
     fewer k m = record { whole = m.whole; no_fewer = omega (arith, le, m.no_fewer); within = m.within; stands = m.stands; numbered = m.numbered ∙ one }
+
+-- ---- faults by other names
+
+pub blames_as : {D : Type 0} {passes : D → Option ℕ} {refused own : D → ℕ} {old new : D} {F G : Type 0} → Blames passes refused own old new F → (F → G) → (G → F) → Blames passes refused own old new G
+blames_as b f g = record { unarmed = b.unarmed; refused_later = b.refused_later; own_later = b.own_later; cause = λ x. b.cause (g x); quiet = λ none. b.quiet (λ x. none (f x)) }
+
+pub made_fault : (fault : Fault) (status : Status) → MadeStatus fault status → (IsLogFault fault → status ≡ statuses.LogFault) × (status ≡ statuses.LogFault → IsLogFault fault)
+made_fault faults.LogFault status is = ((λ f. is), (λ e. tt))
+made_fault (faults.LogBad block byte) status is = ((λ f. absurd f), (λ e. let x : statuses.AlreadyFormatted ≡ statuses.LogFault = sym is ∙ e in absurd cc))
+made_fault _ status is = ((λ f. absurd f), (λ e. let x : statuses.Memory ≡ statuses.LogFault = sym is ∙ e in absurd cc))
+
+pub read_fault : (fault : Fault) (status : Status) → ReadStatus fault status → (IsLogFault fault → status ≡ statuses.LogFault) × (status ≡ statuses.LogFault → IsLogFault fault)
+read_fault faults.LogFault status is = ((λ f. is), (λ e. tt))
+read_fault (faults.LogBad block byte) status is = ((λ f. absurd f), (λ e. let x : statuses.LogBad block byte ≡ statuses.LogFault = sym is ∙ e in absurd cc))
+read_fault _ status is = ((λ f. absurd f), (λ e. let x : statuses.Memory ≡ statuses.LogFault = sym is ∙ e in absurd cc))
+
+pub replay_fault : (line : ℕ) (why : NotReplayed) (status : Status) → ReplayStatus line why status → (IsReplayFault why → status ≡ statuses.LogFault) × (status ≡ statuses.LogFault → IsReplayFault why)
+replay_fault line whys.LogFault status is = ((λ f. is), (λ e. tt))
+replay_fault line whys.Memory status is = ((λ f. absurd f), (λ e. let x : statuses.Memory ≡ statuses.LogFault = sym is ∙ e in absurd cc))
+replay_fault line (whys.LogBad block byte) status is = ((λ f. absurd f), (λ e. let x : statuses.LogBad block byte ≡ statuses.LogFault = sym is ∙ e in absurd cc))
+replay_fault line whys.NotFormatted status is = ((λ f. absurd f), (λ e. let x : statuses.NotFormatted ≡ statuses.LogFault = sym is ∙ e in absurd cc))
+replay_fault line whys.NotBuilt status is = ((λ f. absurd f), (λ e. let x : statuses.NotBuilt line ≡ statuses.LogFault = sym is ∙ e in absurd cc))
