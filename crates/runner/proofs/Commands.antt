@@ -666,3 +666,7 @@ flushed_log a b X f = ⊎_elim (λ e. inl (ap (λ (m : Managed _). m.log) e)) (�
 pub err_map : {A B : Type 0} (r : Result A B) (P Q : B → Type 0) → ((e : B) → P e → Q e) → IfErr r P → IfErr r Q
 err_map (Ok a) P Q f h = tt
 err_map (Err e) P Q f h = f e h
+
+pub by_memory : {A : Type 0} {Q : Status → Type 0} (r : Result A Status) → IfErr r (λ status. status ≡ statuses.Memory) → Q statuses.Memory → IfErr r Q
+by_memory (Ok a) h q = tt
+by_memory {A} {Q} (Err e) h q = subst Q (sym h) q

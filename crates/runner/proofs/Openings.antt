@@ -8,8 +8,6 @@ use Rattle.media.specs.declared.disk.Disk.{Ghosts}
 use Rattle.log_blocks.specs.Log.{Block, StandsFor, IsRun, Behind, open_gate, body, blocks, first_lsn, next_lsn}
 use Rattle.log_blocks.specs.LogState.{LogState, IsDurable}
 use Rattle.log_blocks.specs.Opening.{IsBadAt, IsLogFault, RoseFor, TellsFault, places}
-use Rattle.log_blocks.proofs.Excludes.{never_bad}
-use Rattle.log_blocks.proofs.Unique.{one_log}
 use Rattle.log_manager.specs.Managed.{RecordsLeft, first_kept}
 use Rattle.log_manager.specs.Records.{AreIn, AreRecordsOf, IsLogOf, StandsForRecords, StandsForMoreRecords}
 use Rattle.log_replay.specs.Answers.{Opens, IsNotReplayed}
@@ -43,6 +41,14 @@ use Rattle.runner.proofs.Lists.{first_is, next_of}
 use Rattle.runner.proofs.Commands.{calm_as}
 use Rattle.runner.proofs.Lives.{keeps_map, keeps_same, keeps_only, stands_on}
 
+-- the laws on blocks that are used: the kept bytes stand for one list of blocks at most, and where they stand for one, no
+-- block is bad
+abbrev pub OneLog : Type 0
+OneLog = (bs cs : List Block) (k : Kept) → StandsFor bs k → StandsFor cs k → bs ≡ cs
+
+abbrev pub NeverBad : Type 0
+NeverBad = (bs : List Block) (block byte : ℕ) (k : Kept) → StandsFor bs k → IsBadAt block byte k → ⊥
+
 -- ---- which log is found
 
 -- the log that the blocks hold which an opening found
@@ -52,8 +58,8 @@ pub record Finds (last : Last) (bs : List Block) : Type 0 where
   pub sound : IsSound log
   pub records : HoldEnd log bs
 
-pub finds : {D : Type 0} (L : Ghosts D) (last : Last) (disk : D) (log : LogState D) (bs : List Block) → Keeps L (HoldsOne last) disk → L.told log.device ≡ L.told disk → IsDurable L.told L.may_leave log bs → Finds last bs
-finds L last disk log bs k same d =
+pub finds : (one_log : OneLog) {D : Type 0} (L : Ghosts D) (last : Last) (disk : D) (log : LogState D) (bs : List Block) → Keeps L (HoldsOne last) disk → L.told log.device ≡ L.told disk → IsDurable L.told L.may_leave log bs → Finds last bs
+finds one_log L last disk log bs k same d =
     let s : StandsOn k.now.0 (L.told disk) = k.now.2 in
     let e : s.bs ≡ bs = one_log s.bs bs (L.told log.device) (subst (StandsFor s.bs) (sym same) s.stands) d.stands in
     record { log = k.now.0; may = k.now.1; sound = s.sound; records = subst (HoldEnd k.now.0) e s.records }
@@ -85,9 +91,9 @@ limit_sound limit e =
     let c = calm_start limit e in
     record { lawful = c.begins; room = has_room (first_log limit) c.begins c.log.whole }
 
-module _ {D : Type 0} (L : Ghosts D) (limit : ℕ) (is : is_limit limit ≡ true) (last : Last) (disk : D) (log : LogState D) (keeps : Keeps L (HoldsOne last) disk) (same : L.told log.device ≡ L.told disk) (d : IsDurable L.told L.may_leave log []) where
+module _ (one_log : OneLog) {D : Type 0} (L : Ghosts D) (limit : ℕ) (is : is_limit limit ≡ true) (last : Last) (disk : D) (log : LogState D) (keeps : Keeps L (HoldsOne last) disk) (same : L.told log.device ≡ L.told disk) (d : IsDurable L.told L.may_leave log []) where
   empty : Finds last []
-  empty = finds L last disk log [] keeps same d
+  empty = finds one_log L last disk log [] keeps same d
 
   none_found : MayFind last []
   none_found = subst (MayFind last) (no_records empty.log empty.records) empty.may
@@ -141,7 +147,7 @@ log_formatted b bs k s = ⊎_elim
     })
     s.bytes
 
-module _ {D : Type 0} (L : Ghosts D) (disk left : D) (same : L.tells → L.told left ≡ L.told disk) (more : NoMore L.may_leave disk left) where
+module _ (never_bad : NeverBad) {D : Type 0} (L : Ghosts D) (disk left : D) (same : L.tells → L.told left ≡ L.told disk) (more : NoMore L.may_leave disk left) where
   kept : L.tells → (last : Last) → Keeps L (HoldsOne last) disk → Keeps L (HoldsOne last) left
   kept t last k = keeps_same L (HoldsOne last) disk left (same t) more k
 
@@ -165,7 +171,7 @@ module _ {D : Type 0} (L : Ghosts D) (disk left : D) (same : L.tells → L.told 
   made_no_memory limit = λ t last k. kept t last k
 
 -- a format of a disk that has blocks
-module _ {D : Type 0} (L : Ghosts D) (disk : D) (log : LogState D) (found : L.tells → (bs : List Block) × IsDurable L.told L.may_leave log bs) (same : L.tells → L.told log.device ≡ L.told disk) (more : NoMore L.may_leave disk log.device) (fresh : log.pending ≡ []) where
+module _ (one_log : OneLog) {D : Type 0} (L : Ghosts D) (disk : D) (log : LogState D) (found : L.tells → (bs : List Block) × IsDurable L.told L.may_leave log bs) (same : L.tells → L.told log.device ≡ L.told disk) (more : NoMore L.may_leave disk log.device) (fresh : log.pending ≡ []) where
   no_places : (bs : List Block) → IsDurable L.told L.may_leave log bs → length log.places + length log.pending ≡ 0 → bs ≡ []
   no_places [] d e = refl
   no_places (b ∷ bs) d e = absurd (omega (arith, e, ap length d.places_are))
@@ -180,8 +186,8 @@ module _ {D : Type 0} (L : Ghosts D) (disk : D) (log : LogState D) (found : L.te
         let b = found t in
         let p = some_places b.0 b.1 some in
         let d : IsDurable L.told L.may_leave log (p.0 ∷ p.1) = subst (IsDurable L.told L.may_leave log) p.2 b.1 in
-        let f = finds L last disk log (p.0 ∷ p.1) k (same t) d in
-        (record { log = f.log; found = f.may; some = some_records f.log p.0 p.1 d.stands.sequence.run f.records }, kept L disk log.device same more t last k)),
+        let f = finds one_log L last disk log (p.0 ∷ p.1) k (same t) d in
+        (record { log = f.log; found = f.may; some = some_records f.log p.0 p.1 d.stands.sequence.run f.records }, keeps_same L (HoldsOne last) disk log.device (same t) more k)),
     (λ t.
         let b = found t in
         let p = some_places b.0 b.1 some in
@@ -200,19 +206,19 @@ module _ {D : Type 0} (L : Ghosts D) (disk : D) (log : LogState D) (found : L.te
     begun t = starts t [] [] (none_durable none t) nothing_stands
 
     pub format_made : (left : D) → (L.tells → IsLogOf L.told L.may_leave start [] [] → IsFirst L.told L.may_leave limit 1 left) → L.tells → (last : Last) → Keeps L (HoldsOne last) disk → IsMade L limit left last
-    format_made left first t last k = is_made L limit is last disk log k (same t) (none_durable none t) left (first t (begun t))
+    format_made left first t last k = is_made one_log L limit is last disk log k (same t) (none_durable none t) left (first t (begun t))
 
     pub format_cut : (left : D) (status : Status) → IsFault status → (status ≡ statuses.LogFault → L.tells → IsLogOf L.told L.may_leave start [] [] → IsFirst L.told L.may_leave limit 0 left) → (status ≡ statuses.Memory → left ≡ log.device) → IsNotMade L limit disk left status × Shows L left status
-    format_cut left statuses.Memory kind cut no_memory = ((λ t last k. subst (Keeps L (HoldsOne last)) (sym (no_memory refl)) (kept L disk log.device same more t last k)), tt)
-    format_cut left statuses.LogFault kind cut no_memory = ((λ t last k. half_made L limit is last disk log k (same t) (none_durable none t) left (cut refl t (begun t))), tt)
+    format_cut left statuses.Memory kind cut no_memory = ((λ t last k. subst (Keeps L (HoldsOne last)) (sym (no_memory refl)) (keeps_same L (HoldsOne last) disk log.device (same t) more k)), tt)
+    format_cut left statuses.LogFault kind cut no_memory = ((λ t last k. half_made one_log L limit is last disk log k (same t) (none_durable none t) left (cut refl t (begun t))), tt)
     format_cut left _ kind cut no_memory = absurd kind
 
 -- ---- an opening
 
-module _ {D : Type 0} (L : Ghosts D) (disk : D) (old new : LogState D) (found : L.tells → (bs : List Block) × IsDurable L.told L.may_leave old bs) (same : L.tells → L.told old.device ≡ L.told disk) (durable : L.tells → (bs : List Block) → IsDurable L.told L.may_leave old bs → IsDurable L.told L.may_leave new bs) where
+module _ (one_log : OneLog) {D : Type 0} (L : Ghosts D) (disk : D) (old new : LogState D) (found : L.tells → (bs : List Block) × IsDurable L.told L.may_leave old bs) (same : L.tells → L.told old.device ≡ L.told disk) (durable : L.tells → (bs : List Block) → IsDurable L.told L.may_leave old bs → IsDurable L.told L.may_leave new bs) where
   module _ (t : L.tells) (last : Last) (k : Keeps L (HoldsOne last) disk) where
     here : Finds last (found t).0
-    here = finds L last disk old (found t).0 k (same t) (found t).1
+    here = finds one_log L last disk old (found t).0 k (same t) (found t).1
 
     durable_new : IsDurable L.told L.may_leave new (found t).0
     durable_new = durable t (found t).0 (found t).1

@@ -17,7 +17,7 @@ ghost use Rattle.runner.specs.declared.status.Status.TheVariants as statuses;
 use crate::life::Life;
 use crate::standing::Standing;
 use crate::status::Status;
-use log_blocks::{BlockLog, open_log};
+use log_blocks::{BlockLog, never_bad, one_log, open_log};
 use log_manager::LogManager;
 use log_replay::{Found, NotReplayed, replay};
 use media::Disk;
@@ -45,6 +45,9 @@ pub fn make_log<L: Disk>(alloc: Global, disk: L, limit: u32) -> Result<L, NotOpe
     ensures shows { IfErr result (λ r. Shows L.Disk r.disk r.status) }
     ensures fuse { MatchResult result (λ left. Blames L.passes L.refused L.own disk left ⊥) (λ r. Blames L.passes L.refused L.own disk r.disk (r.status ≡ statuses.LogFault)) }
 {
+    // What the disk keeps can be read in one way only.
+    one_log();
+    never_bad();
     let log = match open_log(alloc, disk) {
         Ok(log) => log,
         Err(refused) => return Err(NotOpened {
@@ -118,6 +121,9 @@ pub fn open<L: Disk>(
     ensures not { IfErr result (λ r. (v : View L.tells) → IsNotBegun (seen L.Disk v) line disk r.disk r.status) }
     ensures fuse { MatchResult result (λ life. Blames L.passes L.refused L.own disk life.log.log.device ⊥) (λ r. Blames L.passes L.refused L.own disk r.disk (r.status ≡ statuses.LogFault)) }
 {
+    // What the disk keeps can be read in one way only.
+    one_log();
+    never_bad();
     let mut log = match open_log(alloc, disk) {
         Ok(log) => log,
         Err(refused) => return Err(NotOpened {

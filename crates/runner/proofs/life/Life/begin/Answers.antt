@@ -1,6 +1,7 @@
-use Rattle.std.proofs.Common.{rules, refl, sym, ap, ◌∙◌}
+use Rattle.std.proofs.Common.{rules, refl, sym, ap, subst, ◌∙◌}
+use Rattle.log_manager.specs.Managed.{Managed}
 use Rattle.script.specs.declared.command.Command.TheVariants as commands
-use Rattle.runner.specs.LogDisk.{seen}
+use Rattle.runner.specs.LogDisk.{Leaves, seen}
 use Rattle.runner.proofs.Commands.{did_begin, begun_twice, begun_beside, unlawful, did_end, may_begin, leaves_here}
 use Rattle.runner.proofs.life.Life.begin.Goals as goal
 
@@ -20,7 +21,7 @@ pub returns-in-Err-begin_line-clause-err : goal.returns-in-Err-begin_line-clause
 returns-in-Err-begin_line-clause-err g c = λ v s h. leaves_here (seen g.L.Disk v) s _ _ h
 
 pub returns-in-Err-reserve_commit-clause-err : goal.returns-in-Err-reserve_commit-clause-err
-returns-in-Err-reserve_commit-clause-err g c = λ v s h. ?
+returns-in-Err-reserve_commit-clause-err g c = λ v s h. subst (λ (m : Managed g.row.L.Denot). Leaves (seen g.L.Disk v) m.log.device s) (sym c.in-Err-reserve_commit.ensures.same) (leaves_here (seen g.L.Disk v) s _ _ h)
 
 pub returns-clause-ok : goal.returns-clause-ok
 returns-clause-ok g c = λ v s h. did_begin (seen g.L.Disk v) s _ _ h (search rules) _ _ c.args.name.now _ (search rules) (search rules) (search rules) (search rules) (search rules) (search rules) (search rules) (search rules) c.in-Ok-begin_line.ensures

@@ -14,3 +14,12 @@ returns-in-Ok-clause-ok g c = λ v s h.
 
 pub returns-clause-err : goal.returns-clause-err
 returns-clause-err g c = err_map c.commit_open.result _ _ (λ status k v s h. k v c.args.line s h) c.commit_open.ensures.err
+
+pub returns-then-self-ge-LIMIT-clause-err : goal.returns-then-self-ge-LIMIT-clause-err
+returns-then-self-ge-LIMIT-clause-err g c = λ v s h. leaves_here (seen g.L.Disk v) s _ _ h
+
+pub returns-in-Err-commit_line-clause-err : goal.returns-in-Err-commit_line-clause-err
+returns-in-Err-commit_line-clause-err g c = λ v s h. leaves_here (seen g.L.Disk v) s _ _ h
+
+pub returns-in-Err-commit_failed-clause-err : goal.returns-in-Err-commit_failed-clause-err
+returns-in-Err-commit_failed-clause-err g c = λ v s h. leaves_here (seen g.L.Disk v) s _ _ h

@@ -19,15 +19,15 @@ returns-in-Ok-clause-ok g c = λ v s h.
     let M = seen g.L.Disk v in
     let named = is_named _ c.args.name.now c.requires.active in
     let z = named.0 in
-    let commit = commit_is _ z named.1 _ _ c.open.ensures in
-    let mid = c.append_commit.new.self.log in
+    let commit = commit_is _ z named.1 _ _ c.open-tx.ensures in
+    let mid = c.append_commit-lsn.new.self.log in
     let new = c.flush_to.new.self.log in
-    let added = subst (λ (r : Record). HasMore (r ∷ []) c.args.self.now.log.log mid) commit c.append_commit.ensures.added.0 in
+    let added = subst (λ (r : Record). HasMore (r ∷ []) c.args.self.now.log.log mid) commit c.append_commit-lsn.ensures.added.0 in
     let blames = subst (λ (x : LogState g.row.L.Denot). Blames g.L.Disk.passes g.L.Disk.refused g.L.Disk.own x.device new.device (IsErrAnd c.flush_to.result IsLogFault)) added.is c.flush_to.ensures.fuse in
     did_commit M s c.args.self.now.log.log c.args.self.now.standing h c.args.name.now z named.1 named.2 c.requires.goes mid new added
-        (λ t stable waiting stands. subst (λ (r : Record). IsLogOf g.L.Disk.told g.L.Disk.may_leave mid stable (waiting ++ r ∷ [])) commit (c.append_commit.ensures.records (tells_of v t) stable waiting stands))
+        (λ t stable waiting stands. subst (λ (r : Record). IsLogOf g.L.Disk.told g.L.Disk.may_leave mid stable (waiting ++ r ∷ [])) commit (c.append_commit-lsn.ensures.records (tells_of v t) stable waiting stands))
         c.requires.numbers.1 c.args.self.now.standing.number.1 c.committed.new.self c.args.done.items
-        (omega (arith, c.in-Ok.ensures.durable, c.append_commit.ensures.lsn)) c.in-Ok.ensures.live.1 c.flush_to.ensures.next.0 c.flush_to.ensures.first
+        (omega (arith, c.in-Ok.ensures.durable, c.append_commit-lsn.ensures.lsn)) c.in-Ok.ensures.live.1 c.flush_to.ensures.next.0 c.flush_to.ensures.first
         (λ t stable waiting stands. flushed_log _ _ _ (c.in-Ok.ensures.records (tells_of v t) stable waiting stands))
         c.committed.ensures.session c.committed.ensures.commits c.committed.ensures.same.0 c.committed.ensures.same.1 c.committed.ensures.same.2 c.committed.ensures.same.3
         (fused_after M c.args.self.now.log.log.device new.device (IsErrAnd c.flush_to.result IsLogFault) blames s.armed h.fused) c.requires.done
@@ -37,11 +37,11 @@ returns-then-refused-clause-ok g c = λ v s h.
     let M = seen g.L.Disk v in
     let named = is_named _ c.args.name.now c.requires.active in
     let z = named.0 in
-    let commit = commit_is _ z named.1 _ _ c.open.ensures in
-    let mid = c.append_commit.new.self.log in
+    let commit = commit_is _ z named.1 _ _ c.open-tx.ensures in
+    let mid = c.append_commit-lsn.new.self.log in
     let new = c.flush_to.new.self.log in
-    let added = subst (λ (r : Record). HasMore (r ∷ []) c.args.self.now.log.log mid) commit c.append_commit.ensures.added.0 in
-    let adds = λ t stable waiting stands. subst (λ (r : Record). IsLogOf g.L.Disk.told g.L.Disk.may_leave mid stable (waiting ++ r ∷ [])) commit (c.append_commit.ensures.records (tells_of v t) stable waiting stands) in
+    let added = subst (λ (r : Record). HasMore (r ∷ []) c.args.self.now.log.log mid) commit c.append_commit-lsn.ensures.added.0 in
+    let adds = λ t stable waiting stands. subst (λ (r : Record). IsLogOf g.L.Disk.told g.L.Disk.may_leave mid stable (waiting ++ r ∷ [])) commit (c.append_commit-lsn.ensures.records (tells_of v t) stable waiting stands) in
     let blames = subst (λ (x : LogState g.row.L.Denot). Blames g.L.Disk.passes g.L.Disk.refused g.L.Disk.own x.device new.device (IsErrAnd c.flush_to.result IsLogFault)) added.is c.flush_to.ensures.fuse in
     failed_commit M s c.args.self.now.log.log c.args.self.now.standing h c.args.name.now z named.1 named.2 c.requires.goes mid new added adds c.requires.numbers.1 c.args.self.now.standing.number.1
         (λ t. let k = (running M s c.args.self.now.log.log c.args.self.now.standing h c.requires.goes).calm t in c.flush_to.ensures.left (tells_of v t) _ _ (adds t _ _ k.stands))
@@ -49,21 +49,15 @@ returns-then-refused-clause-ok g c = λ v s h.
         (armed_by M c.args.self.now.log.log.device new.device (IsErrAnd c.flush_to.result IsLogFault) blames s.armed h.fused (λ e. omega (arith, c.if-refused.true, c.refused.ensures, c.requires.before.0, e)))
         (fused_after M c.args.self.now.log.log.device new.device (IsErrAnd c.flush_to.result IsLogFault) blames s.armed h.fused) c.requires.failed
 
-pub returns-else-refused-clause-err : goal.returns-else-refused-clause-err
-returns-else-refused-clause-err g c = λ v line s h.
+pub returns-in-Err-LogFault-clause-err : goal.returns-in-Err-LogFault-clause-err
+returns-in-Err-LogFault-clause-err g c = λ v line s h.
     let M = seen g.L.Disk v in
     let named = is_named _ c.args.name.now c.requires.active in
     let z = named.0 in
-    let commit = commit_is _ z named.1 _ _ c.open.ensures in
-    let mid = c.append_commit.new.self.log in
+    let commit = commit_is _ z named.1 _ _ c.open-tx.ensures in
+    let mid = c.append_commit-lsn.new.self.log in
     let new = c.flush_to.new.self.log in
-    let added = subst (λ (r : Record). HasMore (r ∷ []) c.args.self.now.log.log mid) commit c.append_commit.ensures.added.0 in
-    let adds = λ t stable waiting stands. subst (λ (r : Record). IsLogOf g.L.Disk.told g.L.Disk.may_leave mid stable (waiting ++ r ∷ [])) commit (c.append_commit.ensures.records (tells_of v t) stable waiting stands) in
+    let added = subst (λ (r : Record). HasMore (r ∷ []) c.args.self.now.log.log mid) commit c.append_commit-lsn.ensures.added.0 in
+    let adds = λ t stable waiting stands. subst (λ (r : Record). IsLogOf g.L.Disk.told g.L.Disk.may_leave mid stable (waiting ++ r ∷ [])) commit (c.append_commit-lsn.ensures.records (tells_of v t) stable waiting stands) in
     cut_commit M s c.args.self.now.log.log c.args.self.now.standing h c.args.name.now z named.1 named.2 c.requires.goes mid new added adds c.requires.numbers.1 c.args.self.now.standing.number.1
         (λ t. let k = (running M s c.args.self.now.log.log c.args.self.now.standing h c.requires.goes).calm t in c.flush_to.ensures.left (tells_of v t) _ _ (adds t _ _ k.stands))
-
-pub returns-else-refused-clause-cause : goal.returns-else-refused-clause-cause
-returns-else-refused-clause-cause g c =
-    let new = c.flush_to.new.self.log in
-    let blames = subst (λ (x : LogState g.row.L.Denot). Blames g.L.Disk.passes g.L.Disk.refused g.L.Disk.own x.device new.device (IsErrAnd c.flush_to.result IsLogFault)) c.append_commit.ensures.added.0.is c.flush_to.ensures.fuse in
-    own_rose g.L.Disk c.args.self.now.log.log.device new.device (IsErrAnd c.flush_to.result IsLogFault) blames (search rules) (omega (arith, c.if-refused.false, c.refused.ensures, c.requires.before.0, c.requires.before.1)) (omega (arith, c.requires.before.0, c.requires.before.1))

@@ -1,0 +1,15 @@
+use Rattle.std.proofs.Common.{rules, refl, sym, ap, subst, ◌∙◌}
+use Rattle.store_model.specs.declared.request.Request.TheVariants as requests
+use Rattle.script.specs.declared.command.Command.TheVariants as commands
+use Rattle.runner.specs.LogDisk.{seen}
+use Rattle.runner.proofs.Commands.{unlawful, unknown, leaves_here, lawful_here, is_named, by_memory}
+use Rattle.runner.proofs.life.Life.ask.Goals as goal
+
+pub returns-then-not-is_active-clause-err : goal.returns-then-not-is_active-clause-err
+returns-then-not-is_active-clause-err g c = λ v s h. unlawful (seen g.L.Disk v) s _ _ h (commands.Ask c.args.name.now c.args.request.now) c.args.line (unknown (seen g.L.Disk v) s _ _ h c.args.name.now (sym c.is_active.ensures ∙ c.if-not-is_active.true))
+
+pub returns-in-Get-clause-err : goal.returns-in-Get-clause-err
+returns-in-Get-clause-err g c = by_memory c.get.result c.get.ensures.memory (λ v s h. leaves_here (seen g.L.Disk v) s _ _ h)
+
+pub returns-in-Del-clause-err : goal.returns-in-Del-clause-err
+returns-in-Del-clause-err g c = λ v s h. ?
