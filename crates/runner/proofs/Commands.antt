@@ -14,6 +14,7 @@ use Rattle.log_manager.specs.Managed.{HasMore, Managed, RecordsLeft, first_kept}
 use Rattle.log_manager.specs.Records.{AreRecordsOf, IsLogOf, StandsForMoreRecords}
 use Rattle.page_rows.specs.Redo.{IsRedoable, Redone}
 use Rattle.store_model.specs.Range.{point}
+use Rattle.store_model.specs.declared.request.Request.{Request}
 use Rattle.store_model.specs.declared.request.Request.TheVariants as requests
 use Rattle.store_model.specs.declared.reply.Reply.TheVariants as replies
 use Rattle.store_model.specs.declared.reply.Outcome.TheVariants as outcomes
@@ -39,6 +40,7 @@ use Rattle.life_laws.proofs.CalmLives.{calm_right}
 use Rattle.life_laws.proofs.CalmLog.{all_own, limit_kept}
 use Rattle.life_laws.proofs.Leaving.{log_of_append, left_longer, left_more}
 use Rattle.script.specs.Word.{same_text}
+use Rattle.script.specs.declared.name.Name.{Name}
 use Rattle.script.specs.declared.command.Command.{Command}
 use Rattle.script.specs.declared.command.Command.TheVariants as commands
 use Rattle.script.specs.declared.command.Device.{Device}
@@ -48,9 +50,9 @@ use Rattle.runner.specs.Leaf.{rows_of, page_live}
 use Rattle.runner.specs.LogDisk.{Keeps, HoldsOne, Leaves, lsn_from}
 use Rattle.runner.specs.Machine.{actives, IsFused, In, IsCalm, Runs, IsOver, LivesOn, Adds}
 use Rattle.runner.specs.Printing.{escaped, shown}
-use Rattle.runner.specs.Refusals.{RefusesAt, CutAt, HasNoPlace}
+use Rattle.runner.specs.Refusals.{RefusesAt, CutAt, HasNoPlace, IsRequestNotBuilt}
 use Rattle.runner.specs.Session.{write_record}
-use Rattle.runner.specs.Turns.{Turn, Life, Active, Stage, Left, Done, LogFault, Ended, Commits, CutCommit, IsEnd, IsEndedAt, lives_of, last_of, without, IsAid, HasRoom, IsRightLife, turn, stage_step, longer, is_known, is_lawful, no_life, tx_of, log_of_life, Answers, EndedRow}
+use Rattle.runner.specs.Turns.{Turn, Life, Active, Stage, Left, Done, LogFault, Ended, Commits, CutCommit, IsEnd, IsEndedAt, lives_of, last_of, without, IsAid, HasRoom, IsRightLife, turn, stage_step, longer, is_known, is_lawful, no_life, tx_of, log_of_life, Answers, EndedRow, IsNoStop}
 use Rattle.runner.specs.Text.{lines, head}
 use Rattle.runner.specs.declared.session.Session.{Session}
 use Rattle.runner.specs.declared.standing.Standing.{Standing}
@@ -667,6 +669,25 @@ pub err_map : {A B : Type 0} (r : Result A B) (P Q : B → Type 0) → ((e : B) 
 err_map (Ok a) P Q f h = tt
 err_map (Err e) P Q f h = f e h
 
-pub by_memory : {A : Type 0} {Q : Status → Type 0} (r : Result A Status) → IfErr r (λ status. status ≡ statuses.Memory) → Q statuses.Memory → IfErr r Q
-by_memory (Ok a) h q = tt
-by_memory {A} {Q} (Err e) h q = subst Q (sym h) q
+pub by_memory : {A : Type 0} (Q : Status → Type 0) (r : Result A Status) → IfErr r (λ status. status ≡ statuses.Memory) → Q statuses.Memory → IfErr r Q
+by_memory Q (Ok a) h q = tt
+by_memory Q (Err status) h q = subst Q (sym h) q
+
+pub request_unbuilt : (r : Request) → ((key : List ℕ) → r ≡ requests.Get key → ⊥) → ((key value : List ℕ) → r ≡ requests.Put key value → ⊥) → IsRequestNotBuilt r
+request_unbuilt (requests.Get key) get put = get key refl
+request_unbuilt (requests.Put key value) get put = put key value refl
+request_unbuilt _ get put = tt
+
+-- the other commands may not stand in a life
+pub other_lawful : (s : Stage) → no_life s.life ≡ false → (c : Command) → (c ≡ commands.Nothing → ⊥) → ((x : Name) → c ≡ commands.Begin x → ⊥) → ((x : Name) (r : Request) → c ≡ commands.Ask x r → ⊥) → ((x : Name) → c ≡ commands.Commit x → ⊥)
+    → ((d : Device) (n : ℕ) → c ≡ commands.Fuse d n → ⊥) → ((d : Device) → c ≡ commands.Renew d → ⊥) → IsNoStop c → is_lawful s c ≡ false
+other_lawful s living commands.Nothing nothing begins asks commit fuse renew stop = absurd (nothing refl)
+other_lawful s living (commands.Format limit) nothing begins asks commit fuse renew stop = rw (living) refl
+other_lawful s living commands.Open nothing begins asks commit fuse renew stop = living
+other_lawful s living (commands.Begin x) nothing begins asks commit fuse renew stop = absurd (begins x refl)
+other_lawful s living (commands.Ask x r) nothing begins asks commit fuse renew stop = absurd (asks x r refl)
+other_lawful s living (commands.Commit x) nothing begins asks commit fuse renew stop = absurd (commit x refl)
+other_lawful s living (commands.Stop keep) nothing begins asks commit fuse renew stop = absurd stop
+other_lawful s living (commands.Fuse d n) nothing begins asks commit fuse renew stop = absurd (fuse d n refl)
+other_lawful s living (commands.Renew d) nothing begins asks commit fuse renew stop = absurd (renew d refl)
+other_lawful s living _ nothing begins asks commit fuse renew stop = refl

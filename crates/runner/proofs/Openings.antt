@@ -1,14 +1,14 @@
 -- Openings and formats of a disk that keeps a log that may be found.
-use Rattle.std.proofs.Common.{◌≡◌, ◌≢◌, ℕ, zero, suc, ◌+◌, ◌<◌, ◌≤◌, true, false, List, [], ◌∷◌, ◌++◌, Option, Some, None, refl, sym, ap, subst, ◌∙◌, arith, ◌⊎◌, inl, inr, ⊎_elim, append-nil, length, length-append, take}
-use Rattle.std.specs.List.{list_any}
+use Rattle.std.proofs.Common.{◌≡◌, ◌≢◌, ℕ, zero, suc, ◌+◌, ◌<◌, ◌≤◌, true, false, List, [], ◌∷◌, ◌++◌, Option, Some, None, refl, sym, ap, subst, ◌∙◌, arith, ◌⊎◌, inl, inr, ⊎_elim, append-nil, length, length-append, take, Result, Ok, Err}
+use Rattle.std.specs.Prelude.{IfOk}
 use Rattle.media.specs.Crash.{NoMore, Only}
 use Rattle.media.specs.Counted.{Blames}
 use Rattle.media.specs.Kept.{Kept}
 use Rattle.media.specs.declared.disk.Disk.{Ghosts}
 use Rattle.log_blocks.specs.Log.{Block, StandsFor, IsRun, Behind, open_gate, body, blocks, first_lsn, next_lsn}
-use Rattle.log_blocks.specs.LogState.{LogState, IsDurable}
+use Rattle.log_blocks.specs.LogState.{LogState, IsDurable, durable_lsn}
 use Rattle.log_blocks.specs.Opening.{IsBadAt, IsLogFault, RoseFor, TellsFault, places}
-use Rattle.log_manager.specs.Managed.{RecordsLeft, first_kept}
+use Rattle.log_manager.specs.Managed.{HasMore, RecordsLeft, first_kept}
 use Rattle.log_manager.specs.Records.{AreIn, AreRecordsOf, IsLogOf, StandsForRecords, StandsForMoreRecords}
 use Rattle.log_replay.specs.Answers.{Opens, IsNotReplayed}
 use Rattle.log_replay.specs.Answers.{IsLogFault as IsReplayFault}
@@ -37,7 +37,7 @@ use Rattle.runner.specs.Active.{opened_by}
 use Rattle.runner.specs.declared.standing.Standing.{Standing}
 use Rattle.runner.specs.declared.status.Status.{Status}
 use Rattle.runner.specs.declared.status.Status.TheVariants as statuses
-use Rattle.runner.proofs.Lists.{first_is, next_of}
+use Rattle.runner.proofs.Lists.{first_is, first_kept_is, next_is, next_of}
 use Rattle.runner.proofs.Commands.{calm_as}
 use Rattle.runner.proofs.Lives.{keeps_map, keeps_same, keeps_only, stands_on}
 
@@ -298,3 +298,19 @@ replay_fault line whys.Memory status is = ((λ f. absurd f), (λ e. let x : stat
 replay_fault line (whys.LogBad block byte) status is = ((λ f. absurd f), (λ e. let x : statuses.LogBad block byte ≡ statuses.LogFault = sym is ∙ e in absurd cc))
 replay_fault line whys.NotFormatted status is = ((λ f. absurd f), (λ e. let x : statuses.NotFormatted ≡ statuses.LogFault = sym is ∙ e in absurd cc))
 replay_fault line whys.NotBuilt status is = ((λ f. absurd f), (λ e. let x : statuses.NotBuilt line ≡ statuses.LogFault = sym is ∙ e in absurd cc))
+
+-- no block without records
+no_blocks : (n k : ℕ) (bs : List Block) → IsRun n bs → AreIn k bs [] → bs ≡ []
+no_blocks n k [] run r = refl
+no_blocks n k (b ∷ bs) run (own, more, whole, holds, rest) = absurd (omega (arith, run.1.count.0, holds.count, ap length whole, length-append own more))
+
+pub first_flushed : {D : Type 0} (L : Ghosts D) (limit : ℕ) (old mid new : LogState D) → old.next ≡ 1 → HasMore (first_log limit) old mid → IsLogOf L.told L.may_leave old [] [] → IsLogOf L.told L.may_leave mid [] (first_log limit) → (left : RecordsLeft L.told L.may_leave [] (first_log limit) mid new) → (least : ℕ) → least ≤ durable_lsn new.places → IsFirst L.told L.may_leave limit least new.device
+first_flushed L limit old mid new next added stands stands_mid left least reached =
+    let none : stands.bs ≡ [] = no_blocks (first_lsn stands.bs) stands.records.before stands.bs stands.durable.stands.sequence.run stands.records.records in
+    let places_none : lsn_from mid.places ≡ 1 = ap (λ (x : LogState _). lsn_from x.places) added.is ∙ ap lsn_from stands.durable.places_are ∙ ap (λ (bs : List Block). lsn_from (places (L.told old.device).start bs)) none in
+    first_left L limit mid new (first_kept_is mid stands_mid.numbered ∙ places_none) left least
+        (omega (arith, reached, left.durable, next_is L.told L.may_leave mid [] (first_log limit) stands_mid, ap (λ (x : LogState _). x.next) added.is, next))
+
+pub ok_map : {A B : Type 0} (r : Result A B) (P Q : A → Type 0) → ((a : A) → P a → Q a) → IfOk r P → IfOk r Q
+ok_map (Ok a) P Q f h = f a h
+ok_map (Err e) P Q f h = tt

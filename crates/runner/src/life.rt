@@ -113,9 +113,7 @@ impl<L: Disk> Life<L> {
         match request {
             Request::Get(key) => self.get(alloc, name, key),
             Request::Put(key, value) => self.put(alloc, operators, name, key, value, line),
-            Request::Del(_) | Request::Scan(_) | Request::Apply { .. } => {
-                Err(Status::NotBuilt { line })
-            }
+            _ => Err(Status::NotBuilt { line }),
         }
     }
 

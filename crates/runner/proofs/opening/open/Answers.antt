@@ -1,7 +1,9 @@
 use Rattle.std.proofs.Common.{rules, refl, sym, ap, subst, ◌∙◌, arith, ◌≡◌}
 use Rattle.runner.specs.LogDisk.{seen}
+use Rattle.runner.specs.Openings.{IsNotBegun}
+use Rattle.runner.proofs.Commands.{err_map}
 use Rattle.runner.proofs.Lives.{crashed, tells_of}
-use Rattle.runner.proofs.Openings.{read_refused, replay_refused, open_no_memory, did_begin_life}
+use Rattle.runner.proofs.Openings.{read_refused, replay_refused, open_no_memory, did_begin_life, ok_map}
 use Rattle.runner.proofs.opening.open.Goals as goal
 
 pub returns-in-Err-clause-not : goal.returns-in-Err-clause-not
@@ -9,10 +11,12 @@ returns-in-Err-clause-not g c = λ v. read_refused c.never_bad.ensures (seen g.L
     c.args.line c.in-Err.refused.fault c.not_read.result c.not_read.ensures (λ t. c.in-Err.ensures.bad (tells_of v t))
 
 pub returns-in-Ok-replay-clause-begun : goal.returns-in-Ok-replay-clause-begun
-returns-in-Ok-replay-clause-begun g c = ?
+returns-in-Ok-replay-clause-begun g c = ok_map c.begin.result _ _ (λ life k v t last keeps. did_begin_life c.one_log.ensures (seen g.L.Disk v) c.args.disk c.in-Ok.log c.replay.new.log (λ t. c.in-Ok.ensures.blocks (tells_of v t)) (λ t. c.in-Ok.ensures.same (tells_of v t)) (λ t bs d. c.replay.ensures.durable (tells_of v t) bs d) life.log.log life.standing c.in-Ok-replay.found
+    (λ u bs rs d r sound. c.in-Ok-replay.ensures.met (tells_of v u) bs rs d r sound) (λ u bs rs d r sound. c.in-Ok-replay.ensures.records (tells_of v u) bs rs d r sound) (λ u bs rs d r one opens place. k v (tells_of v u) bs rs d r one opens place) t last keeps) c.begin.ensures.begun
 
 pub returns-in-Ok-replay-clause-not : goal.returns-in-Ok-replay-clause-not
-returns-in-Ok-replay-clause-not g c = ?
+returns-in-Ok-replay-clause-not g c = err_map c.begin.result _ _ (λ r k v. subst (λ (d : g.row.L.Denot). IsNotBegun (seen g.L.Disk v) c.args.line c.args.disk d r.status) (sym k.0) (subst (IsNotBegun (seen g.L.Disk v) c.args.line c.args.disk c.replay.new.log.device) (sym k.1) (open_no_memory c.one_log.ensures (seen g.L.Disk v) c.args.disk c.in-Ok.log c.replay.new.log (λ t. c.in-Ok.ensures.blocks (tells_of v t)) (λ t. c.in-Ok.ensures.same (tells_of v t)) (λ t bs d. c.replay.ensures.durable (tells_of v t) bs d) c.args.line))) c.begin.ensures.not
 
 pub returns-in-Err-replay-clause-not : goal.returns-in-Err-replay-clause-not
-returns-in-Err-replay-clause-not g c = ?
+returns-in-Err-replay-clause-not g c = λ v. subst (λ (d : g.row.L.Denot). IsNotBegun (seen g.L.Disk v) c.args.line c.args.disk d c.not_replayed.result) (sym c.into_device.ensures)
+    (replay_refused c.one_log.ensures (seen g.L.Disk v) c.args.disk c.in-Ok.log c.replay.new.log (λ t. c.in-Ok.ensures.blocks (tells_of v t)) (λ t. c.in-Ok.ensures.same (tells_of v t)) (λ t bs d. c.replay.ensures.durable (tells_of v t) bs d) c.args.line c.in-Err-replay.why c.not_replayed.result c.not_replayed.ensures (λ t bs rs d r sound. c.in-Err-replay.ensures.met (tells_of v t) bs rs d r sound))
