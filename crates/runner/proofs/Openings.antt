@@ -26,20 +26,17 @@ use Rattle.wal_record.specs.declared.record.Record.{Record}
 use Rattle.life_laws.specs.Calm.{Calm, first_log, only_leaf}
 use Rattle.life_laws.proofs.Leaving.{has_room}
 use Rattle.life_laws.proofs.Start.{calm_start}
-use Rattle.runner.specs.Leaf.{rows_of}
 use Rattle.runner.specs.LogDisk.{StandsOn, Keeps, HoldsOne, IsFormatted, lsn_from}
 use Rattle.runner.specs.Causes.{Shows}
 use Rattle.runner.specs.Machine.{IsCalm}
 use Rattle.runner.specs.Openings.{IsMade, IsFirst, IsNotMade, IsNotBegun, IsBegun, IsFault, MadeStatus, ReadStatus, ReplayStatus}
 use Rattle.runner.specs.Refusals.{FindsLog, FindsUnbuilt}
-use Rattle.runner.specs.Turns.{Last, Found as FoundLog, Formatted, Unformatted, MayFind}
-use Rattle.runner.specs.Active.{opened_by}
+use Rattle.runner.specs.Turns.{Last, Left, Formatted, Unformatted, MayFind}
 use Rattle.runner.specs.declared.standing.Standing.{Standing}
 use Rattle.runner.specs.declared.status.Status.{Status}
 use Rattle.runner.specs.declared.status.Status.TheVariants as statuses
 use Rattle.runner.proofs.Lists.{first_is, first_kept_is, next_is, next_of}
-use Rattle.runner.proofs.Commands.{calm_as}
-use Rattle.runner.proofs.Lives.{keeps_map, keeps_same, keeps_only, stands_on}
+use Rattle.runner.proofs.Lives.{calm_keeps, keeps_map, keeps_same, keeps_only, stands_on}
 
 -- the laws on blocks that are used: the kept bytes stand for one list of blocks at most, and where they stand for one, no
 -- block is bad
@@ -233,6 +230,7 @@ module _ (one_log : OneLog) {D : Type 0} (L : Ghosts D) (disk : D) (old new : Lo
   open_no_memory line = λ t last k. keeps_new t last k
 
   pub replay_refused : (line : ℕ) (why : NotReplayed) (status : Status) → ReplayStatus line why status → (L.tells → (bs : List Block) (rs : List Record) → IsDurable L.told L.may_leave old bs → HoldEnd rs bs → IsSound rs → IsNotReplayed rs bs why) → IsNotBegun L line disk new.device status
+  unfolding on_new
   replay_refused line whys.Memory status is met = subst (IsNotBegun L line disk new.device) (sym is) (λ t last k. keeps_new t last k)
   replay_refused line whys.LogFault status is met = subst (IsNotBegun L line disk new.device) (sym is) (λ t last k. keeps_new t last k)
   replay_refused line (whys.LogBad block byte) status is met = subst (IsNotBegun L line disk new.device) (sym is) (λ t last k. let h = here t last k in met t (found t).0 h.log (found t).1 h.records h.sound)
@@ -250,24 +248,6 @@ module _ (one_log : OneLog) {D : Type 0} (L : Ghosts D) (disk : D) (old new : Lo
       let h = here t last k in
       let r = records t (found t).0 h.log (found t).1 h.records h.sound in
       record { opening = h.log; found = h.may; calm = begun t (found t).0 h.log (durable_new t last k) r.0 (all_kept h.log (found t).0 r.0 h.records) (opens t (found t).0 h.log (found t).1 h.records h.sound) r.1 }
-
--- the life that begins
-pub began_calm : {D : Type 0} (L : Ghosts D) (log : LogState D) (standing : Standing) (old : LogState D) (bs : List Block) (rs : List Record) (found : Found) → log ≡ old → standing.page ≡ Some found.page → standing.head ≡ found.head → standing.session ≡ None → standing.next ≡ found.next → standing.commits ≡ found.commits → standing.limit ≡ found.limit
-    → IsDurable L.told L.may_leave old bs → IsLogOf L.told L.may_leave log rs [] → first_lsn bs ≡ 1 → Opens rs found → old.next ≡ length rs + 1 → IsCalm L log standing (record { opening = rs; history = [] }) (length rs)
-began_calm L log standing old bs rs found same page head session next commits limit durable stands one opens place =
-    let page_is : standing.page ≡ Some (only_leaf opens.rows) = page ∙ ap (λ (x : PageState). Some x) opens.page in
-    record {
-      page = page_is ∙ ap (λ (x : Option PageState). Some (only_leaf (rows_of x))) (sym page_is);
-      calm = calm_as rs [] opens.rows (rows_of standing.page) found.head standing.head None (opened_by standing.session) found.next standing.next found.commits standing.commits (length rs) (length rs) (ap rows_of page_is) head (ap opened_by session) next commits refl opens.calm;
-      place = sym (ap (λ (x : LogState D). x.next) same ∙ place);
-      limit = limit ∙ opens.limit;
-      first = ap (λ (x : LogState D). lsn_from x.places) same ∙ ap lsn_from durable.places_are ∙ first_is (L.told old.device).start bs ∙ one;
-      durable = [];
-      waiting = [];
-      whole = refl;
-      uncommitted = refl;
-      stands = subst (λ (x : List Record). IsLogOf L.told L.may_leave log x []) (sym (append-nil rs)) stands;
-    }
 
 -- the first record of a log, flushed or not
 pub first_left : {D : Type 0} (L : Ghosts D) (limit : ℕ) (mid new : LogState D) → first_kept mid ≡ 1 → (left : RecordsLeft L.told L.may_leave [] (first_log limit) mid new) → (least : ℕ) → least ≤ left.done → IsFirst L.told L.may_leave limit least new.device
@@ -314,3 +294,14 @@ first_flushed L limit old mid new next added stands stands_mid left least reache
 pub ok_map : {A B : Type 0} (r : Result A B) (P Q : A → Type 0) → ((a : A) → P a → Q a) → IfOk r P → IfOk r Q
 ok_map (Ok a) P Q f h = f a h
 ok_map (Err e) P Q f h = tt
+
+nothing_left : (own lost : List Record) → [] ≡ own ++ lost → ◌≡◌ {A = List Record} own []
+nothing_left [] lost e = refl
+nothing_left (r ∷ own) lost e = absurd cc
+
+-- a life that has only begun leaves the log that it found
+pub begun_keeps : {D : Type 0} (L : Ghosts D) (log : LogState D) (standing : Standing) (last : Last) → IsBegun L log standing last → Keeps L (HoldsOne last) log.device
+begun_keeps L log standing last k =
+    keeps_map L (HoldsOne (Left (record { opening = k.opening; history = [] }))) (HoldsOne last) log.device
+    (λ c h. (h.0, subst (MayFind last) (sym (h.1.2 ∙ ap (λ (own : List Record). k.opening ++ own) (nothing_left h.1.0 h.1.1.lost h.1.1.whole) ∙ append-nil k.opening)) k.found, h.2))
+    (calm_keeps L log standing (record { opening = k.opening; history = [] }) (length k.opening) k.calm)

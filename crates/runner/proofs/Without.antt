@@ -34,6 +34,7 @@ use Rattle.runner.specs.Turns.{Turn, Life, Active, Stage, Last, Formatted, Unfor
 use Rattle.runner.specs.Text.{lines}
 use Rattle.runner.proofs.Lists.{some_commits, commits_of_some}
 use Rattle.runner.proofs.Commands.{runs_on}
+use Rattle.runner.proofs.Openings.{begun_keeps}
 use Rattle.runner.proofs.Lives.{keeps_same, keeps_only, safe_out}
 
 -- ---- fuses
@@ -133,6 +134,10 @@ module _ {D F : Type 0} (L : Ghosts D) (inside : F → Stage → Type 0) (disk :
   refuses_open left line statuses.NotFormatted not = (tt, (λ t. (not t s.last (h.keeps t)).0), leaves_as left s.last (λ t. (not t s.last (h.keeps t)).1))
   refuses_open left line (statuses.NotBuilt n) not = (not.0, lawful_out, (λ t. (not.1 t s.last (h.keeps t)).0), leaves_as left s.last (λ t. (not.1 t s.last (h.keeps t)).1))
   refuses_open left line _ not = absurd not
+
+  -- its line wants memory
+  pub opened_leaves : (log : LogState D) (standing : Standing) (line : ℕ) → Makes L disk (IsBegun L log standing) → RefusesAt L log.device s commands.Open line statuses.Memory
+  opened_leaves log standing line begun = leaves_as log.device s.last (λ t. begun_keeps L log standing s.last (begun t s.last (h.keeps t)))
 
   pub open_refused : (left : D) (line before : ℕ) (status : Status) (failed : List ℕ) (r : Stepped D F) → before ≡ L.refused disk → Refuses L left status before failed r → IsNotBegun L line disk left status → Blames L.passes L.refused L.own disk left (status ≡ statuses.LogFault) → failed ≡ codes "open log failed\n"
       → Steps L inside s commands.Open line r
@@ -247,6 +252,25 @@ did_open L Form disk s h log standing out F begun closed live b is =
       };
       lines = is ∙ ap (λ (n : ℕ). codes "open commits=" ++ decimal n ++ codes " losers=0\n") (sym (commits_of_some standing.commits));
     }
+
+-- which statuses an opening and a format may give
+pub open_kind : {D : Type 0} (L : Ghosts D) (line : ℕ) (disk left : D) (status : Status) → IsNotBegun L line disk left status → status ≢ statuses.LogFault → LogCause 0 0 status
+open_kind L line disk left statuses.Memory not q = tt
+open_kind L line disk left statuses.LogFault not q = absurd (q refl)
+open_kind L line disk left (statuses.LogBad block byte) not q = tt
+open_kind L line disk left statuses.NotFormatted not q = tt
+open_kind L line disk left (statuses.NotBuilt n) not q = tt
+open_kind L line disk left _ not q = absurd not
+
+pub open_shows : {D : Type 0} (L M : Ghosts D) (line : ℕ) (disk left : D) (status : Status) → IsNotBegun M line disk left status → Shows L left status
+open_shows L M line disk left statuses.AlreadyFormatted not = absurd not
+open_shows L M line disk left _ not = tt
+
+pub made_kind : {D : Type 0} (L : Ghosts D) (limit : ℕ) (disk left : D) (status : Status) → IsNotMade L limit disk left status → status ≢ statuses.LogFault → LogCause 0 0 status
+made_kind L limit disk left statuses.Memory not q = tt
+made_kind L limit disk left statuses.LogFault not q = absurd (q refl)
+made_kind L limit disk left statuses.AlreadyFormatted not q = tt
+made_kind L limit disk left _ not q = absurd not
 
 -- the cause of a log that isn't made or opened
 cause_of : {D : Type 0} (L : Ghosts D) (disk left : D) (status : Status) → L.refused disk < 2 ^ 62 → (status ≡ statuses.LogFault → L.refused left ≤ L.refused disk) → Blames L.passes L.refused L.own disk left (status ≡ statuses.LogFault)
