@@ -1,3 +1,4 @@
+pub mod Causes
 pub mod Commands
 pub mod Lists
 pub mod Lives

@@ -25,7 +25,7 @@ use Rattle.runner.specs.declared.session.Session.{Session}
 use Rattle.runner.specs.declared.standing.Standing.{Standing}
 use Rattle.runner.specs.declared.status.Status.{Status}
 use Rattle.runner.specs.declared.status.Status.TheVariants as statuses
-use Rattle.runner.specs.Causes.{LogCause, SteppedCause, Shows, disk_at}
+use Rattle.runner.specs.Causes.{LifeCause, LogCause, SteppedCause, Shows, disk_at}
 use Rattle.runner.specs.LogDisk.{View, Whole, Form, IsWhole, seen, Keeps, HoldsOne, Leaves}
 use Rattle.runner.specs.Machine.{actives, IsFused, Out, In, IsCalm, Safe, Adds, IsAt, Steps, Refuses}
 use Rattle.runner.specs.Openings.{Makes, IsMade, IsNotMade, IsBegun, IsNotBegun}
@@ -288,3 +288,13 @@ refused_cause {D} {F} L device disk left before status failed (steps.Goes out at
 refused_cause {D} {F} L device disk left before status failed (steps.Ends ending d) is few r b kind shows =
     subst (λ (x : D). (L.own disk ≤ L.own x) × LogCause (L.own disk) (L.own x) ending × Shows L x ending) (sym r.1)
     (subst (λ (x : Status). (L.own disk ≤ L.own left) × LogCause (L.own disk) (L.own left) x × Shows L left x) (sym r.0) (b.own_later, cause_of L disk left status (omega (arith, is, few)) (λ e. omega (arith, r.2 e, is)) b kind, shows))
+
+-- of a command in a life
+pub life_cause : {D : Type 0} (L : Ghosts D) (left : D) (before now : ℕ) (status : Status) → LifeCause before now status → LogCause before now status × Shows L left status
+life_cause L left before now statuses.LogFault cause = (cause, tt)
+life_cause L left before now statuses.SourceFault cause = absurd cause
+life_cause L left before now statuses.SinkFault cause = absurd cause
+life_cause L left before now statuses.Usage cause = absurd cause
+life_cause L left before now statuses.Done cause = absurd cause
+life_cause L left before now statuses.AlreadyFormatted cause = absurd cause
+life_cause L left before now _ cause = (tt, tt)

@@ -25,6 +25,16 @@ LogCause before now statuses.Usage = ⊥
 LogCause before now statuses.Done = ⊥
 LogCause before now _ = Unit {0}
 
+-- the same of a command in a life, which makes and opens no log
+abbrev pub LifeCause : ℕ → ℕ → Status → Type 0
+LifeCause before now statuses.LogFault = Rose before now
+LifeCause before now statuses.SourceFault = ⊥
+LifeCause before now statuses.SinkFault = ⊥
+LifeCause before now statuses.Usage = ⊥
+LifeCause before now statuses.Done = ⊥
+LifeCause before now statuses.AlreadyFormatted = ⊥
+LifeCause before now _ = Unit {0}
+
 -- the same of the next line: no fault of the log disk or of the sink
 abbrev pub LineCause : ℕ → ℕ → Status → Type 0
 LineCause before now statuses.SourceFault = Rose before now

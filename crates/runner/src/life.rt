@@ -1,7 +1,7 @@
 //! A life: what happens from an opening to its end.
 ghost use Rattle.std.specs.Prelude.{◌≡◌, ◌≢◌, ◌≤◌, ◌<◌, ◌+◌, ◌++◌, ◌^◌, ℕ, List, true, None, Some, IfErr, IfOk, codes};
 ghost use Rattle.std.specs.Fmt.{decimal};
-ghost use Rattle.runner.specs.Causes.{LogCause};
+ghost use Rattle.runner.specs.Causes.{LifeCause};
 ghost use Rattle.runner.specs.Active.{is_active, puts_of, HasCommitRoom};
 ghost use Rattle.runner.specs.Turns.{Stage, IsNoStop};
 ghost use Rattle.runner.specs.Refusals.{RefusesAt};
@@ -46,7 +46,7 @@ impl<L: Disk> Life<L> {
         requires { IsNoStop command.now }
         ensures ok { IfOk result (λ lines. (v : View L.tells) (s : Stage) → In (seen L.Disk v) self.old.log.log self.old.standing s → Adds (IsWhole v) (In (seen L.Disk v) self.new.log.log self.new.standing) s command.now lines.items) }
         ensures err { IfErr result (λ status. (v : View L.tells) (s : Stage) → In (seen L.Disk v) self.old.log.log self.old.standing s → RefusesAt (seen L.Disk v) self.new.log.log.device s command.now line status) }
-        ensures cause { IfErr result (LogCause (L.own self.old.log.log.device) (L.own self.new.log.log.device)) }
+        ensures cause { IfErr result (LifeCause (L.own self.old.log.log.device) (L.own self.new.log.log.device)) }
         ensures later { L.own self.old.log.log.device ≤ L.own self.new.log.log.device }
     {
         match command {
@@ -63,7 +63,7 @@ impl<L: Disk> Life<L> {
     fn begin(&mut self, alloc: Global, name: &Name, line: u64) -> Result<Vec<u8>, Status>
         ensures ok { IfOk result (λ lines. (v : View L.tells) (s : Stage) → In (seen L.Disk v) self.old.log.log self.old.standing s → Adds (IsWhole v) (In (seen L.Disk v) self.new.log.log self.new.standing) s (commands.Begin name.now) lines.items) }
         ensures err { IfErr result (λ status. (v : View L.tells) (s : Stage) → In (seen L.Disk v) self.old.log.log self.old.standing s → RefusesAt (seen L.Disk v) self.new.log.log.device s (commands.Begin name.now) line status) }
-        ensures cause { IfErr result (LogCause (L.own self.old.log.log.device) (L.own self.new.log.log.device)) }
+        ensures cause { IfErr result (LifeCause (L.own self.old.log.log.device) (L.own self.new.log.log.device)) }
         ensures later { L.own self.old.log.log.device ≤ L.own self.new.log.log.device }
     {
         if self.standing.is_active(name) {
@@ -104,7 +104,7 @@ impl<L: Disk> Life<L> {
     ) -> Result<Vec<u8>, Status>
         ensures ok { IfOk result (λ lines. (v : View L.tells) (s : Stage) → In (seen L.Disk v) self.old.log.log self.old.standing s → Adds (IsWhole v) (In (seen L.Disk v) self.new.log.log self.new.standing) s (commands.Ask name.now request.now) lines.items) }
         ensures err { IfErr result (λ status. (v : View L.tells) (s : Stage) → In (seen L.Disk v) self.old.log.log self.old.standing s → RefusesAt (seen L.Disk v) self.new.log.log.device s (commands.Ask name.now request.now) line status) }
-        ensures cause { IfErr result (LogCause (L.own self.old.log.log.device) (L.own self.new.log.log.device)) }
+        ensures cause { IfErr result (LifeCause (L.own self.old.log.log.device) (L.own self.new.log.log.device)) }
         ensures later { L.own self.old.log.log.device ≤ L.own self.new.log.log.device }
     {
         if !self.standing.is_active(name) {
@@ -148,7 +148,7 @@ impl<L: Disk> Life<L> {
         requires { is_active self.old.standing.session name.now ≡ true }
         ensures ok { IfOk result (λ lines. (v : View L.tells) (s : Stage) → In (seen L.Disk v) self.old.log.log self.old.standing s → Adds (IsWhole v) (In (seen L.Disk v) self.new.log.log self.new.standing) s (commands.Ask name.now (requests.Put key.now value.now)) lines.items) }
         ensures err { IfErr result (λ status. (v : View L.tells) (s : Stage) → In (seen L.Disk v) self.old.log.log self.old.standing s → RefusesAt (seen L.Disk v) self.new.log.log.device s (commands.Ask name.now (requests.Put key.now value.now)) line status) }
-        ensures cause { IfErr result (LogCause (L.own self.old.log.log.device) (L.own self.new.log.log.device)) }
+        ensures cause { IfErr result (LifeCause (L.own self.old.log.log.device) (L.own self.new.log.log.device)) }
         ensures later { L.own self.old.log.log.device ≤ L.own self.new.log.log.device }
     {
         match self.log.ended() {
@@ -182,7 +182,7 @@ impl<L: Disk> Life<L> {
         requires room { puts_of self.old.standing.session + 3 ≤ self.old.standing.limit }
         ensures ok { IfOk result (λ lines. (v : View L.tells) (s : Stage) → In (seen L.Disk v) self.old.log.log self.old.standing s → Adds (IsWhole v) (In (seen L.Disk v) self.new.log.log self.new.standing) s (commands.Ask name.now (requests.Put key.now value.now)) lines.items) }
         ensures err { IfErr result (λ status. (v : View L.tells) (s : Stage) → In (seen L.Disk v) self.old.log.log self.old.standing s → RefusesAt (seen L.Disk v) self.new.log.log.device s (commands.Ask name.now (requests.Put key.now value.now)) line status) }
-        ensures cause { IfErr result (LogCause (L.own self.old.log.log.device) (L.own self.new.log.log.device)) }
+        ensures cause { IfErr result (LifeCause (L.own self.old.log.log.device) (L.own self.new.log.log.device)) }
         ensures later { L.own self.old.log.log.device ≤ L.own self.new.log.log.device }
     {
         if self.log.last() >= LIMIT - 1 {
@@ -213,7 +213,7 @@ impl<L: Disk> Life<L> {
     fn commit(&mut self, alloc: Global, name: &Name, line: u64) -> Result<Vec<u8>, Status>
         ensures ok { IfOk result (λ lines. (v : View L.tells) (s : Stage) → In (seen L.Disk v) self.old.log.log self.old.standing s → Adds (IsWhole v) (In (seen L.Disk v) self.new.log.log self.new.standing) s (commands.Commit name.now) lines.items) }
         ensures err { IfErr result (λ status. (v : View L.tells) (s : Stage) → In (seen L.Disk v) self.old.log.log self.old.standing s → RefusesAt (seen L.Disk v) self.new.log.log.device s (commands.Commit name.now) line status) }
-        ensures cause { IfErr result (LogCause (L.own self.old.log.log.device) (L.own self.new.log.log.device)) }
+        ensures cause { IfErr result (LifeCause (L.own self.old.log.log.device) (L.own self.new.log.log.device)) }
         ensures later { L.own self.old.log.log.device ≤ L.own self.new.log.log.device }
     {
         if !self.standing.is_active(name) {
@@ -259,7 +259,7 @@ impl<L: Disk> Life<L> {
         ensures ok { IfOk result (λ lines. (v : View L.tells) (s : Stage) → In (seen L.Disk v) self.old.log.log self.old.standing s → Adds (IsWhole v) (In (seen L.Disk v) self.new.log.log self.new.standing) s (commands.Commit name.now) lines.items) }
         ensures err { IfErr result (λ status. (v : View L.tells) (line : ℕ) (s : Stage) → In (seen L.Disk v) self.old.log.log self.old.standing s → RefusesAt (seen L.Disk v) self.new.log.log.device s (commands.Commit name.now) line status) }
         ensures kind { IfErr result (λ status. status ≡ Status.LogFault) }
-        ensures cause { IfErr result (LogCause (L.own self.old.log.log.device) (L.own self.new.log.log.device)) }
+        ensures cause { IfErr result (LifeCause (L.own self.old.log.log.device) (L.own self.new.log.log.device)) }
         ensures later { L.own self.old.log.log.device ≤ L.own self.new.log.log.device }
     {
         let (tx, last) = self.standing.open();
@@ -289,7 +289,7 @@ impl<L: Disk> Life<L> {
     ) -> Result<Vec<u8>, Status>
         ensures ok { IfOk result (λ lines. (v : View L.tells) (s : Stage) → In (seen L.Disk v) self.old.log.log self.old.standing s → Adds (IsWhole v) (In (seen L.Disk v) self.new.log.log self.new.standing) s (commands.Fuse device calls) lines.items) }
         ensures err { IfErr result (λ status. (v : View L.tells) (s : Stage) → In (seen L.Disk v) self.old.log.log self.old.standing s → RefusesAt (seen L.Disk v) self.new.log.log.device s (commands.Fuse device calls) line status) }
-        ensures cause { IfErr result (LogCause (L.own self.old.log.log.device) (L.own self.new.log.log.device)) }
+        ensures cause { IfErr result (LifeCause (L.own self.old.log.log.device) (L.own self.new.log.log.device)) }
         ensures later { L.own self.old.log.log.device ≤ L.own self.new.log.log.device }
     {
         if device != Device::Log {
@@ -306,7 +306,7 @@ impl<L: Disk> Life<L> {
     fn renew(&mut self, alloc: Global, device: Device, line: u64) -> Result<Vec<u8>, Status>
         ensures ok { IfOk result (λ lines. (v : View L.tells) (s : Stage) → In (seen L.Disk v) self.old.log.log self.old.standing s → Adds (IsWhole v) (In (seen L.Disk v) self.new.log.log self.new.standing) s (commands.Renew device) lines.items) }
         ensures err { IfErr result (λ status. (v : View L.tells) (s : Stage) → In (seen L.Disk v) self.old.log.log self.old.standing s → RefusesAt (seen L.Disk v) self.new.log.log.device s (commands.Renew device) line status) }
-        ensures cause { IfErr result (LogCause (L.own self.old.log.log.device) (L.own self.new.log.log.device)) }
+        ensures cause { IfErr result (LifeCause (L.own self.old.log.log.device) (L.own self.new.log.log.device)) }
         ensures later { L.own self.old.log.log.device ≤ L.own self.new.log.log.device }
     {
         if device != Device::Log {

@@ -55,7 +55,8 @@ pub fn make_log<L: Disk>(alloc: Global, disk: L, limit: u32) -> Result<L, NotOpe
             status: not_made(&refused.fault),
         }),
     };
-    if log.blocks() != 0 {
+    let count = log.blocks();
+    if count != 0 {
         return Err(NotOpened {
             disk: log.into_device(),
             status: Status::AlreadyFormatted,
