@@ -1,5 +1,6 @@
 pub mod Causes
 pub mod Commands
+pub mod Fused
 pub mod Lists
 pub mod Lives
 pub mod Openings

@@ -235,3 +235,11 @@ module _ {D : Type 0} (L : Ghosts D) (log : List Record) where
 
   pub no_buffer : (disk : D) (left told : Option (List ℕ)) (status : Status) → status ≡ statuses.Memory → Leaves L disk (begin_stage log) → (pending : List ℕ) × Headline L log disk left pending left told told status
   no_buffer disk left told status is leaves = subst (λ (x : Status). (pending : List ℕ) × Headline L log disk left pending left told told x) (sym is) (not_begun disk left told statuses.Memory refl nothing_written leaves)
+
+  pub ran_whole : (disk : D) (left left' told told' : Option (List ℕ)) (old new : Reader) (status : Status) → old ≡ first_reader → Headline L log disk (to_come old left) new.pending left' told told' status
+      → (pending : List ℕ) × Headline L log disk left pending left' told told' status
+  ran_whole disk left left' told told' old new status is h = (
+    new.pending,
+    subst (λ (x : Option (List ℕ)). Headline L log disk x new.pending left' told told' status) (nothing_pending left)
+        (subst (λ (r : Reader). Headline L log disk (to_come r left) new.pending left' told told' status) is h),
+  )

@@ -1,8 +1,20 @@
-use Rattle.std.proofs.Common.{arith, [], ◌∷◌, ◌++◌}
-use Rattle.runner.specs.LogDisk.{seen}
+use Rattle.std.proofs.Common.{arith, [], ◌∷◌, ◌++◌, ◌≤◌, List, ℕ, subst, sym}
+use Rattle.std.proofs.KnownBytes.{Consumes-nil}
+use Rattle.runner.specs.declared.at.At.{At}
+use Rattle.runner.specs.declared.life.Life.{Life}
+use Rattle.runner.specs.Causes.{disk_at}
+use Rattle.runner.specs.Clause.{Between}
+use Rattle.runner.specs.LogDisk.{IsWhole, seen}
+use Rattle.runner.specs.Machine.{In, Out, IsAt}
+use Rattle.runner.proofs.Lives.{safe_out}
 use Rattle.runner.proofs.Places.{cycled_self, cycled_trans}
-use Rattle.runner.proofs.Runs.{at_start}
+use Rattle.runner.proofs.Runs.{at_start, no_memory}
 use Rattle.runner.proofs.run.run.Goals as goal
 
 pub loop-init : goal.loop-init
 loop-init g c = record { turns = λ v log out. ([], at_start (seen g.L.Disk v) log c.args.disk _ _ c.args.input.now c.requires.0 c.requires.1 c.requires.2 out); source = omega arith; sink = omega arith; log = omega arith; vault = cycled_self _ _ _ _ }
+
+pub returns-clause-headline : goal.returns-clause-headline
+returns-clause-headline g c = λ v log out.
+    let p = c.loop.invariant.turns v log out in
+    no_memory (seen g.L.Disk v) log c.loop.disk _ _ c.loop.input c.loop.input _ _ _ p.0 (Out (seen g.L.Disk v) c.loop.disk) (λ s h. safe_out (seen g.L.Disk v) c.loop.disk s h) p.1 p.1.most [] (Consumes-nil _) (omega arith)
