@@ -29,14 +29,14 @@ returns-in-Ok-write_all-clause-turns g c = λ v log left told turns b.
     let w = c.in-Ok-write_all.ensures.bytes in
     went (seen g.L.Disk v) log (disk_at (λ (life : Life g.row.L.Denot g.L.Disk). life.log.log.device) c.args.at) left told c.args.input.now c.next_command.new.input _ _ _ turns (IsAt (seen g.L.Disk v) (λ (life : Life g.row.L.Denot g.L.Disk). In (seen g.L.Disk v) life.log.log life.standing) c.args.at) (safe_at (seen g.L.Disk v) (λ (life : Life g.row.L.Denot g.L.Disk). In (seen g.L.Disk v) life.log.log life.standing) (λ (life : Life g.row.L.Denot g.L.Disk). life.log.log.device) (λ life s h. safe_in (seen g.L.Disk v) life.log.log life.standing s h) c.args.at) b c.next_command.ensures.most line.0 c.in-Some.next.0 line.1 line.2 line.4 line.7 (IsAt (seen g.L.Disk v) (λ (life : Life g.row.L.Denot g.L.Disk). In (seen g.L.Disk v) life.log.log life.standing) c.in-Goes.at) c.in-Goes.lines.items line.6 (c.in-Goes.ensures.turns v (stage log turns) b.holds) _ (all_written _ _ c.in-Goes.lines.items w.0 w.1 (sym c.deref.ensures.value ∙ w.2) w.4 w.3)
 
-pub returns-in-Err-write_all-clause-turns : goal.returns-in-Err-write_all-clause-turns
-returns-in-Err-write_all-clause-turns g c = λ v log left told turns b.
+pub returns-in-Goes-clause-turns : goal.returns-in-Goes-clause-turns
+returns-in-Goes-clause-turns g c = λ v log left told turns b.
     let line = subst (λ (o : Option (Command × ℕ)). TakesCommand c.args.input.now c.next_command.new.input (g.S.Source.left c.args.source.now) (g.S.Source.left c.next_command.new.source) (Ok o)) c.in-Some.is c.in-Ok.ensures.command in
     let w = c.in-Err-write_all.ensures.bytes in
     subst (λ (d : g.row.L.Denot). Headline (seen g.L.Disk v) log d left c.next_command.new.input.pending (g.S.Source.left c.next_command.new.source) told (g.K.Sink.told c.write_all.new.sink) statuses.SinkFault) (sym c.disk_of-in-Err-write_all.ensures)
     (fell (seen g.L.Disk v) log (disk_at (λ (life : Life g.row.L.Denot g.L.Disk). life.log.log.device) c.args.at) left told c.args.input.now c.next_command.new.input _ _ _ turns (IsAt (seen g.L.Disk v) (λ (life : Life g.row.L.Denot g.L.Disk). In (seen g.L.Disk v) life.log.log life.standing) c.args.at) (safe_at (seen g.L.Disk v) (λ (life : Life g.row.L.Denot g.L.Disk). In (seen g.L.Disk v) life.log.log life.standing) (λ (life : Life g.row.L.Denot g.L.Disk). life.log.log.device) (λ life s h. safe_in (seen g.L.Disk v) life.log.log life.standing s h) c.args.at) b c.next_command.ensures.most line.0 c.in-Some.next.0 line.1 line.2 line.4 line.7 (disk_at (λ (life : Life g.row.L.Denot g.L.Disk). life.log.log.device) c.in-Goes.at) (IsAt (seen g.L.Disk v) (λ (life : Life g.row.L.Denot g.L.Disk). In (seen g.L.Disk v) life.log.log life.standing) c.in-Goes.at) (safe_at (seen g.L.Disk v) (λ (life : Life g.row.L.Denot g.L.Disk). In (seen g.L.Disk v) life.log.log life.standing) (λ (life : Life g.row.L.Denot g.L.Disk). life.log.log.device) (λ life s h. safe_in (seen g.L.Disk v) life.log.log life.standing s h) c.in-Goes.at) c.in-Goes.lines.items w.0 w.1 (c.in-Goes.ensures.turns v (stage log turns) b.holds) (sym c.deref.ensures.value ∙ w.2) _ w.3)
 
-pub returns-in-Ends-clause-turns : goal.returns-in-Ends-clause-turns
-returns-in-Ends-clause-turns g c = λ v log left told turns b.
+pub returns-clause-turns : goal.returns-clause-turns
+returns-clause-turns g c = λ v log left told turns b.
     let line = subst (λ (o : Option (Command × ℕ)). TakesCommand c.args.input.now c.next_command.new.input (g.S.Source.left c.args.source.now) (g.S.Source.left c.next_command.new.source) (Ok o)) c.in-Some.is c.in-Ok.ensures.command in
     refused (seen g.L.Disk v) log (disk_at (λ (life : Life g.row.L.Denot g.L.Disk). life.log.log.device) c.args.at) left told c.args.input.now c.next_command.new.input _ _ _ turns (IsAt (seen g.L.Disk v) (λ (life : Life g.row.L.Denot g.L.Disk). In (seen g.L.Disk v) life.log.log life.standing) c.args.at) (safe_at (seen g.L.Disk v) (λ (life : Life g.row.L.Denot g.L.Disk). In (seen g.L.Disk v) life.log.log life.standing) (λ (life : Life g.row.L.Denot g.L.Disk). life.log.log.device) (λ life s h. safe_in (seen g.L.Disk v) life.log.log life.standing s h) c.args.at) b c.next_command.ensures.most line.0 c.in-Some.next.0 line.1 line.2 line.4 line.7 c.in-Ends.disk c.in-Some.next.1 c.in-Ends.status line.5 line.3 (c.in-Ends.ensures.turns v (stage log turns) b.holds)
