@@ -3,6 +3,7 @@ use Rattle.std.specs.Prelude.{Option}
 use Rattle.std.proofs.KnownBytes.{Consumes-nil}
 use Rattle.runner.specs.declared.at.At.{At}
 use Rattle.runner.specs.declared.life.Life.{Life}
+use Rattle.runner.specs.declared.status.Status.TheVariants as statuses
 use Rattle.runner.specs.Causes.{disk_at}
 use Rattle.runner.specs.Clause.{Between, Headline}
 use Rattle.runner.specs.LogDisk.{IsWhole, seen}
@@ -41,5 +42,5 @@ returns-in-Ends-clause-turns g c = λ v log left told turns b.
 pub returns-clause-turns : goal.returns-clause-turns
 returns-clause-turns g c = λ v log left told turns b.
     let p = c.loop.invariant.turns v log left told turns b in
-    subst (λ (d : g.row.L.Denot). Headline (seen g.L.Disk v) log d left c.loop.input.pending (g.S.Source.left c.loop.source) told (g.K.Sink.told c.loop.sink) _) (sym c.into_device.ensures)
+    subst (λ (d : g.row.L.Denot). Headline (seen g.L.Disk v) log d left c.loop.input.pending (g.S.Source.left c.loop.source) told (g.K.Sink.told c.loop.sink) statuses.Memory) (sym c.into_device.ensures)
     (no_memory (seen g.L.Disk v) log c.loop.life.log.log.device left told c.loop.input c.loop.input _ _ _ p.0 (In (seen g.L.Disk v) c.loop.life.log.log c.loop.life.standing) (λ s h. safe_in (seen g.L.Disk v) c.loop.life.log.log c.loop.life.standing s h) p.1 p.1.most [] (Consumes-nil _) (omega arith))
