@@ -111,12 +111,9 @@ fn run<S: Source, K: Sink, V: Vault, L: Disk>(
     let mut disk = disk;
     for _ in 0..u64::MAX {
         match turn(alloc, operators, input, source, sink, vault, At::Outside { disk }) {
-            Turned::Goes { at } => match at {
-                At::Outside { disk: left } => disk = left,
-                At::Inside { life } => match run_life(alloc, operators, input, source, sink, vault, life) {
-                    Lived::Stopped { disk: left } => disk = left,
-                    Lived::Ends { status, disk } => return (status, disk),
-                },
+            Turned::Goes { at } => match run_from(alloc, operators, input, source, sink, vault, at) {
+                Lived::Stopped { disk: left } => disk = left,
+                Lived::Ends { status, disk } => return (status, disk),
             },
             Turned::Ends { status, disk } => return (status, disk),
         }
@@ -129,6 +126,28 @@ fn run<S: Source, K: Sink, V: Vault, L: Disk>(
 pub enum Lived<L> {
     Stopped { disk: L },
     Ends { status: Status, disk: L },
+}
+
+/// What a line has begun: nothing, or a life.
+fn run_from<S: Source, K: Sink, V: Vault, L: Disk>(
+    alloc: Global,
+    operators: &Operators,
+    input: &mut Input,
+    source: &mut S,
+    sink: &mut K,
+    vault: &mut V,
+    at: At<L, Life<L>>,
+) -> Lived<L>
+    ensures turns { (v : View L.tells) (log : List Record) (left told : Option (List ℕ)) (turns : List Turn) → Between (IsWhole v) log (IsAt (seen L.Disk v) (λ life. In (seen L.Disk v) life.log.log life.standing) at) left told input.old turns (S.left source.old) (K.told sink.old)
+        → LivedTo (seen L.Disk v) log left told input.new (S.left source.new) (K.told sink.new) result }
+    ensures later { (S.faults source.old ≤ S.faults source.new) × (K.faults sink.old ≤ K.faults sink.new) }
+    ensures cause { LivedCause L.Disk (disk_at (λ life. life.log.log.device) at) (S.faults source.old) (S.faults source.new) (K.faults sink.old) (K.faults sink.new) result }
+    ensures vault { IsCycled V.tells V.told V.faults vault.old vault.new }
+{
+    match at {
+        At::Outside { disk } => Lived::Stopped { disk },
+        At::Inside { life } => run_life(alloc, operators, input, source, sink, vault, life),
+    }
 }
 
 /// A life, from its opening to its stop or the end of the run.

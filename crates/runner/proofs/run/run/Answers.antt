@@ -16,29 +16,23 @@ use Rattle.runner.proofs.run.run.Goals as goal
 pub loop-init : goal.loop-init
 loop-init g c = record { turns = λ v log out. ([], at_start (seen g.L.Disk v) log c.args.disk _ _ c.args.input.now c.requires.0 c.requires.1 c.requires.2 out); source = omega arith; sink = omega arith; log = omega arith; vault = cycled_self _ _ _ _ }
 
-pub loop-preserved-in-Outside : goal.loop-preserved-in-Outside
-loop-preserved-in-Outside g c = record {
-  turns = λ v log out.
-      let p = c.loop.invariant.turns v log out in
-      let t = c.in-Goes.ensures.turns v log _ _ p.0 p.1 in
-      (p.0 ++ t.0 ∷ [], subst (λ (x : At g.row.L.Denot (Life g.row.L.Denot g.L.Disk)). Between (IsWhole v) log (IsAt (seen g.L.Disk v) (λ (life : Life g.row.L.Denot g.L.Disk). In (seen g.L.Disk v) life.log.log life.standing) x) (to_come c.args.input.now (g.S.Source.left c.args.source.now)) (g.K.Sink.told c.args.sink.now) c.turn.new.input (p.0 ++ t.0 ∷ []) (g.S.Source.left c.turn.new.source) (g.K.Sink.told c.turn.new.sink)) c.in-Outside.is t.1);
-  source = omega (arith, c.loop.invariant.source, c.in-Goes.ensures.later.0);
-  sink = omega (arith, c.loop.invariant.sink, c.in-Goes.ensures.later.1);
-  log = let own = subst (λ (x : At g.row.L.Denot (Life g.row.L.Denot g.L.Disk)). g.L.Disk.own c.loop.disk ≤ g.L.Disk.own (disk_at (λ (life : Life g.row.L.Denot g.L.Disk). life.log.log.device) x)) c.in-Outside.is c.in-Goes.ensures.cause in omega (arith, c.loop.invariant.log, own);
-  vault = cycled_trans _ _ _ _ _ _ c.loop.invariant.vault c.in-Goes.ensures.vault;
-}
-
 pub loop-preserved : goal.loop-preserved
 loop-preserved g c = record {
   turns = λ v log out.
       let p = c.loop.invariant.turns v log out in
       let t = c.in-Goes.ensures.turns v log _ _ p.0 p.1 in
-      c.in-Stopped.ensures.turns v log _ _ (p.0 ++ t.0 ∷ []) (subst (λ (x : At g.row.L.Denot (Life g.row.L.Denot g.L.Disk)). Between (IsWhole v) log (IsAt (seen g.L.Disk v) (λ (life : Life g.row.L.Denot g.L.Disk). In (seen g.L.Disk v) life.log.log life.standing) x) (to_come c.args.input.now (g.S.Source.left c.args.source.now)) (g.K.Sink.told c.args.sink.now) c.turn.new.input (p.0 ++ t.0 ∷ []) (g.S.Source.left c.turn.new.source) (g.K.Sink.told c.turn.new.sink)) c.in-Inside.is t.1);
+      c.in-Stopped.ensures.turns v log _ _ (p.0 ++ t.0 ∷ []) t.1;
   source = omega (arith, c.loop.invariant.source, c.in-Goes.ensures.later.0, c.in-Stopped.ensures.later.0);
   sink = omega (arith, c.loop.invariant.sink, c.in-Goes.ensures.later.1, c.in-Stopped.ensures.later.1);
-  log = let own = subst (λ (x : At g.row.L.Denot (Life g.row.L.Denot g.L.Disk)). g.L.Disk.own c.loop.disk ≤ g.L.Disk.own (disk_at (λ (life : Life g.row.L.Denot g.L.Disk). life.log.log.device) x)) c.in-Inside.is c.in-Goes.ensures.cause in omega (arith, c.loop.invariant.log, own, c.in-Stopped.ensures.cause);
+  log = omega (arith, c.loop.invariant.log, c.in-Goes.ensures.cause, c.in-Stopped.ensures.cause);
   vault = cycled_trans _ _ _ _ _ _ (cycled_trans _ _ _ _ _ _ c.loop.invariant.vault c.in-Goes.ensures.vault) c.in-Stopped.ensures.vault;
 }
+
+pub returns-in-Ends-run_from-clause-headline : goal.returns-in-Ends-run_from-clause-headline
+returns-in-Ends-run_from-clause-headline g c = λ v log out.
+    let p = c.loop.invariant.turns v log out in
+    let t = c.in-Goes.ensures.turns v log _ _ p.0 p.1 in
+    c.in-Ends-run_from.ensures.turns v log _ _ (p.0 ++ t.0 ∷ []) t.1
 
 pub returns-in-Ends-clause-headline : goal.returns-in-Ends-clause-headline
 returns-in-Ends-clause-headline g c = λ v log out.
