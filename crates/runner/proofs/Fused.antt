@@ -1,8 +1,9 @@
 -- The log disk in its fuse, and without it.
-use Rattle.std.proofs.Common.{◌≡◌, ◌≢◌, ℕ, List, [], Option, Some, None, true, refl, sym, subst, inl, inr}
+use Rattle.std.proofs.Common.{◌≡◌, ◌≢◌, ℕ, ◌+◌, ap, List, [], Option, Some, None, true, refl, sym, subst, inl, inr}
 use Rattle.std.specs.List.{All}
 use Rattle.std.proofs.lemmas.List.Elements.{All-nil}
 use Rattle.media.specs.Kept.{Kept}
+use Rattle.media.specs.Fused.{Fused}
 use Rattle.media.specs.declared.disk.Disk.{Ghosts}
 use Rattle.log_blocks.specs.Log.{StandsFor}
 use Rattle.log_replay.specs.Standing.{DevicesStandFor}
@@ -13,11 +14,31 @@ use Rattle.runner.specs.declared.status.Status.{Status}
 use Rattle.runner.specs.declared.status.Status.TheVariants as statuses
 use Rattle.runner.specs.Causes.{IsAsked}
 use Rattle.runner.specs.Clause.{OfCommand, NotBuiltLine, Ended, Headline}
-use Rattle.runner.specs.LogDisk.{StandsOn, Keeps, HoldsOne, Leaves}
+use Rattle.runner.specs.LogDisk.{View, IsWhole, seen, StandsOn, Keeps, HoldsOne, Leaves}
 use Rattle.runner.specs.Machine.{Out}
 use Rattle.runner.specs.Refusals.{IsNotBuilt}
 use Rattle.runner.specs.Turns.{Turn, Stage, Found, IsRightLife, begin_stage, is_lawful, stage}
 use Rattle.runner.proofs.Lives.{keeps_only}
+
+-- what a fuse round a device says
+pub fuse_of : {D : Type 0} → Ghosts D → Ghosts (Fused D)
+fuse_of D = record {
+  tells = D.tells;
+  start = λ f. D.start f.inner;
+  len = λ f. D.len f.inner;
+  told = λ f. D.told f.inner;
+  may_leave = λ f c. D.may_leave f.inner c;
+  moment = λ f. D.moment f.inner;
+  left_since = λ f t c. D.left_since f.inner t c;
+  faults = λ f. D.faults f.inner + f.refused;
+  own = λ f. D.faults f.inner;
+  refused = λ f. f.refused;
+  passes = λ f. f.left;
+  fuses = Unit {0};
+  extent = λ f t. D.extent f.inner t;
+  counts_now = λ f t c le now. D.counts_now f.inner t c le now;
+  only_now = λ f c left. D.only_now f.inner c left;
+}
 
 -- ---- the start
 
@@ -102,3 +123,10 @@ asked L log disk left0 pending left told0 told statuses.SinkFault h t usage sour
 asked L log disk left0 pending left told0 told statuses.LogFault h t usage source sink fault = fault refl
 asked L log disk left0 pending left told0 told (statuses.LogBad block byte) h t usage source sink fault = h.ended.2 t
 asked L log disk left0 pending left told0 told _ h t usage source sink fault = tt
+
+-- a run round a fused disk is one round the disk
+pub begun_fused : {D : Type 0} (L : Ghosts D) (v : View L.tells) (e : Fused D) (d : D) → e ≡ record { inner = d; left = None; refused = 0 } → (log : List Record) → (IsWhole v → DevicesStandFor L.told L.may_leave d log) → Out (seen (fuse_of L) v) e (begin_stage log)
+begun_fused L v e d is log stands = subst (λ (x : Fused _). Out (seen (fuse_of L) v) x (begin_stage log)) (sym is) (out_at (IsWhole v) L (fuse_of L) (record { inner = d; left = None; refused = 0 }) d refl (λ c m. m) tt refl log stands)
+
+pub ended_fused : {D : Type 0} (L : Ghosts D) (v : View L.tells) (e : Fused D) (d : D) → d ≡ e.inner → (log : List Record) (left0 : Option (List ℕ)) (pending : List ℕ) (left told0 told1 : Option (List ℕ)) (status : Status) → Headline (seen (fuse_of L) v) log e left0 pending left told0 told1 status → Headline (seen L v) log d left0 pending left told0 told1 status
+ended_fused L v e d is log left0 pending left told0 told1 status h = subst (λ (x : _). Headline (seen L v) log x left0 pending left told0 told1 status) (sym is) (unfused (IsWhole v) L (fuse_of L) e e.inner refl (λ c m. m) log left0 pending left told0 told1 status h)
