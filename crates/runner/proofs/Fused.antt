@@ -35,9 +35,6 @@ fuse_of D = record {
   refused = λ f. f.refused;
   passes = λ f. f.left;
   fuses = Unit {0};
-  extent = λ f t. D.extent f.inner t;
-  counts_now = λ f t c le now. D.counts_now f.inner t c le now;
-  only_now = λ f c left. D.only_now f.inner c left;
 }
 
 -- ---- the start
