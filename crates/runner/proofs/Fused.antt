@@ -21,7 +21,7 @@ use Rattle.runner.specs.Turns.{Turn, Stage, Found, IsRightLife, begin_stage, is_
 use Rattle.runner.proofs.Lives.{keeps_only}
 
 -- what a fuse round a device says
-pub fuse_of : {D : Type 0} → Ghosts D → Ghosts (Fused D)
+abbrev pub fuse_of : {D : Type 0} → Ghosts D → Ghosts (Fused D)
 fuse_of D = record {
   tells = D.tells;
   start = λ f. D.start f.inner;
