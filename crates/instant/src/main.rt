@@ -1,17 +1,19 @@
 //! The program: a script on standard input, its transcript on standard output.
 //!
-//! `instant PLACE [run]` keeps its log at PLACE, which is `mem`. It makes the devices, runs the words behind PLACE, says
-//! on standard error why the run ended where it isn't done, and ends with the status' code.
+//! `instant PLACE [run]` keeps its log at PLACE, which is `mem`. It makes the devices and the operators, runs the words
+//! behind PLACE, says on standard error why the run ended where it isn't done, and ends with the status' code.
 #![tactic(auto)]
 
 mod streams;
 
 use media::Devices;
-use media_mem::MemDisk;
+use media_mem::{MemDisk, MemPages, MemVault};
+use operators::{Operators, add, join, max};
 use runner::{Status, run_words};
-use std::alloc::Global;
+use std::alloc::{AllocError, Global};
 use std::process::ExitCode;
 use std::{env, io};
+use store_model::{OpValue, Value};
 use streams::{StreamSink, StreamSource};
 
 /// The words of the call behind the program's name.
@@ -37,7 +39,29 @@ fn run(rt: &HostRuntime, alloc: Global, words: &[String]) -> Status {
     }
 }
 
+/// The operators of the store, as boxed closures.
+fn boxed(alloc: Global) -> Result<Operators, AllocError> {
+    Ok(Operators::new(
+        Box::new(
+            alloc,
+            |old: &Option<Value>, argument: &OpValue| add(old, argument),
+        )?,
+        Box::new(
+            alloc,
+            |old: &Option<Value>, argument: &OpValue| max(old, argument),
+        )?,
+        Box::new(
+            alloc,
+            |old: &Option<Value>, argument: &OpValue| join(old, argument),
+        )?,
+    ))
+}
+
 fn run_in_memory(rt: &HostRuntime, alloc: Global, words: &[String]) -> Status {
+    let operators = match boxed(alloc) {
+        Ok(operators) => operators,
+        Err(_) => return Status::Memory,
+    };
     let mut source = StreamSource {
         reader: rt.stdin(),
         faults: 0,
@@ -48,18 +72,27 @@ fn run_in_memory(rt: &HostRuntime, alloc: Global, words: &[String]) -> Status {
     };
     let devices = Devices {
         log: MemDisk::new(alloc),
-        pages: (),
-        vault: (),
+        pages: MemPages::new(alloc),
+        vault: MemVault::new(alloc),
     };
-    let (status, _devices) = run_words(alloc, words, &mut source, &mut sink, devices);
+    let (status, _devices) = run_words(alloc, words, &mut source, &mut sink, devices, &operators);
     status
+}
+
+/// The status of words that can't be had: memory ran out, or they are no text.
+fn status_of(error: &io::Error) -> Status {
+    if error.kind() == io::ErrorKind::OutOfMemory {
+        Status::Memory
+    } else {
+        Status::Usage
+    }
 }
 
 fn main(rt: HostRuntime) -> ExitCode {
     let alloc = rt.alloc();
     let status = match words(&rt, alloc) {
         Ok(words) => run(&rt, alloc, &words),
-        Err(_) => Status::Usage,
+        Err(error) => status_of(&error),
     };
     if status != Status::Done {
         let _ = eprintln!(&rt; "instant: {status}");

@@ -1,9 +1,8 @@
 -- A fault's cause is the same for whoever has watched the counts for longer.
 use Rattle.std.proofs.Common.{◌≤◌, ℕ, arith}
 use Rattle.media.specs.Cause.{Rose}
-use Rattle.runner.specs.Causes.{LogCause, RunCause}
+use Rattle.runner.specs.Causes.{RunCause}
 use Rattle.runner.specs.declared.status.Status.{Status}
-use Rattle.runner.specs.declared.status.Status.TheVariants as statuses
 
 rose_since : (a b c : ℕ) → a ≤ b → Rose b c → Rose a c
 rose_since a b c h r = omega (arith, h, r)
@@ -14,11 +13,3 @@ run_cause_since s0 s1 s2 k0 k1 k2 l0 l1 l2 status s k l cause = record {
   sink = λ e. rose_since k0 k1 k2 k (cause.sink e);
   log = λ e. rose_since l0 l1 l2 l (cause.log e);
 }
-
-pub log_cause_since : (a b c : ℕ) (status : Status) → a ≤ b → LogCause b c status → LogCause a c status
-log_cause_since a b c statuses.LogFault h cause = rose_since a b c h cause
-log_cause_since a b c statuses.SourceFault h cause = absurd cause
-log_cause_since a b c statuses.SinkFault h cause = absurd cause
-log_cause_since a b c statuses.Usage h cause = absurd cause
-log_cause_since a b c statuses.Done h cause = absurd cause
-log_cause_since a b c _ h cause = tt

@@ -1,248 +1,65 @@
--- What each command adds, over any stage.
-use Rattle.std.proofs.Common.{◌≡◌, ◌≢◌, ◌⊎◌, ℕ, ◌+◌, ◌<◌, ◌≤◌, Bool, true, false, List, [], ◌∷◌, ◌++◌, Option, Some, None, refl, sym, ap, subst, ◌∙◌, arith, inl, inr, ⊎_elim, append_assoc, append-nil, length, take}
-use Rattle.std.specs.Prelude.{codes, IsTrue, ◌||◌, ◌^◌, sum_by}
+-- What each command of a life adds, over any stage.
+use Rattle.std.proofs.Common.{◌≡◌, ◌≢◌, ℕ, ◌+◌, ◌<◌, ◌≤◌, Bool, true, false, List, [], ◌∷◌, ◌++◌, Option, Some, None, refl, sym, ap, subst, ◌∙◌, arith, ◌⊎◌, inl, inr, ⊎_elim, Result, Ok, Err, append_assoc, append-nil, length, length-append, take, drop}
+use Rattle.std.specs.Prelude.{codes, IfErr, IsTrue, ◌||◌, ◌^◌, nat_le}
 use Rattle.std.specs.List.{All, list_any}
 use Rattle.std.proofs.lemmas.List.Folds.{list_any-append}
-use Rattle.media.specs.Crash.{Only, NoMore}
-use Rattle.media.specs.Kept.{Kept}
-use Rattle.log_blocks.specs.Batch.{with_group, numbered}
-use Rattle.log_blocks.specs.Log.{Block, StandsForSome}
-use Rattle.log_blocks.specs.LogState.{LogState, IsDurable}
-use Rattle.std.proofs.lemmas.List.Elements.{All-cons, All-nil, All-append}
+use Rattle.std.proofs.lemmas.List.Elements.{All-cons, All-nil}
+use Rattle.std.proofs.lemmas.Bool.{leb-true, leb-false}
 use Rattle.std.specs.Fmt.{decimal}
+use Rattle.media.specs.Crash.{NoMore}
+use Rattle.media.specs.Kept.{Kept}
+use Rattle.media.specs.declared.disk.Disk.{Ghosts}
+use Rattle.log_blocks.specs.LogState.{LogState, durable_lsn}
+use Rattle.log_manager.specs.Managed.{HasMore, Managed, RecordsLeft, first_kept}
+use Rattle.log_manager.specs.Records.{AreRecordsOf, IsLogOf, StandsForMoreRecords}
+use Rattle.page_rows.specs.Redo.{IsRedoable, Redone}
 use Rattle.store_model.specs.Range.{point}
+use Rattle.store_model.specs.declared.request.Request.{Request}
 use Rattle.store_model.specs.declared.request.Request.TheVariants as requests
 use Rattle.store_model.specs.declared.reply.Reply.TheVariants as replies
+use Rattle.store_model.specs.declared.reply.Outcome.TheVariants as outcomes
 use Rattle.store_model.specs.declared.range.Mode.TheVariants.{Shared, Exclusive}
-use Rattle.wal_record.specs.State.{is_key, is_value, live, leaf_row_size, state_size, page_room}
-use Rattle.wal_record.specs.Checkpoints.{commits}
+use Rattle.wal_record.specs.State.{is_key, is_value, live, leaf_rows, state_size, page_room, row_of, put_row}
+use Rattle.wal_record.specs.Chains.{pages}
+use Rattle.wal_record.specs.OpenWrites.{pending}
+use Rattle.wal_record.specs.Checkpoints.{commits, limit_of}
 use Rattle.wal_record.specs.History.{log_of, life_log}
-use Rattle.wal_record.specs.Left.{acknowledges, IsLeft}
-use Rattle.wal_record.specs.Spelling.{spelling}
-use Rattle.log_laws.specs.Beginnings.{is_commit}
-use Rattle.wal_record.specs.OpenWrites.{open_writes}
-use Rattle.wal_record.specs.Images.{image}
+use Rattle.wal_record.specs.Left.{IsLeft, acknowledges, is_commit_of}
+use Rattle.wal_record.specs.Images.{applied, image, CanApply, OnPage}
 use Rattle.wal_record.specs.declared.page.LeafRow.{LeafRow}
+use Rattle.wal_record.specs.declared.page.PageState.{PageState}
 use Rattle.wal_record.specs.declared.record.Record.{Record}
+use Rattle.wal_record.specs.declared.record.Record.TheVariants as kinds
 use Rattle.wal_record.specs.declared.entry.Entry.{Entry}
-use Rattle.wal_record.specs.declared.entry.Entry.TheVariants.{Rec, Lock, Acked, Began}
-use Rattle.life_laws.specs.Calm.{Opened, Calm, only_leaf, splits_page}
-use Rattle.life_laws.specs.CalmLaw.{IsRight}
-use Rattle.life_laws.proofs.Leaving.{log_of_append, left_longer, left_more}
-use Rattle.life_laws.specs.Commands.{begun, with_write, with_row, written, committing, get_entries, put_entries, commit_entries}
-use Rattle.life_laws.proofs.CalmSteps.{calm_begin, calm_get, calm_put, calm_commit, calm_committed}
+use Rattle.wal_record.specs.declared.entry.Entry.TheVariants.{Rec, Lock, Said, Declined, Acked, Began}
+use Rattle.log_laws.specs.Beginnings.{is_commit}
+use Rattle.life_laws.specs.Calm.{Opened, Calm, only_leaf}
+use Rattle.life_laws.specs.Commands.{begun, with_write, with_row, written, committing, get_entries, put_entries, full_entries, commit_entries}
+use Rattle.life_laws.proofs.CalmSteps.{calm_begin, calm_get, calm_put, calm_declined, calm_commit, calm_committed}
 use Rattle.life_laws.proofs.CalmLives.{calm_right}
-use Rattle.life_laws.proofs.CalmLog.{fits_by}
-use Rattle.life_laws.proofs.Start.{calm_start}
+use Rattle.life_laws.proofs.CalmLog.{all_own, limit_kept}
+use Rattle.life_laws.proofs.Leaving.{log_of_append, left_longer, left_more}
 use Rattle.script.specs.Word.{same_text}
+use Rattle.script.specs.declared.name.Name.{Name}
 use Rattle.script.specs.declared.command.Command.{Command}
 use Rattle.script.specs.declared.command.Command.TheVariants as commands
-use Rattle.runner.specs.declared.session.Session.{Session}
-use Rattle.runner.specs.Active.{is_active}
-use Rattle.runner.specs.Leaf.{row_room}
+use Rattle.script.specs.declared.command.Device.{Device}
+use Rattle.script.specs.declared.command.Device.TheVariants.{Log}
+use Rattle.runner.specs.Active.{is_active, opened_by, Writes, Begins, HasPut, IsOpened}
+use Rattle.runner.specs.Leaf.{rows_of, page_live}
+use Rattle.runner.specs.LogDisk.{Keeps, HoldsOne, Leaves, lsn_from}
+use Rattle.runner.specs.Machine.{actives, IsFused, In, IsCalm, Runs, IsOver, LivesOn, Adds}
 use Rattle.runner.specs.Printing.{escaped, shown}
-use Rattle.runner.specs.Turns.{Life, Active, Stage, IsAid, longer, opened, tx_of, is_known, is_lawful, no_life, without, Answers, Commits, CutCommit, IsRightLife, lives_of, formatted_log, MayPut, log_of_life}
-use Rattle.runner.specs.Text.{kept_log}
+use Rattle.runner.specs.Refusals.{RefusesAt, CutAt, HasNoPlace, IsRequestNotBuilt}
+use Rattle.runner.specs.Session.{write_record}
+use Rattle.runner.specs.Turns.{Turn, Life, Active, Stage, Left, Done, LogFault, Ended, Commits, CutCommit, IsEnd, IsEndedAt, lives_of, last_of, without, IsAid, HasRoom, IsRightLife, turn, stage_step, longer, is_known, is_lawful, no_life, tx_of, log_of_life, Answers, EndedRow, IsNoStop}
+use Rattle.runner.specs.Text.{lines, head}
+use Rattle.runner.specs.declared.session.Session.{Session}
+use Rattle.runner.specs.declared.standing.Standing.{Standing}
 use Rattle.runner.specs.declared.status.Status.{Status}
 use Rattle.runner.specs.declared.status.Status.TheVariants as statuses
-use Rattle.runner.specs.Causes.{IsOpenRefusal, IsDiskFault, IsFormatRefusal}
-use Rattle.runner.specs.Session.{commit_record}
-use Rattle.runner.specs.Refusals.{CutAt, HasMost, IsFull, IsNotBuilt, RefusesAt}
-use Rattle.runner.specs.LogDisk.{Spells, HoldsLog, KeepsLog, KeepsFirst, IsBlank, KeepsFor, Leaves, LeavesBlank}
-use Rattle.runner.proofs.Disks.{spells_append, spells_numbered, spells_more, spells_take, first_holds}
-use Rattle.runner.specs.Machine.{actives, opened_by, records_by, Waits, KeptBy, DiskBy, Out, Inside, Adds, EndsRun, HasWritten}
-
--- ---- the disk outside of a life
-
-none_kept : (before : Kept → Type 0) (life : Option Life) (made : Option (List Record)) (k : Kept) → ◌≡◌ {A = Option Life} life None → ◌≡◌ {A = Option (List Record)} made None → before k → KeepsFor before life made k
-none_kept before life made k none unmade held = subst (λ (l : Option Life). KeepsFor before l made k) (sym none) (subst (λ (m : Option (List Record)). KeepsFor before None m k) (sym unmade) held)
-
-log_kept : (before : Kept → Type 0) (life : Option Life) (made : Option (List Record)) (k : Kept) → ◌≡◌ {A = Option Life} life None → made ≡ Some formatted_log → HoldsLog formatted_log k → KeepsFor before life made k
-log_kept before life made k none some holds = subst (λ (l : Option Life). KeepsFor before l made k) (sym none) (subst (λ (m : Option (List Record)). KeepsFor before None m k) (sym some) holds)
-
-module _ {D : Type 0} (tells : Type 0) (told : D → Kept) (may_leave : D → Kept → Type 0) (start len : D → ℕ) (disk0 : D) (s : Stage) where
-  log_leaves : (now : D) → ◌≡◌ {A = Option Life} s.life None → s.kept ≡ Some formatted_log → IsBlank start len disk0 → (tells → HoldsLog formatted_log (told now) × Only (told now) (may_leave now)) → Leaves tells told may_leave start len disk0 now s
-  log_leaves now none some blank holds = record {
-    now = λ t. log_kept (λ k. k ≡ told disk0) s.life s.kept (told now) none some (holds t).0;
-    crash = λ t c left. log_kept (may_leave disk0) s.life s.kept c none some (subst (HoldsLog formatted_log) (sym ((holds t).1 c left)) (holds t).0);
-    blank = λ _. blank;
-  }
-
-  first_leaves : (now : D) → ◌≡◌ {A = Option Life} s.life None → s.kept ≡ Some formatted_log → IsBlank start len disk0 → (tells → KeepsFirst told may_leave now) → Leaves tells told may_leave start len disk0 now s
-  first_leaves now none some blank keeps = log_leaves now none some blank (λ t. (first_holds told may_leave now (keeps t), (keeps t).only))
-
-  pub leaves_out : (disk : D) (formatted : Bool) → Out tells told may_leave start len disk0 disk formatted s → Leaves tells told may_leave start len disk0 disk s
-  leaves_out disk formatted h = by formatted h.kept h.device
-    where
-      by : (b : Bool) → KeptBy b s.kept → DiskBy tells told may_leave start len disk0 disk b → Leaves tells told may_leave start len disk0 disk s
-      by false kept same = record {
-        now = λ t. none_kept (λ k. k ≡ told disk0) s.life s.kept (told disk) h.life kept (ap told same);
-        crash = λ t c left. none_kept (may_leave disk0) s.life s.kept c h.life kept (subst (λ (d : D). may_leave d c) same left);
-        blank = λ some. absurd (some kept);
-      }
-      by true kept made = first_leaves disk h.life kept made.0 made.1
-
--- ---- outside of a life
-
-module _ {D : Type 0} (tells : Type 0) (told : D → Kept) (may_leave : D → Kept → Type 0) (start len : D → ℕ) (disk0 disk : D) (s : Stage) (formatted : Bool) (h : Out tells told may_leave start len disk0 disk formatted s) where
-  here_out : Leaves tells told may_leave start len disk0 disk s
-  here_out = leaves_out tells told may_leave start len disk0 s disk formatted h
-
-  pub did_nothing_out : (out : List ℕ) → out ≡ [] → Adds (Out tells told may_leave start len disk0 disk formatted) s commands.Nothing out
-  did_nothing_out out is = record {
-    entries = [];
-    fits = record { lawful = refl; row = refl };
-    holds = record { past = h.past; kept = h.kept; life = ap (λ (o : Option Life). longer o []) h.life; active = h.active; device = h.device };
-    lines = is;
-  }
-
-  unlived : longer s.life [] ≡ None
-  unlived = ap (λ (o : Option Life). longer o []) h.life
-
-  lawful_out : no_life s.life ≡ true
-  lawful_out = ap no_life h.life
-
-  right_still : All IsRightLife (lives_of (longer s.life []) s.past)
-  right_still = subst (λ (x : Option Life). All IsRightLife (lives_of x s.past)) (sym unlived) h.past
-
-  -- the disk is as before
-  same_out : formatted ≡ false → disk ≡ disk0
-  same_out is = subst (DiskBy tells told may_leave start len disk0 disk) is h.device
-
-  unmade : formatted ≡ false → ◌≡◌ {A = Option (List Record)} s.kept None
-  unmade is = subst (λ (b : Bool). KeptBy b s.kept) is h.kept
-
-  made : formatted ≡ true → ◌≡◌ {A = Option (List Record)} s.kept (Some formatted_log)
-  made is = subst (λ (b : Bool). KeptBy b s.kept) is h.kept
-
-  log_disk : formatted ≡ true → IsBlank start len disk0 × (tells → KeepsFirst told may_leave disk)
-  log_disk is = subst (DiskBy tells told may_leave start len disk0 disk) is h.device
-
-  -- a line that isn't lawful, or asks for what isn't built
-  pub ends_out : (c : Command) (line : ℕ) (status : Status) → status ≢ statuses.LogFault → RefusesAt tells may_leave start len disk0 disk s c line status → EndsRun tells told may_leave start len disk0 disk s c line status
-  ends_out c line status other why = record { why = why; leaves = λ _. here_out }
-
-  -- no store was formatted
-  pub unformatted : (line : ℕ) → formatted ≡ false → EndsRun tells told may_leave start len disk0 disk s commands.Open line (statuses.NotBuilt line)
-  unformatted line is_not = record { why = (refl, lawful_out, λ t. unmade is_not); leaves = λ _. here_out }
-
-  pub has_limit : (limit line : ℕ) → EndsRun tells told may_leave start len disk0 disk s (commands.Format (Some limit)) line (statuses.NotBuilt line)
-  has_limit limit line = record { why = (refl, lawful_out, inl (λ q. cc)); leaves = λ _. here_out }
-
-  pub not_blank : (line : ℕ) → (formatted ≡ true) ⊎ (start disk ≢ 0) ⊎ (len disk ≢ 0) → EndsRun tells told may_leave start len disk0 disk s (commands.Format None) line (statuses.NotBuilt line)
-  not_blank line why = record { why = (refl, lawful_out, by formatted refl why); leaves = λ _. here_out }
-    where
-      by : (b : Bool) → formatted ≡ b → (formatted ≡ true) ⊎ (start disk ≢ 0) ⊎ (len disk ≢ 0) → IsNotBuilt tells (start disk0) (len disk0) s (commands.Format None)
-      by true is any = inr (inl (λ none. absurd (let e : ◌≡◌ {A = Option (List Record)} None (Some formatted_log) = sym none ∙ made is in cc)))
-      by false is (inl has) = absurd (let e : false ≡ true = sym is ∙ has in cc)
-      by false is (inr (inl from)) = inr (inr (inl (λ none. from (ap start (same_out is) ∙ none))))
-      by false is (inr (inr upto)) = inr (inr (inr (λ none. upto (ap len (same_out is) ∙ none))))
-
-  -- a format
-  module _ (is_not : formatted ≡ false) (blank : IsBlank start len disk) where
-    blank0 : IsBlank start len disk0
-    blank0 = subst (IsBlank start len) (same_out is_not) blank
-
-    pub did_format : (now : D) (out : List ℕ) → (tells → KeepsFirst told may_leave now) → out ≡ codes "format ok\n" → Adds (Out tells told may_leave start len disk0 now true) s (commands.Format None) out
-    did_format now out keeps is = record {
-      entries = [];
-      fits = record { lawful = lawful_out; row = (refl, refl, unmade is_not) };
-      holds = record { past = h.past; kept = refl; life = h.life; active = h.active; device = (blank0, keeps) };
-      lines = is;
-    }
-
-    still_blank : (now : D) → (tells → (told now ≡ told disk) × NoMore may_leave disk now) → Leaves tells told may_leave start len disk0 now s
-    still_blank now same = record {
-      now = λ t. subst (λ (k : Kept). KeepsFor (λ x. x ≡ told disk0) s.life s.kept k) (sym (same t).0) (here_out.now t);
-      crash = λ t c left. here_out.crash t c ((same t).1 c left);
-      blank = λ some. absurd (some (unmade is_not));
-    }
-
-    -- the log isn't made
-    pub ends_format : (now : D) (line : ℕ) (status : Status) → IsFormatRefusal status → (tells → LeavesBlank told may_leave disk now status) → EndsRun tells told may_leave start len disk0 now s (commands.Format None) line status
-    ends_format now line statuses.Memory kind left = record { why = tt; leaves = λ _. still_blank now left }
-    ends_format now line statuses.LogFault kind left = record {
-      why = record {
-        entries = [];
-        fits = record { lawful = lawful_out; row = refl };
-        right = right_still;
-        leaves = λ t k crash. ⊎_elim (λ before. inl (subst (λ (d : D). may_leave d k) (same_out is_not) before)) (λ some. inr some) (left t k crash);
-      };
-      leaves = λ other. absurd (other refl);
-    }
-    ends_format now line _ kind left = absurd kind
-
-  -- an opening
-  module _ (is_formatted : formatted ≡ true) where
-    blank_first : IsBlank start len disk0
-    blank_first = (log_disk is_formatted).0
-
-    -- the disk fails before anything is entered
-    cut_open : (now : D) → (tells → KeepsFirst told may_leave now) → CutAt tells may_leave disk0 now s commands.Open
-    cut_open now keeps = record {
-      entries = [];
-      fits = record { lawful = lawful_out; row = refl };
-      right = right_still;
-      leaves = λ t k crash. log_kept (may_leave disk0) (longer s.life []) s.kept k unlived (made is_formatted) (subst (HoldsLog formatted_log) (sym ((keeps t).only k crash)) (first_holds told may_leave now (keeps t)));
-    }
-
-    pub ends_open : (now : D) (line : ℕ) (status : Status) → IsOpenRefusal line status → (tells → KeepsFirst told may_leave disk → IsDiskFault status) → (tells → KeepsFirst told may_leave disk → KeepsFirst told may_leave now) → EndsRun tells told may_leave start len disk0 now s commands.Open line status
-    ends_open now line status kind met keeps = record { why = why status kind (λ t. met t ((log_disk is_formatted).1 t)); leaves = λ _. first_leaves tells told may_leave start len disk0 s now h.life (made is_formatted) blank_first here }
-      where
-        here : tells → KeepsFirst told may_leave now
-        here t = keeps t ((log_disk is_formatted).1 t)
-
-        why : (status : Status) → IsOpenRefusal line status → (tells → IsDiskFault status) → RefusesAt tells may_leave start len disk0 now s commands.Open line status
-        why statuses.Memory kind met = tt
-        why statuses.LogFault kind met = cut_open now here
-        why (statuses.LogBad block byte) kind met = tt
-        why statuses.NotFormatted kind met = (tt, λ t. met t)
-        why (statuses.NotBuilt n) kind met = (kind, lawful_out, λ t. absurd (met t))
-        why _ kind met = absurd kind
-
-    module _ (rows : List LeafRow) (head : ℕ) (session : Option Session) (next count : ℕ) (log : LogState D) (no_rows : rows ≡ []) (one : head ≡ 1) (none : ◌≡◌ {A = Option Session} session None) (first : next ≡ 1) (zero_count : count ≡ 0) (two : log.next ≡ 2)
-        (fresh : log.pending ≡ []) (opens : tells → KeepsFirst told may_leave disk → KeepsLog told may_leave log formatted_log) where
-      pub did_open : (out : List ℕ) → out ≡ codes "open commits=" ++ decimal count ++ codes " losers=0\n" → Adds (Inside tells told may_leave start len disk0 rows head session next count log) s commands.Open out
-      did_open out is =
-          let kept : s.kept ≡ Some formatted_log = made is_formatted in
-          record {
-            entries = [];
-            fits = record { lawful = lawful_out; row = (refl, (formatted_log, kept)) };
-            holds = record {
-              past = h.past;
-              kept = kept;
-              blank = blank_first;
-              life = record {
-                history = [];
-                lsn = 1;
-                is = ap opened kept;
-                names = sym (ap actives none);
-                calm = subst (λ (n : ℕ). Calm formatted_log [] rows head (opened_by session) next n 1) (sym zero_count)
-                    (subst (λ (n : ℕ). Calm formatted_log [] rows head (opened_by session) n 0 1) (sym first)
-                    (subst (λ (o : Option Session). Calm formatted_log [] rows head (opened_by o) 1 0 1) (sym none)
-                    (subst (λ (n : ℕ). Calm formatted_log [] rows n None 1 0 1) (sym one)
-                    (subst (λ (rs : List LeafRow). Calm formatted_log [] rs 1 None 1 0 1) (sym no_rows) (calm_start 16384 refl)))));
-                place = omega (arith, two, ap records_by none);
-                disk = record {
-                  durable = [];
-                  waiting = [];
-                  whole = refl;
-                  uncommitted = refl;
-                  waits = subst (λ (o : Option Session). Waits o []) (sym none) refl;
-                  none = fresh;
-                  keeps = λ t. subst (KeepsLog told may_leave log) (sym (append-nil formatted_log)) (opens t ((log_disk is_formatted).1 t));
-                };
-              };
-            };
-            lines = is ∙ ap (λ (n : ℕ). codes "open commits=" ++ decimal n ++ codes " losers=0\n") (zero_count ∙ sym (ap (λ (k : Option (List Record)). commits (kept_log k)) kept));
-          }
-
-      -- its line wants memory
-      pub not_opened : (line : ℕ) → EndsRun tells told may_leave start len disk0 log.device s commands.Open line statuses.Memory
-      not_opened line = record { why = tt; leaves = λ _. log_leaves tells told may_leave start len disk0 s log.device h.life (made is_formatted) blank_first held }
-        where
-          held : tells → HoldsLog formatted_log (told log.device) × Only (told log.device) (may_leave log.device)
-          held t = let k = opens t ((log_disk is_formatted).1 t) in ((k.0, k.1.stands, k.2), k.1.only)
+use Rattle.runner.proofs.Lists.{any_taken, commits_append, first_kept_is, next_is, take_drop}
+use Rattle.runner.proofs.Lives.{calm_left, keeps_same, left_stands, right_more, safe_in}
 
 -- ---- names
 
@@ -253,7 +70,7 @@ only : (b : Bool) → (b || false) ≡ b
 only true = refl
 only false = refl
 
-pub known : (session : Option Session) (name : List ℕ) → is_known (actives session) name ≡ is_active session name
+known : (session : Option Session) (name : List ℕ) → is_known (actives session) name ≡ is_active session name
 known None name = refl
 known (Some z) name = only (same_text name z.name)
 
@@ -261,340 +78,616 @@ pub is_named : (session : Option Session) (name : List ℕ) → is_active sessio
 is_named None name h = absurd cc
 is_named (Some z) name h = (z, refl, h)
 
+pub begins_some : (name : List ℕ) (tx : ℕ) (o : Option Session) → Begins name tx o → (z : Session) × (o ≡ Some z) × (z.name ≡ name) × (z.tx ≡ tx) × (z.last ≡ 0) × (z.puts ≡ 0)
+begins_some name tx None h = absurd h
+begins_some name tx (Some z) h = (z, refl, h.0, h.1, h.2, h.3)
+
+-- ---- a calm life by other words for its numbers
+
+pub calm_as : (opening : List Record) (h : List Entry) (rows rows' : List LeafRow) (top top' : ℕ) (active active' : Option Opened) (next next' count count' lsn lsn' : ℕ) → rows' ≡ rows → top' ≡ top → active' ≡ active → next' ≡ next → count' ≡ count → lsn' ≡ lsn
+    → Calm opening h rows top active next count lsn → Calm opening h rows' top' active' next' count' lsn'
+calm_as opening h rows rows' top top' active active' next next' count count' lsn lsn' r t a n c l calm =
+    subst (λ (x : List LeafRow). Calm opening h x top' active' next' count' lsn') (sym r)
+    (subst (λ (x : ℕ). Calm opening h rows x active' next' count' lsn') (sym t)
+    (subst (λ (x : Option Opened). Calm opening h rows top x next' count' lsn') (sym a)
+    (subst (λ (x : ℕ). Calm opening h rows top active x count' lsn') (sym n)
+    (subst (λ (x : ℕ). Calm opening h rows top active next x lsn') (sym c)
+    (subst (λ (x : ℕ). Calm opening h rows top active next count x) (sym l) calm)))))
+
+-- nothing is committed in entries without a Commit
+same_count : (opening : List Record) (h es : List Entry) (n : ℕ) → commits (log_of es) ≡ 0 → commits (life_log opening h) ≡ n → commits (life_log opening (h ++ es)) ≡ n
+same_count opening h es n none e =
+    ap (λ (rs : List Record). commits (opening ++ rs)) (log_of_append h es) ∙ ap commits (sym (append_assoc opening (log_of h) (log_of es))) ∙ commits_append (opening ++ log_of h) (log_of es) ∙ omega (arith, none, e)
+
+-- one Commit is entered
+one_commit : (opening : List Record) (h es : List Entry) (n : ℕ) → commits (log_of es) ≡ 1 → commits (life_log opening h) ≡ n → commits (life_log opening (h ++ es)) ≡ n + 1
+one_commit opening h es n one e =
+    ap (λ (rs : List Record). commits (opening ++ rs)) (log_of_append h es) ∙ ap commits (sym (append_assoc opening (log_of h) (log_of es))) ∙ commits_append (opening ++ log_of h) (log_of es) ∙ omega (arith, one, e)
+
+-- nothing enters the log
+same_records : (h es : List Entry) (durable waiting : List Record) → log_of es ≡ [] → log_of h ≡ durable ++ waiting → log_of (h ++ es) ≡ durable ++ waiting
+same_records h es durable waiting none e = log_of_append h es ∙ ap (λ (rs : List Record). log_of h ++ rs) none ∙ append-nil (log_of h) ∙ e
+
+-- the open transaction has one put more
+has_put : (lsn : ℕ) (z : Session) (new : Option Session) → HasPut lsn (Some z) new → (z' : Session) × (actives new ≡ record { name = z.name; tx = z.tx } ∷ []) × (opened_by new ≡ Some (with_write (record { session = z.tx; tx = z.tx; last_lsn = z.last; writes = z.puts }) lsn))
+has_put lsn z None h = absurd h
+has_put lsn z (Some z') h = (
+  z',
+  (λ i. record { name = h.0 i; tx = h.1 i } ∷ []),
+  (λ i. let x : Opened = record { session = h.1 i; tx = h.1 i; last_lsn = h.2 i; writes = h.3 i } in Some x),
+)
+
+-- ---- the page
+
+some_same : (a b : PageState) → ◌≡◌ {A = Option PageState} (Some a) (Some b) → a ≡ b
+some_same a b e = cc
+
+fitting : (x : Option PageState) (s : PageState) → x ≡ Some s → OnPage (λ s. state_size s ≤ page_room) x → state_size s ≤ page_room
+fitting x s e (s', e', size) = subst (λ (y : PageState). state_size y ≤ page_room) (some_same s' s (sym e' ∙ e)) size
+
+-- a put that is redone on a leaf with all keys
+did_fit : (w : Record) (page page' : Option PageState) (o : Opened) (top : ℕ) (rows : List LeafRow) (key value : List ℕ) → w ≡ written o top rows key value → page ≡ Some (only_leaf rows) → Redone w 1 page page' true
+    → (page' ≡ Some (only_leaf (with_row rows key value))) × (state_size (only_leaf (with_row rows key value)) ≤ page_room)
+unfolding applied
+did_fit w page page' o top rows key value is leaf redone =
+    let made : applied (written o top rows key value) 1 (Some (only_leaf rows)) ≡ Some (only_leaf (with_row rows key value)) = refl in
+    let same : applied w 1 page ≡ Some (only_leaf (with_row rows key value)) = (λ i. applied (is i) 1 (leaf i)) ∙ made in
+    (redone.1 ∙ same, fitting (applied w 1 page) (only_leaf (with_row rows key value)) same redone.0.applicable.fits)
+
+not_fit : (w : Record) (page : Option PageState) (o : Opened) (top : ℕ) (rows : List LeafRow) (key value : List ℕ) → w ≡ written o top rows key value → page ≡ Some (only_leaf rows) → (IsRedoable w 1 page → ⊥)
+    → page_room < state_size (only_leaf (with_row rows key value))
+unfolding applied CanApply
+not_fit w page o top rows key value is leaf not = by (nat_le (state_size (only_leaf (with_row rows key value))) page_room) refl
+  where
+    redoable : state_size (only_leaf (with_row rows key value)) ≤ page_room → IsRedoable (written o top rows key value) 1 (Some (only_leaf rows))
+    redoable size = record {
+      names = refl;
+      applicable = record {
+        can = (only_leaf rows, refl, record { at = record { leaf = refl; own = all_own rows key }; value = refl });
+        fits = (only_leaf (with_row rows key value), refl, size);
+      };
+    }
+
+    by : (b : Bool) → nat_le (state_size (only_leaf (with_row rows key value))) page_room ≡ b → page_room < state_size (only_leaf (with_row rows key value))
+    by true e = absurd (not (subst (λ (x : Record). IsRedoable x 1 page) (sym is) (subst (λ (x : Option PageState). IsRedoable (written o top rows key value) 1 x) (sym leaf) (redoable (leb-true _ _ e)))))
+    by false e = leb-false _ _ e
+
 -- ---- in a life
 
-module _ {D : Type 0} (tells : Type 0) (told : D → Kept) (may_leave : D → Kept → Type 0) (start len : D → ℕ) (disk0 : D) (s : Stage) (rows : List LeafRow) (head : ℕ) (session : Option Session) (next count : ℕ) (log : LogState D)
-    (h : Inside tells told may_leave start len disk0 rows head session next count log s) where
-  pub known_here : (name : List ℕ) → is_known s.active name ≡ is_active session name
-  known_here name = ap (λ (names : List Active). is_known names name) h.life.names ∙ known session name
+module _ {D : Type 0} (L : Ghosts D) where
+  pub runs_of : (log : LogState D) (standing : Standing) (l : Life) (e : Option ℕ) → LivesOn L log standing l e → e ≡ None → Runs L log standing l
+  runs_of log standing l e h none = subst (LivesOn L log standing l) none h
 
-  pub no_name : (name : List ℕ) → is_active session name ≡ false → is_known s.active name ≡ false
-  no_name name e = known_here name ∙ e
+  pub runs_on : (log : LogState D) (standing : Standing) (l : Life) (e : Option ℕ) → e ≡ None → Runs L log standing l → LivesOn L log standing l e
+  runs_on log standing l e none h = subst (LivesOn L log standing l) (sym none) h
 
-  pub living : no_life s.life ≡ false
-  living = ap no_life h.life.is
+  module _ (s : Stage) (log : LogState D) (standing : Standing) (h : In L log standing s) where
+    pub living : no_life s.life ≡ false
+    living = ap no_life h.life
 
-  -- a begin of a name that is active
-  pub begun_twice : (name : List ℕ) → is_active session name ≡ true → is_lawful s (commands.Begin name) ≡ false
-  begun_twice name e = rw (living, no_name_is) refl
-    where
-      no_name_is : is_known s.active name ≡ true
-      no_name_is = known_here name ∙ e
+    known_here : (name : List ℕ) → is_known s.active name ≡ is_active standing.session name
+    known_here name = ap (λ (names : List Active). is_known names name) h.active ∙ known standing.session name
 
-  pub may_begin : (name : List ℕ) → is_active session name ≡ false → is_lawful s (commands.Begin name) ≡ true
-  may_begin name e = rw (living, no_name name e) refl
+    pub leaves_here : Leaves L log.device s
+    leaves_here = (safe_in L log standing s h).leaves
 
-  pub did_nothing : (out : List ℕ) → out ≡ [] → Adds (Inside tells told may_leave start len disk0 rows head session next count log) s commands.Nothing out
-  did_nothing out is = record {
-    entries = [];
-    fits = record { lawful = refl; row = refl };
-    holds = record {
-      past = h.past;
-      kept = h.kept;
-      blank = h.blank;
-      life = record {
-        history = h.life.history;
-        lsn = h.life.lsn;
-        is = ap (λ (o : Option Life). longer o []) h.life.is ∙ ap (λ (x : List Entry). let l : Life = record { opening = formatted_log; history = x } in Some l) (append_nothing h.life.history);
-        names = h.life.names;
-        calm = h.life.calm;
-        place = h.life.place;
-        disk = h.life.disk;
-      };
-    };
-    lines = is;
-  }
-    where
-      append_nothing : (x : List Entry) → x ++ [] ≡ x
-      append_nothing [] = refl
-      append_nothing (e ∷ es) = ap (λ (x : List Entry). e ∷ x) (append_nothing es)
+    -- a line that isn't lawful
+    pub unlawful : (c : Command) (line : ℕ) → is_lawful s c ≡ false → RefusesAt L log.device s c line (statuses.Script line)
+    unlawful c line is = (refl, is, leaves_here)
 
-  pub did_begin : (new : Option Session) (z : Session) (name out : List ℕ) (next' : ℕ) → session ≡ None → new ≡ Some z → z.name ≡ name → z.tx ≡ next → z.last ≡ 0 → z.records ≡ 0 → z.batch.blocks ≡ [] → next' ≡ next + 1 → out ≡ name ++ codes " begin\n"
-      → Adds (Inside tells told may_leave start len disk0 rows head new next' count log) s (commands.Begin name) out
-  did_begin new z name out next' none some named number last records no_blocks more is =
-      let l = h.life in
-      let idle : s.active ≡ [] = l.names ∙ ap actives none in
-      let calm : Calm formatted_log l.history rows head None next count l.lsn = subst (λ (o : Option Session). Calm formatted_log l.history rows head (opened_by o) next count l.lsn) none l.calm in
-      let e : Entry = Began next next in
-      let active : opened_by new ≡ Some (begun next next) = ap opened_by some ∙ (λ i. let o : Opened = record { session = number i; tx = number i; last_lsn = last i; writes = records i } in Some o) in
-      record {
-        entries = e ∷ [];
-        fits = record { lawful = rw (living, idle) refl; row = (idle, next, next, refl) };
-        holds = record {
-          past = h.past;
-          kept = h.kept;
-          blank = h.blank;
-          life = record {
-            history = l.history ++ e ∷ [];
-            lsn = l.lsn;
-            is = ap (λ (o : Option Life). longer o (e ∷ [])) l.is;
-            names = (λ i. record { name = sym named i; tx = sym number i } ∷ idle i) ∙ sym (ap actives some);
-            calm = subst (λ (n : ℕ). Calm formatted_log (l.history ++ e ∷ []) rows head (opened_by new) n count l.lsn) (sym more)
-                (subst (λ (o : Option Opened). Calm formatted_log (l.history ++ e ∷ []) rows head o (next + 1) count l.lsn) (sym active) (calm_begin formatted_log l.history rows head next count l.lsn calm));
-            place = omega (arith, l.place, ap records_by none, ap records_by some, records);
-            disk = record {
-              durable = l.disk.durable;
-              waiting = l.disk.waiting;
-              whole = log_of_append l.history (e ∷ []) ∙ append-nil (log_of l.history) ∙ l.disk.whole;
-              uncommitted = l.disk.uncommitted;
-              waits = subst (λ (o : Option Session). Waits o l.disk.waiting) (sym some) (subst (λ (bs : List Block). Spells bs l.disk.waiting) (sym no_blocks) (subst (λ (o : Option Session). Waits o l.disk.waiting) none l.disk.waits));
-              none = l.disk.none;
-              keeps = l.disk.keeps;
-            };
-          };
-        };
-        lines = is;
-      }
+    pub begun_twice : (name : List ℕ) → is_active standing.session name ≡ true → is_lawful s (commands.Begin name) ≡ false
+    begun_twice name e = rw (living, known_here name ∙ e) refl
 
-  module _ (name : List ℕ) (z : Session) (has : session ≡ Some z) (same : same_text name z.name ≡ true) where
-    abbrev o : Opened
-    o = record { session = z.tx; tx = z.tx; last_lsn = z.last; writes = z.records }
+    pub unknown : (name : List ℕ) → is_active standing.session name ≡ false → is_known s.active name ≡ false
+    unknown name e = known_here name ∙ e
 
-    calm_here : Calm formatted_log h.life.history rows head (Some o) next count h.life.lsn
-    calm_here = subst (λ (x : Option Session). Calm formatted_log h.life.history rows head (opened_by x) next count h.life.lsn) has h.life.calm
+    pub may_begin : (name : List ℕ) → is_active standing.session name ≡ false → is_lawful s (commands.Begin name) ≡ true
+    may_begin name e = rw (living, known_here name ∙ e) refl
 
-    tx_here : tx_of s.active name ≡ Some z.tx
-    tx_here = rw (h.life.names, has, same) refl
+    -- another transaction is open
+    pub begun_beside : (name : List ℕ) (line : ℕ) → is_active standing.session name ≡ false → standing.session ≢ None → RefusesAt L log.device s (commands.Begin name) line (statuses.NotBuilt line)
+    begun_beside name line e some = (refl, may_begin name e, (λ none. some (closed standing.session (sym h.active ∙ none))), leaves_here)
+      where
+        closed : (o : Option Session) → ◌≡◌ {A = List Active} (actives o) [] → ◌≡◌ {A = Option Session} o None
+        closed None q = refl
+        closed (Some z) q = absurd cc
 
-    pub lawful_here : is_known s.active name ≡ true
-    lawful_here = rw (h.life.names, has, same) refl
+    pub did_nothing : (out : List ℕ) → out ≡ [] → Adds L.tells (In L log standing) s commands.Nothing out
+    did_nothing out is = record { turn = turn commands.Nothing [] Done; is = refl; fits = record { goes = h.goes; lawful = refl; row = refl }; holds = h; lines = is }
 
-    gone : without s.active name ≡ []
-    gone = rw (h.life.names, has, same) refl
+    -- the life has ended
+    pub did_end : (c : Command) (n : ℕ) (out : List ℕ) → log.ended ≡ Some n → is_lawful s c ≡ true → EndedRow c [] → out ≡ head c ++ codes " ended " ++ decimal n ++ codes "\n" → Adds L.tells (In L log standing) s c out
+    did_end c n out ended lawful row is = record { turn = turn c [] (Ended n); is = refl; fits = record { goes = h.goes; lawful = lawful; row = (h.ended ∙ ended, row) }; holds = h; lines = is }
 
-    pub did_get : (key out : List ℕ) (found : Option (List ℕ)) → found ≡ live rows key → out ≡ name ++ codes " get " ++ escaped key ++ shown found ++ codes "\n" → Adds (Inside tells told may_leave start len disk0 rows head session next count log) s (commands.Ask name (requests.Get key)) out
-    did_get key out found value is =
-        let l = h.life in
-        let es = get_entries o rows key in
-        let lock : Entry = Lock z.tx (point key) Shared in
+    pub running : log.ended ≡ None → Runs L log standing h.here
+    running none = runs_of log standing h.here log.ended h.lives none
+
+    not_ended : log.ended ≡ None → s.ended ≡ None
+    not_ended none = h.ended ∙ none
+
+    -- one turn more in a life that goes on, behind which it goes on
+    more : (none : log.ended ≡ None) (es : List Entry) (log' : LogState D) (standing' : Standing) (s' : Stage) → s'.past ≡ s.past → s'.life ≡ longer s.life es → s'.active ≡ actives standing'.session → s'.ended ≡ s.ended → s'.cut ≡ s.cut → s'.armed ≡ s.armed
+        → log'.ended ≡ log.ended → log'.device ≡ log.device → Runs L log' standing' (record { opening = h.here.opening; history = h.here.history ++ es }) → In L log' standing' s'
+    more none es log' standing' s' past life active ended cut armed ended' same runs = record {
+      past = λ t. subst (All IsRightLife) (sym past) (h.past t);
+      here = record { opening = h.here.opening; history = h.here.history ++ es };
+      life = life ∙ ap (λ (o : Option Life). longer o es) h.life;
+      active = active;
+      ended = ended ∙ h.ended ∙ sym ended';
+      goes = cut ∙ h.goes;
+      fused = subst (λ (b : Bool). IsFused L log'.device b) (sym armed) (subst (λ (d : D). IsFused L d s.armed) (sym same) h.fused);
+      lives = runs_on log' standing' (record { opening = h.here.opening; history = h.here.history ++ es }) log'.ended (ended' ∙ none) runs;
+    }
+
+    -- a transaction begins
+    pub did_begin : (none : log.ended ≡ None) (log' : LogState D) (standing' : Standing) (name out : List ℕ) → standing.session ≡ None → Begins name standing.next standing'.session → standing'.next ≡ standing.next + 1 → log' ≡ log
+        → standing'.page ≡ standing.page → standing'.head ≡ standing.head → standing'.commits ≡ standing.commits → standing'.limit ≡ standing.limit → out ≡ name ++ codes " begin\n" → Adds L.tells (In L log' standing') s (commands.Begin name) out
+    did_begin none log' standing' name out closed begins next same page head count limit is =
+        let z = begins_some name standing.next standing'.session begins in
+        let idle : s.active ≡ [] = h.active ∙ ap actives closed in
+        let e : Entry = Began standing.next standing.next in
+        let r = running none in
+        let opened : opened_by standing'.session ≡ Some (begun standing.next standing.next) = ap opened_by z.1 ∙ (λ i. let o : Opened = record { session = z.3 i; tx = z.3 i; last_lsn = z.4 i; writes = z.5 i } in Some o) in
+        let t : Turn = turn (commands.Begin name) (e ∷ []) Done in
         record {
-          entries = es;
-          fits = record {
-            lawful = lawful_here;
-            row = (tt, subst (λ (x : Option ℕ). Answers x (requests.Get key) es) (sym tx_here) (lock ∷ [], z.tx, replies.Found (live rows key), refl, All-cons (IsAid z.tx (requests.Get key)) lock [] (refl, refl, refl) (All-nil (IsAid z.tx (requests.Get key)))));
-          };
-          holds = record {
-            past = h.past;
-            kept = h.kept;
-            blank = h.blank;
-            life = record {
-              history = l.history ++ es;
-              lsn = l.lsn;
-              is = ap (λ (x : Option Life). longer x es) l.is;
-              names = l.names;
-              calm = subst (λ (x : Option Session). Calm formatted_log (l.history ++ es) rows head (opened_by x) next count l.lsn) (sym has) (calm_get formatted_log l.history rows head o next count l.lsn calm_here key);
-              place = l.place;
-              disk = record {
-                durable = l.disk.durable;
-                waiting = l.disk.waiting;
-                whole = log_of_append l.history es ∙ append-nil (log_of l.history) ∙ l.disk.whole;
-                uncommitted = l.disk.uncommitted;
-                waits = l.disk.waits;
-                none = l.disk.none;
-                keeps = l.disk.keeps;
-              };
-            };
-          };
-          lines = is ∙ ap (λ (v : Option (List ℕ)). name ++ codes " get " ++ escaped key ++ shown v ++ codes "\n") value;
-        }
-
-    waits_here : Spells z.batch.blocks h.life.disk.waiting
-    waits_here = subst (λ (x : Option Session). Waits x h.life.disk.waiting) has h.life.disk.waits
-
-    written_by : (new : Option Session) (lsn : ℕ) (key value : List ℕ) → HasWritten lsn head key (live rows key) value (Some z) new
-        → (actives new ≡ actives (Some z)) × (opened_by new ≡ Some (with_write o lsn)) × (records_by new ≡ z.records + 1) × Waits new (h.life.disk.waiting ++ written o head rows key value ∷ [])
-    written_by None lsn key value w = absurd w
-    written_by (Some y) lsn key value (names, number, last, records, entered) = (
-      (λ i. record { name = names i; tx = number i } ∷ []),
-      (λ i. let x : Opened = record { session = number i; tx = number i; last_lsn = last i; writes = records i } in Some x),
-      records,
-      subst (λ (bs : List Block). Spells bs (h.life.disk.waiting ++ written o head rows key value ∷ [])) (sym entered) (spells_more z.batch.blocks h.life.disk.waiting (written o head rows key value) waits_here),
-    )
-
-    -- the transaction may have another put
-    may_put : z.records < 4000 → MayPut (log_of_life s.life) (tx_of s.active name)
-    may_put few =
-        subst (MayPut (log_of_life s.life)) (sym tx_here) (subst (λ (x : Option Life). length (open_writes (log_of_life x) z.tx) < 4000) (sym h.life.is) (omega (arith, few, calm_here.log.opened.mine)))
-
-    pub did_put : (new : Option Session) (rows' : List LeafRow) (head' lsn : ℕ) (key value out : List ℕ) → HasWritten lsn head key (live rows key) value session new → lsn ≡ log.next + records_by session → head' ≡ lsn → rows' ≡ with_row rows key value
-        → IsTrue (is_key key) → IsTrue (is_value value) → sum_by leaf_row_size rows' ≤ row_room → z.records < 4000 → lsn < 2 ^ 62 → next < 2 ^ 62
-        → out ≡ name ++ codes " put " ++ escaped key ++ (codes " was" ++ shown (live rows key)) ++ codes "\n"
-        → Adds (Inside tells told may_leave start len disk0 rows' head' new next count log) s (commands.Ask name (requests.Put key value)) out
-    did_put new rows' head' lsn key value out w place top put k v size few low low_next is =
-        let l = h.life in
-        let es = put_entries o head rows l.lsn key value in
-        let lock : Entry = Lock z.tx (point key) Exclusive in
-        let write : Entry = Rec (l.lsn + 1) (written o head rows key value) in
-        let here : lsn ≡ l.lsn + 1 = place ∙ sym l.place in
-        let by = written_by new lsn key value (subst (λ (x : Option Session). HasWritten lsn head key (live rows key) value x new) has w) in
-        let room : state_size (only_leaf (with_row rows key value)) ≤ page_room = fits_by (with_row rows key value) (subst (λ (rs : List LeafRow). sum_by leaf_row_size rs ≤ row_room) put size) in
-        let calm = calm_put formatted_log l.history rows head o next count l.lsn calm_here key value k v room (omega (arith, few)) (omega (arith, low, here)) (omega (arith, low_next)) in
-        record {
-          entries = es;
-          fits = record {
-            lawful = lawful_here;
-            row = (
-              may_put few,
-              subst (λ (x : Option ℕ). Answers x (requests.Put key value) es) (sym tx_here) (
-                lock ∷ write ∷ [],
-                z.tx,
-                replies.Was (live rows key),
-                refl,
-                All-cons (IsAid z.tx (requests.Put key value)) lock (write ∷ []) (refl, refl, refl) (All-cons (IsAid z.tx (requests.Put key value)) write [] (refl, refl, refl) (All-nil (IsAid z.tx (requests.Put key value)))),
-              ),
-            );
-          };
-          holds = record {
-            past = h.past;
-            kept = h.kept;
-            blank = h.blank;
-            life = record {
-              history = l.history ++ es;
-              lsn = l.lsn + 1;
-              is = ap (λ (x : Option Life). longer x es) l.is;
-              names = l.names ∙ ap actives has ∙ sym by.0;
-              calm = subst (λ (rs : List LeafRow). Calm formatted_log (l.history ++ es) rs head' (opened_by new) next count (l.lsn + 1)) (sym put)
-                  (subst (λ (n : ℕ). Calm formatted_log (l.history ++ es) (with_row rows key value) n (opened_by new) next count (l.lsn + 1)) (sym (top ∙ here))
-                  (subst (λ (x : Option Opened). Calm formatted_log (l.history ++ es) (with_row rows key value) (l.lsn + 1) x next count (l.lsn + 1)) (sym (by.1 ∙ ap (λ (n : ℕ). Some (with_write o n)) here)) calm));
-              place = omega (arith, l.place, ap records_by has, by.2);
-              disk = record {
-                durable = l.disk.durable;
-                waiting = l.disk.waiting ++ written o head rows key value ∷ [];
-                whole = log_of_append l.history es ∙ ap (λ (rs : List Record). rs ++ written o head rows key value ∷ []) l.disk.whole ∙ append_assoc l.disk.durable l.disk.waiting (written o head rows key value ∷ []);
-                uncommitted = list_any-append is_commit l.disk.waiting (written o head rows key value ∷ []) ∙ ap (λ (b : Bool). b || false) l.disk.uncommitted;
-                waits = by.3;
-                none = l.disk.none;
-                keeps = l.disk.keeps;
-              };
-            };
-          };
+          turn = t;
+          is = refl;
+          fits = record { goes = h.goes; lawful = rw (living, idle) refl; row = (not_ended none, idle, standing.next, standing.next, refl) };
+          holds = more none (e ∷ []) log' standing' (stage_step s t) refl refl
+              ((λ i. record { name = sym z.2 i; tx = sym z.3 i } ∷ idle i) ∙ sym (ap actives z.1)) refl refl refl (ap (λ (x : LogState D). x.ended) same) (ap (λ (x : LogState D). x.device) same)
+              (record {
+                count = same_count h.here.opening h.here.history (e ∷ []) standing'.commits refl (r.count ∙ sym count);
+                lsn = r.lsn;
+                calm = λ t.
+                    let c = r.calm t in
+                    record {
+                      page = page ∙ c.page ∙ ap (λ (x : Option PageState). Some (only_leaf (rows_of x))) (sym page);
+                      calm = calm_as h.here.opening (h.here.history ++ e ∷ []) (rows_of standing.page) (rows_of standing'.page) standing.head standing'.head (Some (begun standing.next standing.next)) (opened_by standing'.session) (standing.next + 1) standing'.next standing.commits standing'.commits r.lsn r.lsn
+                          (ap rows_of page) head opened next count refl
+                          (calm_begin h.here.opening h.here.history (rows_of standing.page) standing.head standing.next standing.commits r.lsn (subst (λ (o : Option Session). Calm h.here.opening h.here.history (rows_of standing.page) standing.head (opened_by o) standing.next standing.commits r.lsn) closed c.calm));
+                      place = c.place ∙ ap (λ (x : LogState D). x.next) (sym same);
+                      limit = limit ∙ c.limit;
+                      first = ap (λ (x : LogState D). lsn_from x.places) same ∙ c.first;
+                      durable = c.durable;
+                      waiting = c.waiting;
+                      whole = same_records h.here.history (e ∷ []) c.durable c.waiting refl c.whole;
+                      uncommitted = c.uncommitted;
+                      stands = subst (λ (x : LogState D). IsLogOf L.told L.may_leave x (h.here.opening ++ c.durable) c.waiting) (sym same) c.stands;
+                    };
+              });
           lines = is;
         }
 
-    -- the transaction has its most puts already
-    pub has_most : 4000 ≤ z.records → HasMost (log_of_life s.life) (tx_of s.active name)
-    has_most most =
-        subst (HasMost (log_of_life s.life)) (sym tx_here) (subst (λ (x : Option Life). 4000 ≤ length (open_writes (log_of_life x) z.tx)) (sym h.life.is) (omega (arith, most, calm_here.log.opened.mine)))
+    -- ---- in the open transaction
 
-    -- the leaf has no room for the put
-    pub is_full : (key value : List ℕ) → row_room < sum_by leaf_row_size (with_row rows key value) → IsFull s (commands.Ask name (requests.Put key value))
-    is_full key value size =
-        (rows, ap (λ (x : Option Life). image (log_of_life x) 1) h.life.is ∙ calm_here.log.leaf, omega (arith, size))
+    module _ (name : List ℕ) (z : Session) (has : standing.session ≡ Some z) (named : same_text name z.name ≡ true) where
+      abbrev o : Opened
+      o = record { session = z.tx; tx = z.tx; last_lsn = z.last; writes = z.puts }
 
-    commits_are : (h' : List Entry) (rows' : List LeafRow) (head' : ℕ) (active : Option Opened) (next' count' lsn' : ℕ) → Calm formatted_log h' rows' head' active next' count' lsn' → commits (life_log formatted_log h') ≡ count'
-    commits_are h' rows' head' active next' count' lsn' c = c.log.commits_are
+      names_are : s.active ≡ record { name = z.name; tx = z.tx } ∷ []
+      names_are = h.active ∙ ap actives has
 
-    -- the records of its batch, with the Commit
-    spelled_commit : (blocks' : List Block) → blocks' ≡ with_group z.batch.blocks 1 0 (spelling (commit_record z.tx z.last)) → Spells (log.pending ++ numbered log.next blocks') (h.life.disk.waiting ++ committing o ∷ [])
-    spelled_commit blocks' entered =
-        let d = h.life.disk in
-        let spelled = spells_numbered log.next blocks' (d.waiting ++ committing o ∷ []) (subst (λ (bs : List Block). Spells bs (d.waiting ++ committing o ∷ [])) (sym entered) (spells_more z.batch.blocks d.waiting (committing o) waits_here)) in
-        subst (λ (bs : List Block). Spells (bs ++ numbered log.next blocks') (d.waiting ++ committing o ∷ [])) (sym d.none) spelled
+      pub tx_here : tx_of s.active name ≡ Some z.tx
+      tx_here = rw (names_are, named) refl
 
-    whole_commit : (more : List Entry) → log_of more ≡ [] → log_of (h.life.history ++ Rec (h.life.lsn + 1) (committing o) ∷ more) ≡ h.life.disk.durable ++ (h.life.disk.waiting ++ committing o ∷ [])
-    whole_commit more none =
-        let d = h.life.disk in
-        log_of_append h.life.history (Rec (h.life.lsn + 1) (committing o) ∷ more) ∙ (λ i. d.whole i ++ committing o ∷ none i) ∙ append_assoc d.durable d.waiting (committing o ∷ [])
+      pub lawful_here : is_known s.active name ≡ true
+      lawful_here = known_here name ∙ ap (λ (x : Option Session). is_active x name) has ∙ named
 
-    pub did_commit : (new : Option Session) (count' : ℕ) (log' : LogState D) (blocks' : List Block) (out : List ℕ) → ◌≡◌ {A = Option Session} new None → count' ≡ count + 1 → log'.next ≡ log.next + (z.records + 1) → log'.next < 2 ^ 62 → next < 2 ^ 62
-        → blocks' ≡ with_group z.batch.blocks 1 0 (spelling (commit_record z.tx z.last)) → log'.pending ≡ [] → (tells → (bs : List Block) → IsDurable told may_leave log bs → IsDurable told may_leave log' (bs ++ (log.pending ++ numbered log.next blocks')))
-        → out ≡ name ++ codes " commit " ++ decimal (count + 1) ++ codes "\n" → Adds (Inside tells told may_leave start len disk0 rows head new next count' log') s (commands.Commit name) out
-    did_commit new count' log' blocks' out none more later low low_next entered empty flushed is =
-        let l = h.life in
-        let es = commit_entries o l.lsn in
-        let calm = calm_commit formatted_log l.history rows head o next count l.lsn calm_here (omega (arith, low, later, l.place, ap records_by has)) (omega (arith, low_next)) in
-        let number = commits_are (l.history ++ es) rows head None next (count + 1) (l.lsn + 1) calm in
-        record {
-          entries = es;
-          fits = record {
-            lawful = lawful_here;
-            row = subst (λ (x : Option ℕ). Commits x es) (sym tx_here) (z.tx, l.lsn + 1, z.last, refl);
-          };
-          holds = record {
-            past = h.past;
-            kept = h.kept;
-            blank = h.blank;
-            life = record {
-              history = l.history ++ es;
-              lsn = l.lsn + 1;
-              is = ap (λ (x : Option Life). longer x es) l.is;
-              names = gone ∙ sym (ap actives none);
-              calm = subst (λ (x : Option Session). Calm formatted_log (l.history ++ es) rows head (opened_by x) next count' (l.lsn + 1)) (sym none) (subst (λ (n : ℕ). Calm formatted_log (l.history ++ es) rows head None next n (l.lsn + 1)) (sym more) calm);
-              place = omega (arith, l.place, later, ap records_by has, ap records_by none);
-              disk = record {
-                durable = l.disk.durable ++ (l.disk.waiting ++ committing o ∷ []);
-                waiting = [];
-                whole = whole_commit (Acked z.tx z.tx ∷ []) refl ∙ sym (append-nil (l.disk.durable ++ (l.disk.waiting ++ committing o ∷ [])));
-                uncommitted = refl;
-                waits = subst (λ (x : Option Session). Waits x []) (sym none) refl;
-                none = empty;
-                keeps = λ t.
-                    let k = l.disk.keeps t in (
-                      k.0 ++ (log.pending ++ numbered log.next blocks'),
-                      flushed t k.0 k.1,
-                      subst (Spells (k.0 ++ (log.pending ++ numbered log.next blocks'))) (append_assoc formatted_log l.disk.durable (l.disk.waiting ++ committing o ∷ []))
-                          (spells_append k.0 (log.pending ++ numbered log.next blocks') (formatted_log ++ l.disk.durable) (l.disk.waiting ++ committing o ∷ []) k.2 (spelled_commit blocks' entered)),
-                    );
-              };
+      opened_here : opened_by standing.session ≡ Some o
+      opened_here = ap opened_by has
+
+      -- entries that leave the log and the transaction as they are
+      asked : (none : log.ended ≡ None) (c : Command) (es : List Entry) → log_of es ≡ [] → (s' : Stage) → s'.past ≡ s.past → s'.life ≡ longer s.life es → s'.active ≡ s.active → s'.ended ≡ s.ended → s'.cut ≡ s.cut → s'.armed ≡ s.armed
+          → ((lsn : ℕ) → standing.limit ≡ limit_of h.here.opening → Calm h.here.opening h.here.history (rows_of standing.page) standing.head (Some o) standing.next standing.commits lsn → Calm h.here.opening (h.here.history ++ es) (rows_of standing.page) standing.head (Some o) standing.next standing.commits lsn)
+          → In L log standing s'
+      asked none c es silent s' past life active ended cut armed calms =
+          let r = running none in
+          more none es log standing s' past life (active ∙ h.active) ended cut armed refl refl (record {
+            count = same_count h.here.opening h.here.history es standing.commits (ap commits silent) r.count;
+            lsn = r.lsn;
+            calm = λ t.
+                let c = r.calm t in
+                record {
+                  page = c.page;
+                  calm = subst (λ (x : Option Opened). Calm h.here.opening (h.here.history ++ es) (rows_of standing.page) standing.head x standing.next standing.commits r.lsn) (sym opened_here)
+                      (calms r.lsn c.limit (subst (λ (x : Option Opened). Calm h.here.opening h.here.history (rows_of standing.page) standing.head x standing.next standing.commits r.lsn) opened_here c.calm));
+                  place = c.place;
+                  limit = c.limit;
+                  first = c.first;
+                  durable = c.durable;
+                  waiting = c.waiting;
+                  whole = same_records h.here.history es c.durable c.waiting silent c.whole;
+                  uncommitted = c.uncommitted;
+                  stands = c.stands;
+                };
+          })
+
+      pub did_get : (none : log.ended ≡ None) (key out : List ℕ) → out ≡ name ++ codes " get " ++ escaped key ++ shown (page_live standing.page key) ++ codes "\n" → Adds L.tells (In L log standing) s (commands.Ask name (requests.Get key)) out
+      did_get none key out is =
+          let es = get_entries o (rows_of standing.page) key in
+          let lock : Entry = Lock z.tx (point key) Shared in
+          let c : Command = commands.Ask name (requests.Get key) in
+          let t : Turn = turn c es Done in
+          record {
+            turn = t;
+            is = refl;
+            fits = record {
+              goes = h.goes;
+              lawful = lawful_here;
+              row = (
+                not_ended none,
+                tt,
+                subst (λ (x : Option ℕ). Answers L.tells (log_of_life s.life) x (requests.Get key) es) (sym tx_here) (
+                  lock ∷ [],
+                  Said z.tx z.tx (requests.Get key) (replies.Found (live (rows_of standing.page) key)),
+                  refl,
+                  (refl, refl, λ _. tt),
+                  All-cons (IsAid z.tx (requests.Get key)) lock [] (refl, refl, refl) (All-nil (IsAid z.tx (requests.Get key))),
+                ),
+              );
             };
-          };
-          lines = is ∙ ap (λ (n : ℕ). name ++ codes " commit " ++ decimal n ++ codes "\n") (sym number ∙ sym (ap (λ (x : Option Life). commits (log_of_life (longer x es))) l.is));
-        }
+            holds = asked none c es refl (stage_step s t) refl refl refl refl refl refl (λ lsn limit calm. calm_get h.here.opening h.here.history (rows_of standing.page) standing.head o standing.next standing.commits lsn calm key);
+            lines = is;
+          }
 
-    -- what a crash leaves of the commit's blocks: what was there, and some of them
-    left_of : (h' : List Entry) → IsRight formatted_log h.life.history → (calm' : IsRight formatted_log h') → (e : Entry) → h' ≡ h.life.history ++ e ∷ [] → ((t : ℕ) → list_any (acknowledges t) (e ∷ []) ≡ false)
-        → log_of h' ≡ h.life.disk.durable ++ (h.life.disk.waiting ++ committing o ∷ []) → list_any splits_page (life_log formatted_log h') ≡ false → (blocks' : List Block) → blocks' ≡ with_group z.batch.blocks 1 0 (spelling (commit_record z.tx z.last))
-        → tells → (k : Kept) → (bs : List Block) → Spells bs (formatted_log ++ h.life.disk.durable) → StandsForSome bs (log.pending ++ numbered log.next blocks') k
-        → (own : List Record) × IsLeft formatted_log h' own × HoldsLog (formatted_log ++ own) k
-    left_of h' right right' e is silent whole unsplit blocks' entered t k bs spelled some =
-        let d = h.life.disk in
-        let more = log.pending ++ numbered log.next blocks' in
-        let part = spells_take some.whole more (d.waiting ++ committing o ∷ []) (spelled_commit blocks' entered) in
-        let before : IsLeft formatted_log h.life.history d.durable = right.behind d.durable d.waiting d.whole d.uncommitted in
-        let kept : IsLeft formatted_log h' d.durable = subst (λ (x : List Entry). IsLeft formatted_log x d.durable) (sym is) (left_longer formatted_log h.life.history (e ∷ []) d.durable before silent) in
-        let parts : log_of h' ≡ (d.durable ++ part.0) ++ part.1 = whole ∙ ap (λ (rs : List Record). d.durable ++ rs) part.2 ∙ sym (append_assoc d.durable part.0 part.1) in (
-          d.durable ++ part.0,
-          left_more formatted_log h.life.calm.begins h' right'.legal unsplit d.durable part.0 part.1 kept parts,
-          (
-            bs ++ take some.whole more,
-            some.stands,
-            subst (Spells (bs ++ take some.whole more)) (append_assoc formatted_log d.durable part.0) (spells_append bs (take some.whole more) (formatted_log ++ d.durable) part.0 spelled part.3),
-          ),
-        )
+      -- a put that could not be undone
+      pub did_full : (none : log.ended ≡ None) (key value out : List ℕ) → standing.limit < z.puts + 3 → out ≡ name ++ codes " put " ++ escaped key ++ (codes " full " ++ decimal 1 ++ codes " " ++ decimal z.puts) ++ codes "\n" → Adds L.tells (In L log standing) s (commands.Ask name (requests.Put key value)) out
+      did_full none key value out over is =
+          let es = full_entries o key value in
+          let lock : Entry = Lock z.tx (point key) Exclusive in
+          let c : Command = commands.Ask name (requests.Put key value) in
+          let t : Turn = turn c es Done in
+          record {
+            turn = t;
+            is = refl;
+            fits = record {
+              goes = h.goes;
+              lawful = lawful_here;
+              row = (
+                not_ended none,
+                tt,
+                subst (λ (x : Option ℕ). Answers L.tells (log_of_life s.life) x (requests.Put key value) es) (sym tx_here) (
+                  lock ∷ [],
+                  Declined z.tx z.tx (requests.Put key value) (outcomes.Full 1 z.puts),
+                  refl,
+                  (refl, refl),
+                  All-cons (IsAid z.tx (requests.Put key value)) lock [] (refl, refl, refl) (All-nil (IsAid z.tx (requests.Put key value))),
+                ),
+              );
+            };
+            holds = asked none c es refl (stage_step s t) refl refl refl refl refl refl
+                (λ lsn limit calm. calm_declined h.here.opening h.here.history (rows_of standing.page) standing.head o standing.next standing.commits lsn calm key value (omega (arith, over, limit)));
+            lines = is;
+          }
 
-    -- the log disk fails when the commit is entered
-    pub cut_commit : (now : D) (blocks' : List Block) → log.next + z.records < 2 ^ 62 → next < 2 ^ 62 → blocks' ≡ with_group z.batch.blocks 1 0 (spelling (commit_record z.tx z.last))
-        → (tells → (bs : List Block) → IsDurable told may_leave log bs → (k : Kept) → may_leave now k → StandsForSome bs (log.pending ++ numbered log.next blocks') k) → CutAt tells may_leave disk0 now s (commands.Commit name)
-    cut_commit now blocks' low low_next entered crashes =
-        let l = h.life in
-        let e : Entry = Rec (l.lsn + 1) (committing o) in
-        let calm = calm_committed formatted_log l.history rows head o next count l.lsn calm_here (omega (arith, low, l.place, ap records_by has)) (omega (arith, low_next)) in
-        let life : Life = record { opening = formatted_log; history = l.history ++ e ∷ [] } in
-        let right : IsRightLife life = calm_right formatted_log (l.history ++ e ∷ []) rows head None next (count + 1) (l.lsn + 1) calm in
-        let before : IsRight formatted_log l.history = calm_right formatted_log l.history rows head (Some o) next count l.lsn calm_here in
-        let lives : longer s.life (e ∷ []) ≡ Some life = ap (λ (x : Option Life). longer x (e ∷ [])) l.is in
-        record {
-          entries = e ∷ [];
-          fits = record { lawful = lawful_here; row = subst (λ (x : Option ℕ). CutCommit x (e ∷ [])) (sym tx_here) (l.lsn + 1, z.last, refl) };
-          right = subst (λ (x : Option Life). All IsRightLife (lives_of x s.past)) (sym lives)
-              (All-append IsRightLife s.past (life ∷ []) h.past (All-cons IsRightLife life [] right (All-nil IsRightLife)));
-          leaves = λ t k crash.
-              let d = l.disk.keeps t in
-              subst (λ (x : Option Life). KeepsFor (may_leave disk0) x s.kept k) (sym lives)
-              (left_of (l.history ++ e ∷ []) before right e refl (λ _. refl) (whole_commit [] refl) calm.log.whole blocks' entered t k d.0 d.2 (crashes t d.0 d.1 k crash));
-        }
+      module _ (none : log.ended ≡ None) (key value : List ℕ) (w : Record) (writes : Writes standing.session standing.head key (page_live standing.page key) value w) where
+        w_is : w ≡ written o standing.head (rows_of standing.page) key value
+        w_is = subst (λ (x : Option Session). Writes x standing.head key (page_live standing.page key) value w) has writes
 
-  -- the disk in a life
-  pub leaves_in : Leaves tells told may_leave start len disk0 log.device s
-  leaves_in =
-      let l = h.life in
-      let d = l.disk in
-      let right : IsRight formatted_log l.history = calm_right formatted_log l.history rows head (opened_by session) next count l.lsn l.calm in
-      let left : IsLeft formatted_log l.history d.durable = right.behind d.durable d.waiting d.whole d.uncommitted in
-      let held : (before : Kept → Type 0) (t : tells) → KeepsFor before s.life s.kept (told log.device) = λ before t.
-      subst (λ (x : Option Life). KeepsFor before x s.kept (told log.device)) (sym l.is) (d.durable, left, ((d.keeps t).0, (d.keeps t).1.stands, (d.keeps t).2)) in
-      record {
-        now = λ t. held (λ k. k ≡ told disk0) t;
-        crash = λ t c crash. subst (KeepsFor (may_leave disk0) s.life s.kept) (sym ((d.keeps t).1.only c crash)) (held (may_leave disk0) t);
-        blank = λ _. h.blank;
+        calm_here : (t : L.tells) → Calm h.here.opening h.here.history (rows_of standing.page) standing.head (Some o) standing.next standing.commits (running none).lsn
+        calm_here t = subst (λ (x : Option Opened). Calm h.here.opening h.here.history (rows_of standing.page) standing.head x standing.next standing.commits (running none).lsn) opened_here ((running none).calm t).calm
+
+        -- there is room to undo one write more
+        room_here : L.tells → z.puts + 3 ≤ standing.limit → HasRoom (log_of_life s.life) (requests.Put key value)
+        room_here t room =
+            let c = (running none).calm t in
+            let l = (calm_here t).log in
+            let limit = limit_kept h.here.opening (log_of h.here.history) (calm_here t).found in
+            subst (λ (x : Option Life). HasRoom (log_of_life x) (requests.Put key value)) (sym h.life) (omega (arith, l.one_page, l.unfinished, limit, c.limit, room))
+
+        -- the row of a put has no place on the page
+        pub did_not_fit : (line : ℕ) → z.puts + 3 ≤ standing.limit → (IsRedoable w 1 standing.page → ⊥) → RefusesAt L log.device s (commands.Ask name (requests.Put key value)) line (statuses.NoSplit line)
+        did_not_fit line room not = (refl, lawful_here, (not_ended none, no_place), leaves_here)
+          where
+            no_place : L.tells → HasNoPlace (log_of_life s.life) key value
+            no_place t =
+                let c = (running none).calm t in
+                record {
+                  rows = rows_of standing.page;
+                  leaf = ap (λ (x : Option Life). image (log_of_life x) 1) h.life ∙ (calm_here t).log.leaf;
+                  size = not_fit w standing.page o standing.head (rows_of standing.page) key value w_is c.page not;
+                  room = room_here t room;
+                }
+
+        pub did_put : (log' : LogState D) (standing' : Standing) (page' : Option PageState) (out : List ℕ) → z.puts + 3 ≤ standing.limit → IsTrue (is_key key) → IsTrue (is_value value) → Redone w 1 standing.page page' true → standing'.page ≡ page'
+            → HasMore (w ∷ []) log log' → (L.tells → (stable waiting : List Record) → IsLogOf L.told L.may_leave log stable waiting → IsLogOf L.told L.may_leave log' stable (waiting ++ w ∷ []))
+            → standing'.head ≡ log.next → HasPut log.next standing.session standing'.session → standing'.next ≡ standing.next → standing'.commits ≡ standing.commits → standing'.limit ≡ standing.limit → log.next < 2 ^ 62 → standing.next < 2 ^ 62
+            → out ≡ name ++ codes " put " ++ escaped key ++ (codes " was" ++ shown (page_live standing.page key)) ++ codes "\n" → Adds L.tells (In L log' standing') s (commands.Ask name (requests.Put key value)) out
+        did_put log' standing' page' out room k v redone page added adds top put next count limit low low_next is =
+            let r = running none in
+            let es = put_entries o standing.head (rows_of standing.page) r.lsn key value in
+            let lock : Entry = Lock z.tx (point key) Exclusive in
+            let write : Entry = Rec (r.lsn + 1) (written o standing.head (rows_of standing.page) key value) in
+            let c : Command = commands.Ask name (requests.Put key value) in
+            let t : Turn = turn c es Done in
+            let z' = has_put log.next z standing'.session (subst (λ (x : Option Session). HasPut log.next x standing'.session) has put) in
+            record {
+              turn = t;
+              is = refl;
+              fits = record {
+                goes = h.goes;
+                lawful = lawful_here;
+                row = (
+                  not_ended none,
+                  tt,
+                  subst (λ (x : Option ℕ). Answers L.tells (log_of_life s.life) x (requests.Put key value) es) (sym tx_here) (
+                    lock ∷ write ∷ [],
+                    Said z.tx z.tx (requests.Put key value) (replies.Was (live (rows_of standing.page) key)),
+                    refl,
+                    (refl, refl, λ u. room_here u room),
+                    All-cons (IsAid z.tx (requests.Put key value)) lock (write ∷ []) (refl, refl, refl) (All-cons (IsAid z.tx (requests.Put key value)) write [] (refl, refl, refl) (All-nil (IsAid z.tx (requests.Put key value)))),
+                  ),
+                );
+              };
+              holds = more none es log' standing' (stage_step s t) refl refl (h.active ∙ ap actives has ∙ sym z'.1) refl refl refl (ap (λ (x : LogState D). x.ended) added.is) (ap (λ (x : LogState D). x.device) added.is) (record {
+                count = same_count h.here.opening h.here.history es standing'.commits refl (r.count ∙ sym count);
+                lsn = r.lsn + 1;
+                calm = λ u.
+                    let c = r.calm u in
+                    let made = did_fit w standing.page page' o standing.head (rows_of standing.page) key value w_is c.page redone in
+                    let page_is : standing'.page ≡ Some (only_leaf (with_row (rows_of standing.page) key value)) = page ∙ made.0 in
+                    let place : log.next ≡ r.lsn + 1 = sym c.place in
+                    record {
+                      page = page_is ∙ ap (λ (x : Option PageState). Some (only_leaf (rows_of x))) (sym page_is);
+                      calm = calm_as h.here.opening (h.here.history ++ es) (with_row (rows_of standing.page) key value) (rows_of standing'.page) (r.lsn + 1) standing'.head (Some (with_write o (r.lsn + 1))) (opened_by standing'.session) standing.next standing'.next standing.commits standing'.commits (r.lsn + 1) (r.lsn + 1)
+                          (ap rows_of page_is) (top ∙ place) (z'.2 ∙ ap (λ (n : ℕ). Some (with_write o n)) place) next count refl
+                          (calm_put h.here.opening h.here.history (rows_of standing.page) standing.head o standing.next standing.commits r.lsn (calm_here u) key value k v made.1 (omega (arith, room, c.limit)) (omega (arith, low, place)) (omega (arith, low_next)));
+                      place = omega (arith, c.place) ∙ sym (ap (λ (x : LogState D). x.next) added.is);
+                      limit = limit ∙ c.limit;
+                      first = ap (λ (x : LogState D). lsn_from x.places) added.is ∙ c.first;
+                      durable = c.durable;
+                      waiting = c.waiting ++ written o standing.head (rows_of standing.page) key value ∷ [];
+                      whole = log_of_append h.here.history es ∙ ap (λ (rs : List Record). rs ++ written o standing.head (rows_of standing.page) key value ∷ []) c.whole ∙ append_assoc c.durable c.waiting (written o standing.head (rows_of standing.page) key value ∷ []);
+                      uncommitted = list_any-append is_commit c.waiting (written o standing.head (rows_of standing.page) key value ∷ []) ∙ ap (λ (b : Bool). b || false) c.uncommitted;
+                      stands = subst (λ (x : Record). IsLogOf L.told L.may_leave log' (h.here.opening ++ c.durable) (c.waiting ++ x ∷ [])) w_is (adds u (h.here.opening ++ c.durable) c.waiting c.stands);
+                    };
+              });
+              lines = is;
+            }
+
+      -- ---- its commit, flushed with the records that wait
+
+      module _ (none : log.ended ≡ None) (mid new : LogState D) (added : HasMore (committing o ∷ []) log mid)
+          (adds : L.tells → (stable waiting : List Record) → IsLogOf L.told L.may_leave log stable waiting → IsLogOf L.told L.may_leave mid stable (waiting ++ committing o ∷ []))
+          (low : log.next < 2 ^ 62) (low_next : standing.next < 2 ^ 62) where
+        abbrev r : Runs L log standing h.here
+        r = running none
+
+        abbrev e : Entry
+        e = Rec (r.lsn + 1) (committing o)
+
+        abbrev after : Life
+        after = record { opening = h.here.opening; history = h.here.history ++ e ∷ [] }
+
+        calm_now : (t : L.tells) → Calm h.here.opening h.here.history (rows_of standing.page) standing.head (Some o) standing.next standing.commits r.lsn
+        calm_now t = subst (λ (x : Option Opened). Calm h.here.opening h.here.history (rows_of standing.page) standing.head x standing.next standing.commits r.lsn) opened_here (r.calm t).calm
+
+        stands_mid : (t : L.tells) → IsLogOf L.told L.may_leave mid (h.here.opening ++ (r.calm t).durable) ((r.calm t).waiting ++ committing o ∷ [])
+        stands_mid t = adds t (h.here.opening ++ (r.calm t).durable) (r.calm t).waiting (r.calm t).stands
+
+        first_mid : L.tells → first_kept mid ≡ 1
+        first_mid t = first_kept_is mid (stands_mid t).numbered ∙ ap (λ (x : LogState D). lsn_from x.places) added.is ∙ (r.calm t).first
+
+        -- the records of the life with the Commit
+        whole_commit : (t : L.tells) (more : List Entry) → log_of more ≡ [] → log_of (h.here.history ++ e ∷ more) ≡ (r.calm t).durable ++ ((r.calm t).waiting ++ committing o ∷ [])
+        whole_commit t more silent =
+            let c = r.calm t in
+            log_of_append h.here.history (e ∷ more) ∙ (λ i. c.whole i ++ committing o ∷ silent i) ∙ append_assoc c.durable c.waiting (committing o ∷ [])
+
+        -- how many records are durable before it
+        durable_here : (t : L.tells) → durable_lsn log.places ≡ length (h.here.opening ++ (r.calm t).durable)
+        durable_here t =
+            let c = r.calm t in
+            let whole : length (log_of h.here.history) ≡ length c.durable + length c.waiting = ap length c.whole ∙ length-append c.durable c.waiting in
+            omega (arith, next_is L.told L.may_leave log (h.here.opening ++ c.durable) c.waiting c.stands, c.place, c.calm.log.size, length-append h.here.opening (log_of h.here.history), whole, length-append h.here.opening c.durable)
+
+        calm_then : (t : L.tells) → Calm h.here.opening (h.here.history ++ e ∷ []) (rows_of standing.page) standing.head None standing.next (standing.commits + 1) (r.lsn + 1)
+        calm_then t = calm_committed h.here.opening h.here.history (rows_of standing.page) standing.head o standing.next standing.commits r.lsn (calm_now t) (omega (arith, low, (r.calm t).place)) (omega (arith, low_next))
+
+        pub right_then : L.tells → IsRightLife after
+        right_then t = calm_right h.here.opening (h.here.history ++ e ∷ []) (rows_of standing.page) standing.head None standing.next (standing.commits + 1) (r.lsn + 1) (calm_then t)
+
+        -- the first of the waiting records, with those that were stable, are what a stop may leave
+        left_then : (t : L.tells) (n : ℕ) → IsLeft h.here.opening (h.here.history ++ e ∷ []) ((r.calm t).durable ++ take n ((r.calm t).waiting ++ committing o ∷ []))
+        left_then t n =
+            let c = r.calm t in
+            let w = c.waiting ++ committing o ∷ [] in
+            let kept : IsLeft h.here.opening (h.here.history ++ e ∷ []) c.durable = left_longer h.here.opening h.here.history (e ∷ []) c.durable (calm_left L log standing h.here r.lsn c) (λ _. refl) in
+            left_more h.here.opening c.calm.begins (h.here.history ++ e ∷ []) (right_then t).legal (calm_then t).log.whole c.durable (take n w) (drop n w) kept
+                (whole_commit t [] refl ∙ ap (λ (rs : List Record). c.durable ++ rs) (sym (take_drop n w)) ∙ sym (append_assoc c.durable (take n w) (drop n w)))
+
+        module _ (left : (t : L.tells) → RecordsLeft L.told L.may_leave (h.here.opening ++ (r.calm t).durable) ((r.calm t).waiting ++ committing o ∷ []) mid new) where
+          holds_then : (t : L.tells) (k : Kept) → StandsForMoreRecords (first_kept mid) (h.here.opening ++ (r.calm t).durable) ((r.calm t).waiting ++ committing o ∷ []) (left t).done k → HoldsOne (Left after) k
+          holds_then t k m =
+              let c = r.calm t in
+              let w = c.waiting ++ committing o ∷ [] in
+              left_stands after (c.durable ++ take m.whole w) k (left_then t m.whole) (record { bs = m.stands.bs; stands = m.stands.stands; records = subst (AreRecordsOf m.stands.bs) (append_assoc h.here.opening c.durable (take m.whole w)) m.stands.records }) (m.numbered ∙ first_mid t)
+
+          pub over_then : L.tells → IsOver L new after
+          over_then t = record { right = right_then t; keeps = record { now = holds_then t (L.told new.device) (left t).read; crash = λ c may. holds_then t c ((left t).crash c may) } }
+
+          pub ended_then : (t : L.tells) (n : ℕ) → n ≡ durable_lsn new.places → IsEndedAt after n
+          ended_then t n is =
+              let c = r.calm t in
+              let w = c.waiting ++ committing o ∷ [] in
+              let all : life_log h.here.opening (h.here.history ++ e ∷ []) ≡ (h.here.opening ++ c.durable) ++ w = ap (λ (rs : List Record). h.here.opening ++ rs) (whole_commit t [] refl) ∙ sym (append_assoc h.here.opening c.durable w) in
+              let number : n ≡ length (h.here.opening ++ c.durable) + (left t).done = is ∙ (left t).durable ∙ ap (λ (x : LogState D). durable_lsn x.places + (left t).done) added.is ∙ ap (λ (m : ℕ). m + (left t).done) (durable_here t) in
+              record {
+                most = omega (arith, number, (left t).within, ap length all, length-append (h.here.opening ++ c.durable) w);
+                least = λ x acked. ap (λ (rs : List Record). list_any (is_commit_of x) (take n rs)) all
+                    ∙ any_taken (is_commit_of x) (h.here.opening ++ c.durable) w n (omega (arith, number)) ((calm_left L log standing h.here r.lsn c).acknowledged x (sym (list_any-append (acknowledges x) h.here.history (e ∷ []) ∙ only (list_any (acknowledges x) h.here.history)) ∙ acked));
+              }
+
+          -- a fuse refused a call of it
+          pub failed_commit : (n : ℕ) (out : List ℕ) → new.ended ≡ Some n → n ≡ durable_lsn new.places → s.armed ≡ true → IsFused L new.device s.armed → out ≡ name ++ codes " commit" ++ codes " log failed\n" → Adds L.tells (In L new standing) s (commands.Commit name) out
+          failed_commit n out ended number armed fused is =
+              let t : Turn = turn (commands.Commit name) (e ∷ []) (LogFault n) in
+              let here : Option Life = longer s.life (e ∷ []) in
+              let life : ◌≡◌ {A = Option Life} here (Some after) = ap (λ (x : Option Life). longer x (e ∷ [])) h.life in
+              record {
+                turn = t;
+                is = refl;
+                fits = record {
+                  goes = h.goes;
+                  lawful = lawful_here;
+                  row = (
+                    armed,
+                    (not_ended none, subst (λ (x : Option ℕ). CutCommit x (e ∷ [])) (sym tx_here) (r.lsn + 1, z.last, refl)),
+                    λ u. subst (λ (x : Option Life). IsEnd x (Some n)) (sym life) (ended_then u n number),
+                  );
+                };
+                holds = record {
+                  past = h.past;
+                  here = after;
+                  life = life;
+                  active = h.active;
+                  ended = sym ended;
+                  goes = h.goes;
+                  fused = fused;
+                  lives = subst (LivesOn L new standing after) (sym ended) over_then;
+                };
+                lines = is;
+              }
+
+          -- the disk itself failed in it
+          pub cut_commit : CutAt L new.device s (commands.Commit name)
+          cut_commit =
+              let life : ◌≡◌ {A = Option Life} (longer s.life (e ∷ [])) (Some after) = ap (λ (x : Option Life). longer x (e ∷ [])) h.life in
+              record {
+                entries = e ∷ [];
+                fits = record { goes = h.goes; lawful = lawful_here; row = (not_ended none, subst (λ (x : Option ℕ). CutCommit x (e ∷ [])) (sym tx_here) (r.lsn + 1, z.last, refl)) };
+                right = λ t. subst (λ (x : Option Life). All IsRightLife (lives_of x s.past)) (sym life) (right_more L s.past after (h.past t) (right_then t));
+                leaves = λ t. subst (λ (x : Option Life). Keeps L (HoldsOne (last_of x s.last)) new.device) (sym life) (over_then t).keeps;
+              }
+
+        -- it is acknowledged
+        pub did_commit : (standing' : Standing) (out : List ℕ) → log.next ≤ durable_lsn new.places → new.ended ≡ None → new.next ≡ mid.next → first_kept new ≡ first_kept mid
+            → (L.tells → (stable waiting : List Record) → IsLogOf L.told L.may_leave mid stable waiting → (new ≡ mid) ⊎ IsLogOf L.told L.may_leave new (stable ++ waiting) [])
+            → standing'.session ≡ None → standing'.commits ≡ standing.commits + 1 → standing'.page ≡ standing.page → standing'.head ≡ standing.head → standing'.next ≡ standing.next → standing'.limit ≡ standing.limit → IsFused L new.device s.armed
+            → out ≡ name ++ codes " commit " ++ decimal (standing.commits + 1) ++ codes "\n" → Adds L.tells (In L new standing') s (commands.Commit name) out
+        did_commit standing' out reached live next first flushed closed count page head number limit fused is =
+            let es = commit_entries o r.lsn in
+            let t : Turn = turn (commands.Commit name) es Done in
+            let life : ◌≡◌ {A = Option Life} (longer s.life es) (Some (record { opening = h.here.opening; history = h.here.history ++ es })) = ap (λ (x : Option Life). longer x es) h.life in
+            let counted : commits (life_log h.here.opening (h.here.history ++ es)) ≡ standing.commits + 1 = one_commit h.here.opening h.here.history es standing.commits refl r.count in
+            record {
+              turn = t;
+              is = refl;
+              fits = record {
+                goes = h.goes;
+                lawful = lawful_here;
+                row = (not_ended none, subst (λ (x : Option ℕ). Commits x es) (sym tx_here) (z.tx, r.lsn + 1, z.last, refl));
+              };
+              holds = record {
+                past = h.past;
+                here = record { opening = h.here.opening; history = h.here.history ++ es };
+                life = life;
+                active = gone ∙ sym (ap actives closed);
+                ended = not_ended none ∙ sym live;
+                goes = h.goes;
+                fused = fused;
+                lives = runs_on new standing' (record { opening = h.here.opening; history = h.here.history ++ es }) new.ended live (record {
+                  count = counted ∙ sym count;
+                  lsn = r.lsn + 1;
+                  calm = λ u.
+                      let c = r.calm u in
+                      let stands = flushed_whole u in
+                      record {
+                        page = page ∙ c.page ∙ ap (λ (x : Option PageState). Some (only_leaf (rows_of x))) (sym page);
+                        calm = calm_as h.here.opening (h.here.history ++ es) (rows_of standing.page) (rows_of standing'.page) standing.head standing'.head None (opened_by standing'.session) standing.next standing'.next (standing.commits + 1) standing'.commits (r.lsn + 1) (r.lsn + 1)
+                            (ap rows_of page) head (ap opened_by closed) number count refl
+                            (calm_commit h.here.opening h.here.history (rows_of standing.page) standing.head o standing.next standing.commits r.lsn (calm_now u) (omega (arith, low, c.place)) (omega (arith, low_next)));
+                        place = ap (λ (n : ℕ). n + 1) c.place ∙ sym (next ∙ ap (λ (x : LogState D). x.next) added.is);
+                        limit = limit ∙ c.limit;
+                        first = sym (first_kept_is new stands.numbered) ∙ first ∙ first_mid u;
+                        durable = c.durable ++ (c.waiting ++ committing o ∷ []);
+                        waiting = [];
+                        whole = whole_commit u (Acked z.tx z.tx ∷ []) refl ∙ sym (append-nil (c.durable ++ (c.waiting ++ committing o ∷ [])));
+                        uncommitted = refl;
+                        stands = subst (λ (rs : List Record). IsLogOf L.told L.may_leave new rs []) (append_assoc h.here.opening c.durable (c.waiting ++ committing o ∷ [])) stands;
+                      };
+                });
+              };
+              lines = is ∙ ap (λ (n : ℕ). name ++ codes " commit " ++ decimal n ++ codes "\n") (sym counted ∙ sym (ap (λ (x : Option Life). commits (log_of_life x)) life));
+            }
+          where
+            gone : without s.active name ≡ []
+            gone = rw (names_are, named) refl
+
+            -- the records didn't stand on the disk before
+            flushed_whole : (u : L.tells) → IsLogOf L.told L.may_leave new ((h.here.opening ++ (r.calm u).durable) ++ ((r.calm u).waiting ++ committing o ∷ [])) []
+            flushed_whole u = ⊎_elim
+                (λ same. absurd (let c = r.calm u in omega (arith, reached, ap (λ (x : LogState D). durable_lsn x.places) (same ∙ added.is), next_is L.told L.may_leave log (h.here.opening ++ c.durable) c.waiting c.stands)))
+                (λ stands. stands)
+                (flushed u (h.here.opening ++ (r.calm u).durable) ((r.calm u).waiting ++ committing o ∷ []) (stands_mid u))
+
+    -- ---- the fuse
+
+    module _ (new : D) (same : L.tells → L.told new ≡ L.told log.device) (nomore : NoMore L.may_leave log.device new) (still : L.tells → (stable waiting : List Record) → IsLogOf L.told L.may_leave log stable waiting → IsLogOf L.told L.may_leave (record log { device = new }) stable waiting) where
+      lives_still : (e : Option ℕ) → LivesOn L log standing h.here e → LivesOn L (record log { device = new }) standing h.here e
+      lives_still None runs = record {
+        count = runs.count;
+        lsn = runs.lsn;
+        calm = λ t.
+            let c = runs.calm t in
+            record { page = c.page; calm = c.calm; place = c.place; limit = c.limit; first = c.first; durable = c.durable; waiting = c.waiting; whole = c.whole; uncommitted = c.uncommitted; stands = still t (h.here.opening ++ c.durable) c.waiting c.stands };
       }
+      lives_still (Some n) over = λ t. record { right = (over t).right; keeps = keeps_same L (HoldsOne (Left h.here)) log.device new (same t) nomore (over t).keeps }
+
+      pub did_fuse : (device : Device) (calls : ℕ) (out : List ℕ) → device ≡ Log → out ≡ codes "fuse log " ++ decimal calls ++ codes "\n" → Adds L.tells (In L (record log { device = new }) standing) s (commands.Fuse device calls) out
+      did_fuse device calls out log_is is = record {
+        turn = turn (commands.Fuse device calls) [] Done;
+        is = refl;
+        fits = record { goes = h.goes; lawful = refl; row = (refl, log_is) };
+        holds = record { past = h.past; here = h.here; life = h.life; active = h.active; ended = h.ended; goes = h.goes; fused = record { fuse = h.fused.fuse; renewed = λ e. absurd cc }; lives = lives_still log.ended h.lives };
+        lines = is;
+      }
+
+      pub did_renew : (device : Device) (out : List ℕ) → device ≡ Log → (L.fuses → L.passes new ≡ None) → out ≡ codes "renew log\n" → Adds L.tells (In L (record log { device = new }) standing) s (commands.Renew device) out
+      did_renew device out log_is renewed is = record {
+        turn = turn (commands.Renew device) [] Done;
+        is = refl;
+        fits = record { goes = h.goes; lawful = refl; row = (refl, log_is) };
+        holds = record { past = h.past; here = h.here; life = h.life; active = h.active; ended = h.ended; goes = h.goes; fused = record { fuse = h.fused.fuse; renewed = λ e. renewed h.fused.fuse }; lives = lives_still log.ended h.lives };
+        lines = is;
+      }
+
+    pub other_fuse : (device : Device) (calls line : ℕ) → device ≢ Log → RefusesAt L log.device s (commands.Fuse device calls) line (statuses.NotBuilt line)
+    other_fuse device calls line other = (refl, refl, other, leaves_here)
+
+    pub other_renew : (device : Device) (line : ℕ) → device ≢ Log → RefusesAt L log.device s (commands.Renew device) line (statuses.NotBuilt line)
+    other_renew device line other = (refl, refl, other, leaves_here)
+
+-- the Commit that is entered is the open transaction's
+pub commit_is : (session : Option Session) (z : Session) → session ≡ Some z → (tx last : ℕ) → IsOpened session tx last → kinds.Commit (record { tx = tx; prev = last }) ≡ committing (record { session = z.tx; tx = z.tx; last_lsn = z.last; writes = z.puts })
+commit_is session z e tx last opened = let o = subst (λ (x : Option Session). IsOpened x tx last) e opened in (λ i. kinds.Commit (record { tx = o.0 i; prev = o.1 i }))
+
+pub flushed_log : {D : Type 0} (a b : Managed D) (X : Type 0) → ((a ≡ b) ⊎ X) → (a.log ≡ b.log) ⊎ X
+flushed_log a b X f = ⊎_elim (λ e. inl (ap (λ (m : Managed _). m.log) e)) (λ x. inr x) f
+
+pub err_map : {A B : Type 0} (r : Result A B) (P Q : B → Type 0) → ((e : B) → P e → Q e) → IfErr r P → IfErr r Q
+err_map (Ok a) P Q f h = tt
+err_map (Err e) P Q f h = f e h
+
+pub by_memory : {A : Type 0} (Q : Status → Type 0) (r : Result A Status) → IfErr r (λ status. status ≡ statuses.Memory) → Q statuses.Memory → IfErr r Q
+by_memory Q (Ok a) h q = tt
+by_memory Q (Err status) h q = subst Q (sym h) q
+
+pub request_unbuilt : (r : Request) → ((key : List ℕ) → r ≡ requests.Get key → ⊥) → ((key value : List ℕ) → r ≡ requests.Put key value → ⊥) → IsRequestNotBuilt r
+request_unbuilt (requests.Get key) get put = get key refl
+request_unbuilt (requests.Put key value) get put = put key value refl
+request_unbuilt _ get put = tt
+
+-- the other commands may not stand in a life
+pub other_lawful : (s : Stage) → no_life s.life ≡ false → (c : Command) → (c ≡ commands.Nothing → ⊥) → ((x : Name) → c ≡ commands.Begin x → ⊥) → ((x : Name) (r : Request) → c ≡ commands.Ask x r → ⊥) → ((x : Name) → c ≡ commands.Commit x → ⊥)
+    → ((d : Device) (n : ℕ) → c ≡ commands.Fuse d n → ⊥) → ((d : Device) → c ≡ commands.Renew d → ⊥) → IsNoStop c → is_lawful s c ≡ false
+other_lawful s living commands.Nothing nothing begins asks commit fuse renew stop = absurd (nothing refl)
+other_lawful s living (commands.Format limit) nothing begins asks commit fuse renew stop = rw (living) refl
+other_lawful s living commands.Open nothing begins asks commit fuse renew stop = living
+other_lawful s living (commands.Begin x) nothing begins asks commit fuse renew stop = absurd (begins x refl)
+other_lawful s living (commands.Ask x r) nothing begins asks commit fuse renew stop = absurd (asks x r refl)
+other_lawful s living (commands.Commit x) nothing begins asks commit fuse renew stop = absurd (commit x refl)
+other_lawful s living (commands.Stop keep) nothing begins asks commit fuse renew stop = absurd stop
+other_lawful s living (commands.Fuse d n) nothing begins asks commit fuse renew stop = absurd (fuse d n refl)
+other_lawful s living (commands.Renew d) nothing begins asks commit fuse renew stop = absurd (renew d refl)
+other_lawful s living _ nothing begins asks commit fuse renew stop = refl

@@ -1,9 +1,13 @@
-pub mod Blocks
 pub mod Causes
 pub mod Commands
-pub mod Disks
+pub mod Fused
+pub mod Lists
+pub mod Lives
+pub mod Openings
+pub mod Places
 pub mod Reading
-pub mod Replays
 pub mod Rows
 pub mod Runs
+pub mod Sizes
 pub mod Turning
+pub mod Without

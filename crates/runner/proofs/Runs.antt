@@ -2,101 +2,82 @@
 use Rattle.std.proofs.Common.{◌≡◌, ◌≢◌, ℕ, ◌+◌, Bool, true, false, List, [], ◌∷◌, ◌++◌, Option, Some, None, Err, refl, sym, ap, subst, ◌∙◌, arith, inl, inr, append_assoc, append-nil, length, length-append}
 use Rattle.std.specs.Prelude.{◌⊎◌}
 use Rattle.std.specs.List.{All}
-use Rattle.std.proofs.lemmas.List.Elements.{All-cons, All-nil, All-append}
+use Rattle.std.proofs.lemmas.List.Elements.{All-nil}
 use Rattle.std.specs.Io.KnownBytes.{Appends, Consumes, IsAtEnd, prepend_known}
 use Rattle.std.proofs.KnownBytes.{Consumes-nil, Consumes-trans, Appends-nil, Appends-trans}
-use Rattle.media.specs.Kept.{Kept}
-use Rattle.log_blocks.specs.LogState.{LogState}
+use Rattle.media.specs.declared.disk.Disk.{Ghosts}
 use Rattle.store_model.specs.Along.{along, AllAlong}
-use Rattle.wal_record.specs.declared.page.LeafRow.{LeafRow}
+use Rattle.wal_record.specs.declared.record.Record.{Record}
 use Rattle.script.specs.declared.command.Command.{Command}
 use Rattle.script.specs.Line.{reads}
-use Rattle.life_laws.proofs.CalmLives.{calm_right}
-use Rattle.runner.specs.declared.session.Session.{Session}
 use Rattle.runner.specs.declared.status.Status.{Status}
 use Rattle.runner.specs.declared.status.Status.TheVariants as statuses
 use Rattle.runner.specs.Lines.{Reader, to_come, first_reader, IsBounded, IsLine, IsNoLine}
 use Rattle.runner.specs.Built.{is_built}
 use Rattle.runner.specs.Causes.{LineCause}
-use Rattle.runner.specs.Turns.{Turn, Life, Stage, Done, Cut, turn, stage, Fits, IsRightLife, lives, lives_of, formatted_log, is_lawful}
+use Rattle.runner.specs.Turns.{Turn, Stage, Cut, turn, stage, begin_stage, Fits, IsRightLife, MayFind, lives, is_lawful}
 use Rattle.runner.specs.Text.{text, lines}
-use Rattle.runner.specs.Refusals.{RefusesAt, CutAt, IsOpen, IsNotBuilt, IsFull}
-use Rattle.runner.specs.Machine.{Out, Inside, Adds, EndsRun, opened_by}
-use Rattle.runner.specs.LogDisk.{Leaves, LeavesAt}
+use Rattle.runner.specs.Refusals.{RefusesAt, CutAt, IsOpen, IsFormat, IsNotBuilt, IsSplit}
+use Rattle.runner.specs.Machine.{Safe, Out, Adds}
+use Rattle.runner.specs.LogDisk.{Leaves}
+use Rattle.runner.specs.Status.{cuts}
 use Rattle.runner.specs.Clause.{IsPrefix, Partly, BadLine, Unlawful, OfCommand, NextLine, Ended, Headline, Between, TakesCommand}
 use Rattle.runner.proofs.Turning.{stage_push, text_push, fits_push, script_push}
-
--- ---- lives are right
-
-module _ {D : Type 0} (tells : Type 0) (keeps : D → Kept) (may_leave : D → Kept → Type 0) (start len : D → ℕ) (disk0 : D) where
-  pub right_out : (disk : D) (formatted : Bool) (s : Stage) → Out tells keeps may_leave start len disk0 disk formatted s → All IsRightLife (lives s)
-  right_out disk formatted s h = subst (λ (x : Option Life). All IsRightLife (lives_of x s.past)) (sym h.life) h.past
-
-  pub right_in : (rows : List LeafRow) (head : ℕ) (session : Option Session) (next count : ℕ) (log : LogState D) (s : Stage) → Inside tells keeps may_leave start len disk0 rows head session next count log s → All IsRightLife (lives s)
-  right_in rows head session next count log s h =
-      let k = h.life in
-      let life : Life = record { opening = formatted_log; history = k.history } in
-      let right : IsRightLife life = calm_right formatted_log k.history rows head (opened_by session) next count k.lsn k.calm in
-      subst (λ (x : Option Life). All IsRightLife (lives_of x s.past)) (sym k.is) (All-append IsRightLife s.past (life ∷ []) h.past (All-cons IsRightLife life [] right (All-nil IsRightLife)))
-
--- ---- the run ends
 
 prefix_self : (a : List ℕ) → IsPrefix a a
 prefix_self a = ([], sym (append-nil a))
 
-all_of : (turns : List Turn) → Partly turns (text turns)
-all_of turns = (turns, [], omega arith, sym (append-nil turns), prefix_self (text turns), prefix_self (text turns))
+all_of : (log : List Record) (turns : List Turn) → Partly log turns (text log turns)
+all_of log turns = (turns, [], omega arith, sym (append-nil turns), prefix_self (text log turns), prefix_self (text log turns))
 
 of_command : (P : Command → Type 0) (bytes rest : List ℕ) (c : Command) → rest ≡ bytes ++ 10 ∷ [] → reads bytes ≡ Some c → P c → NextLine P rest
 of_command P bytes rest c whole e p = (bytes, whole, subst (OfCommand P) (sym e) p)
 
-module _ {D : Type 0} (tells : Type 0) (keeps : D → Kept) (may_leave : D → Kept → Type 0) (start len : D → ℕ) (disk0 disk : D) (left0 told0 : Option (List ℕ)) (old new : Reader) (lo ln told : Option (List ℕ)) (turns : List Turn) (H : Stage → Type 0)
-    (right : (s : Stage) → H s → All IsRightLife (lives s)) (leaves : (s : Stage) → H s → Leaves tells keeps may_leave start len disk0 disk s) (b : Between H left0 told0 old turns lo told) (most : IsBounded new) where
+module _ {D : Type 0} (L : Ghosts D) (log : List Record) (disk : D) (left0 told0 : Option (List ℕ)) (old new : Reader) (lo ln told : Option (List ℕ)) (turns : List Turn) (H : Stage → Type 0)
+    (safe : (s : Stage) → H s → Safe L disk s) (b : Between L.tells log H left0 told0 old turns lo told) (most : IsBounded new) where
   abbrev Ends : D → Option (List ℕ) → Status → Type 0
-  Ends now told' status = Headline tells keeps may_leave start len disk0 now left0 new.pending ln told0 told' status
+  Ends now told' status = Headline L log now left0 new.pending ln told0 told' status
+
+  here : Safe L disk (stage log turns)
+  here = safe (stage log turns) b.holds
 
   -- between two turns
-  pub stop : (now : D) (rest : List ℕ) (status : Status) → Consumes (to_come old lo) (to_come new ln) rest → new.taken ≡ old.taken + length rest → Ended tells (start disk0) (len disk0) status turns b.read rest (text turns) (to_come new ln)
-      → LeavesAt tells keeps may_leave start len disk0 now status turns → Ends now told status
-  stop now rest status took size ended left = record {
+  pub stop : (now : D) (rest : List ℕ) (status : Status) → cuts status ≡ false → Consumes (to_come old lo) (to_come new ln) rest → new.taken ≡ old.taken + length rest → Ended L log now status turns b.read rest (text log turns) (to_come new ln)
+      → Leaves L now (stage log turns) → Ends now told status
+  stop now rest status whole took size ended left = record {
     turns = turns;
     read = b.read;
     rest = rest;
-    written = text turns;
+    written = text log turns;
     taken = Consumes-trans _ _ _ b.read rest b.taken took;
     most = omega (arith, most, size, b.size);
-    ran = record { script = b.script; fits = b.fits; right = right (stage turns) b.holds };
+    ran = record { script = b.script; fits = b.fits; right = here.right };
+    cut = here.goes ∙ sym whole;
     wrote = b.wrote;
     ended = ended;
     leaves = left;
   }
 
-  here : Leaves tells keeps may_leave start len disk0 disk (stage turns)
-  here = leaves (stage turns) b.holds
-
-  no_memory_at : (now : D) (rest : List ℕ) → Consumes (to_come old lo) (to_come new ln) rest → new.taken ≡ old.taken + length rest → Leaves tells keeps may_leave start len disk0 now (stage turns) → Ends now told statuses.Memory
-  no_memory_at now rest took size left = stop now rest statuses.Memory took size (all_of turns) left
-
   pub no_memory : (rest : List ℕ) → Consumes (to_come old lo) (to_come new ln) rest → new.taken ≡ old.taken + length rest → Ends disk told statuses.Memory
-  no_memory rest took size = no_memory_at disk rest took size here
+  no_memory rest took size = stop disk rest statuses.Memory refl took size (all_of log turns) here.leaves
 
   at_line : (line : ℕ) → line ≡ old.lines + 1 → line ≡ length turns + 1
   at_line line is = is ∙ ap (λ (n : ℕ). n + 1) b.count
 
   -- the input is at its end
   pub at_end : Consumes (to_come old lo) (to_come new ln) [] × IsAtEnd (to_come new ln) × (new.taken ≡ old.taken) → Ends disk told statuses.Done
-  at_end h = stop disk [] statuses.Done h.0 (omega (arith, h.2)) (refl, refl, h.1) here
+  at_end h = stop disk [] statuses.Done refl h.0 (omega (arith, h.2)) (refl, refl, h.1) here.leaves
 
   -- no command is read
   pub no_line : (status : Status) (before now : ℕ) → TakesCommand old new lo ln (Err status) → LineCause before now status → Ends disk told status
   no_line statuses.Memory before now (rest, took, size) why = no_memory rest took size
-  no_line statuses.SourceFault before now (rest, took, size) why = stop disk rest statuses.SourceFault took size refl here
+  no_line statuses.SourceFault before now (rest, took, size) why = stop disk rest statuses.SourceFault refl took size refl here.leaves
   no_line (statuses.NotBuilt n) before now (is, bytes, took, size, unbuilt) why =
-      stop disk (bytes ++ 10 ∷ []) (statuses.NotBuilt n) took (omega (arith, size, length-append bytes (10 ∷ []))) (refl, at_line n is, inl (bytes, refl, unbuilt)) here
-  no_line (statuses.Script n) before now (is, rest, took, size, bad) why = stop disk rest (statuses.Script n) took size (refl, at_line n is, by bad) here
+      stop disk (bytes ++ 10 ∷ []) (statuses.NotBuilt n) refl took (omega (arith, size, length-append bytes (10 ∷ []))) (refl, at_line n is, inl (bytes, refl, unbuilt)) here.leaves
+  no_line (statuses.Script n) before now (is, rest, took, size, bad) why = stop disk rest (statuses.Script n) refl took size (refl, at_line n is, by bad) here.leaves
     where
-      by : ((bytes : List ℕ) × (rest ≡ bytes ++ 10 ∷ []) × IsLine bytes × (is_built bytes ≡ true) × (reads bytes ≡ None)) ⊎ IsNoLine old.taken rest (to_come new ln) → BadLine (stage turns) (length b.read) rest (to_come new ln)
-      by (inl (bytes, whole, one, built, none)) = inl (bytes, whole, one, built, subst (Unlawful (stage turns)) (sym none) tt)
+      by : ((bytes : List ℕ) × (rest ≡ bytes ++ 10 ∷ []) × IsLine bytes × (is_built bytes ≡ true) × (reads bytes ≡ None)) ⊎ IsNoLine old.taken rest (to_come new ln) → BadLine (stage log turns) (length b.read) rest (to_come new ln)
+      by (inl (bytes, whole, one, built, none)) = inl (bytes, whole, one, built, subst (Unlawful (stage log turns)) (sym none) tt)
       by (inr bad) = inr (subst (λ (n : ℕ). IsNoLine n rest (to_come new ln)) b.size bad)
   no_line _ before now took why = absurd why
 
@@ -110,30 +91,31 @@ module _ {D : Type 0} (tells : Type 0) (keeps : D → Kept) (may_leave : D → K
     read_more : new.taken ≡ length (b.read ++ (bytes ++ 10 ∷ []))
     read_more = omega (arith, size, b.size, length-append b.read (bytes ++ 10 ∷ []), length-append bytes (10 ∷ []))
 
-    -- a log fault cuts a command off
-    cut_off : (now : D) → CutAt tells may_leave disk0 now (stage turns) c → Ends now told statuses.LogFault
+    -- the log disk's own fault cuts a command off
+    cut_off : (now : D) → CutAt L now (stage log turns) c → Ends now told statuses.LogFault
     cut_off now cut =
         let t : Turn = turn c cut.entries Cut in
         record {
           turns = turns ++ t ∷ [];
           read = b.read ++ (bytes ++ 10 ∷ []);
           rest = [];
-          written = text turns;
+          written = text log turns;
           taken = taken_whole;
           most = omega (arith, most, read_more);
           ran = record {
             script = script_push b.read bytes turns t b.script is e;
-            fits = fits_push turns t b.fits cut.fits;
-            right = subst (λ (s : Stage). All IsRightLife (lives s)) (sym (stage_push turns t)) cut.right;
+            fits = fits_push L.tells log turns t b.fits cut.fits;
+            right = λ u. subst (λ (s : Stage). All IsRightLife (lives s)) (sym (stage_push log turns t)) (cut.right u);
           };
+          cut = ap (λ (s : Stage). s.cut) (stage_push log turns t);
           wrote = b.wrote;
-          ended = sym (text_push turns t ∙ append-nil (text turns));
-          leaves = (turns, t, refl, refl, cut.leaves);
+          ended = sym (text_push log turns t ∙ append-nil (text log turns));
+          leaves = subst (Leaves L now) (sym (stage_push log turns t)) cut.leaves;
         }
 
     -- a command ends the run
-    pub refused : (now : D) (line : ℕ) (status : Status) → line ≡ old.lines + 1 → is_built bytes ≡ true → EndsRun tells keeps may_leave start len disk0 now (stage turns) c line status → Ends now told status
-    refused now line status n built ends = by status ends.why ends.leaves
+    pub refused : (now : D) (line : ℕ) (status : Status) → line ≡ old.lines + 1 → is_built bytes ≡ true → RefusesAt L now (stage log turns) c line status → Ends now told status
+    refused now line status n built why = by status why
       where
         whole : List ℕ
         whole = bytes ++ 10 ∷ []
@@ -141,74 +123,78 @@ module _ {D : Type 0} (tells : Type 0) (keeps : D → Kept) (may_leave : D → K
         count : new.taken ≡ old.taken + length whole
         count = omega (arith, size, length-append bytes (10 ∷ []))
 
-        by : (status : Status) → RefusesAt tells may_leave start len disk0 now (stage turns) c line status → (status ≢ statuses.LogFault → Leaves tells keeps may_leave start len disk0 now (stage turns)) → Ends now told status
-        by statuses.Memory why left = no_memory_at now whole took count (left (λ q. cc))
-        by (statuses.Script m) why left = stop now whole (statuses.Script m) took count (refl, why.0 ∙ at_line line n, inl (bytes, refl, is, built, subst (Unlawful (stage turns)) (sym e) why.1)) (left (λ q. cc))
-        by (statuses.NotBuilt m) why left =
-            stop now whole (statuses.NotBuilt m) took count (refl, why.0 ∙ at_line line n, inr (of_command (λ d. (is_lawful (stage turns) d ≡ true) × IsNotBuilt tells (start disk0) (len disk0) (stage turns) d) bytes whole c refl e (why.1, why.2))) (left (λ q. cc))
-        by (statuses.NoSplit m) why left =
-            stop now whole (statuses.NoSplit m) took count (refl, why.0 ∙ at_line line n, of_command (λ d. (is_lawful (stage turns) d ≡ true) × IsFull (stage turns) d) bytes whole c refl e (why.1, why.2)) (left (λ q. cc))
-        by statuses.LogFault why left = cut_off now why
-        by (statuses.LogBad block byte) why left = stop now whole (statuses.LogBad block byte) took count (refl, of_command IsOpen bytes whole c refl e why) (left (λ q. cc))
-        by statuses.NotFormatted why left = stop now whole statuses.NotFormatted took count (refl, of_command IsOpen bytes whole c refl e why.0, why.1) (left (λ q. cc))
-        by _ why left = absurd why
+        by : (status : Status) → RefusesAt L now (stage log turns) c line status → Ends now told status
+        by statuses.Memory why = stop now whole statuses.Memory refl took count (all_of log turns) why
+        by (statuses.Script m) why = stop now whole (statuses.Script m) refl took count (refl, why.0 ∙ at_line line n, inl (bytes, refl, is, built, subst (Unlawful (stage log turns)) (sym e) why.1)) why.2
+        by (statuses.NotBuilt m) why =
+            stop now whole (statuses.NotBuilt m) refl took count (refl, why.0 ∙ at_line line n, inr (of_command (λ d. (is_lawful (stage log turns) d ≡ true) × IsNotBuilt L now (stage log turns) d) bytes whole c refl e (why.1, why.2))) why.3
+        by (statuses.NoSplit m) why =
+            stop now whole (statuses.NoSplit m) refl took count (refl, why.0 ∙ at_line line n, of_command (λ d. (is_lawful (stage log turns) d ≡ true) × IsSplit L.tells (stage log turns) d) bytes whole c refl e (why.1, why.2)) why.3
+        by statuses.LogFault why = cut_off now why
+        by (statuses.LogBad block byte) why = stop now whole (statuses.LogBad block byte) refl took count (refl, of_command IsOpen bytes whole c refl e why.0, why.1) (λ t. absurd (why.1 t))
+        by statuses.NotFormatted why = stop now whole statuses.NotFormatted refl took count (refl, of_command IsOpen bytes whole c refl e why.0, why.1) why.2
+        by statuses.AlreadyFormatted why = stop now whole statuses.AlreadyFormatted refl took count (refl, of_command IsFormat bytes whole c refl e why.0, why.1) why.2
+        by _ why = absurd why
+
+    said_here : (t : Turn) → t.command ≡ c → reads bytes ≡ Some t.command
+    said_here t same = e ∙ ap (λ (x : Command). Some x) (sym same)
 
     -- one turn more
-    pub went : (H' : Stage → Type 0) (out : List ℕ) → new.lines ≡ old.lines + 1 → Adds H' (stage turns) c out → (told' : Option (List ℕ)) → Appends told told' out
-        → (t : Turn) × Between H' left0 told0 new (turns ++ t ∷ []) ln told'
+    pub went : (H' : Stage → Type 0) (out : List ℕ) → new.lines ≡ old.lines + 1 → Adds L.tells H' (stage log turns) c out → (told' : Option (List ℕ)) → Appends told told' out
+        → (t : Turn) × Between L.tells log H' left0 told0 new (turns ++ t ∷ []) ln told'
     went H' out lines_are added told' wrote =
-        let t : Turn = turn c added.entries Done in (
+        let t : Turn = added.turn in (
           t,
           record {
             read = b.read ++ (bytes ++ 10 ∷ []);
-            script = script_push b.read bytes turns t b.script is e;
+            script = script_push b.read bytes turns t b.script is (said_here t added.is);
             taken = taken_more;
             count = lines_are ∙ ap (λ (n : ℕ). n + 1) b.count ∙ sym (length-append turns (t ∷ []));
             size = read_more;
             most = most;
-            fits = fits_push turns t b.fits added.fits;
-            holds = subst H' (sym (stage_push turns t)) added.holds;
-            wrote = subst (Appends told0 told') (ap (λ (x : List ℕ). text turns ++ x) added.lines ∙ sym (text_push turns t)) (Appends-trans _ _ _ (text turns) out b.wrote wrote);
+            fits = fits_push L.tells log turns t b.fits added.fits;
+            holds = subst H' (sym (stage_push log turns t)) added.holds;
+            wrote = subst (Appends told0 told') (ap (λ (x : List ℕ). text log turns ++ x) added.lines ∙ sym (text_push log turns t)) (Appends-trans _ _ _ (text log turns) out b.wrote wrote);
           },
         )
 
     -- the sink fails within a turn's lines
-    pub fell : (now : D) (H' : Stage → Type 0) (right' : (s : Stage) → H' s → All IsRightLife (lives s)) (leaves' : (s : Stage) → H' s → Leaves tells keeps may_leave start len disk0 now s) (out done rest : List ℕ)
-        → Adds H' (stage turns) c out → out ≡ done ++ rest → (told' : Option (List ℕ)) → Appends told told' done → Ends now told' statuses.SinkFault
-    fell now H' right' leaves' out done rest added cut told' wrote =
-        let t : Turn = turn c added.entries Done in
-        let whole : text (turns ++ t ∷ []) ≡ (text turns ++ done) ++ rest = text_push turns t ∙ ap (λ (x : List ℕ). text turns ++ x) (sym added.lines ∙ cut) ∙ sym (append_assoc (text turns) done rest) in
-        let holds : H' (stage (turns ++ t ∷ [])) = subst H' (sym (stage_push turns t)) added.holds in
+    pub fell : (now : D) (H' : Stage → Type 0) (safe' : (s : Stage) → H' s → Safe L now s) (out done rest : List ℕ)
+        → Adds L.tells H' (stage log turns) c out → out ≡ done ++ rest → (told' : Option (List ℕ)) → Appends told told' done → Ends now told' statuses.SinkFault
+    fell now H' safe' out done rest added cut told' wrote =
+        let t : Turn = added.turn in
+        let whole : text log (turns ++ t ∷ []) ≡ (text log turns ++ done) ++ rest = text_push log turns t ∙ ap (λ (x : List ℕ). text log turns ++ x) (sym added.lines ∙ cut) ∙ sym (append_assoc (text log turns) done rest) in
+        let then = safe' (stage log (turns ++ t ∷ [])) (subst H' (sym (stage_push log turns t)) added.holds) in
         record {
           turns = turns ++ t ∷ [];
           read = b.read ++ (bytes ++ 10 ∷ []);
           rest = [];
-          written = text turns ++ done;
+          written = text log turns ++ done;
           taken = taken_whole;
           most = omega (arith, most, read_more);
           ran = record {
-            script = script_push b.read bytes turns t b.script is e;
-            fits = fits_push turns t b.fits added.fits;
-            right = right' (stage (turns ++ t ∷ [])) holds;
+            script = script_push b.read bytes turns t b.script is (said_here t added.is);
+            fits = fits_push L.tells log turns t b.fits added.fits;
+            right = then.right;
           };
-          wrote = Appends-trans _ _ _ (text turns) done b.wrote wrote;
+          cut = then.goes;
+          wrote = Appends-trans _ _ _ (text log turns) done b.wrote wrote;
           ended = (rest, whole);
-          leaves = leaves' (stage (turns ++ t ∷ [])) holds;
+          leaves = then.leaves;
         }
 
--- the disk is given back as it is
-pub given_back : {D : Type 0} {tells : Type 0} {keeps : D → Kept} {may_leave : D → Kept → Type 0} {start len : D → ℕ} {disk0 old now : D} {left0 : Option (List ℕ)} {pending : List ℕ} {left told0 told : Option (List ℕ)} {status : Status} → now ≡ old
-    → Headline tells keeps may_leave start len disk0 old left0 pending left told0 told status → Headline tells keeps may_leave start len disk0 now left0 pending left told0 told status
-given_back {D} {tells} {keeps} {may_leave} {start} {len} {disk0} {old} {now} {left0} {pending} {left} {told0} {told} {status} is h = subst (λ (d : D). Headline tells keeps may_leave start len disk0 d left0 pending left told0 told status) (sym is) h
+-- all is written
+pub all_written : (told told' : Option (List ℕ)) (out done rest : List ℕ) → out ≡ done ++ rest → rest ≡ [] → Appends told told' done → Appends told told' out
+all_written told told' out done rest cut all part = subst (Appends told told') (sym (append-nil done) ∙ ap (λ (x : List ℕ). done ++ x) (sym all) ∙ sym cut) part
 
--- all was written
-pub all_written : (told told' : Option (List ℕ)) (out done rest : List ℕ) → out ≡ done ++ rest → Appends told told' done → rest ≡ [] → Appends told told' out
-all_written told told' out done rest cut part all = subst (Appends told told') (sym (append-nil done) ∙ ap (λ (x : List ℕ). done ++ x) (sym all) ∙ sym cut) part
+pub nothing_pending : (left : Option (List ℕ)) → to_come first_reader left ≡ left
+nothing_pending None = refl
+nothing_pending (Some bytes) = refl
 
-module _ {D : Type 0} (tells : Type 0) (keeps : D → Kept) (may_leave : D → Kept → Type 0) (start len : D → ℕ) (disk : D) where
-  pub at_start : (left told : Option (List ℕ)) (reader : Reader) → reader.lines ≡ 0 → reader.taken ≡ 0 → IsBounded reader → Between (Out tells keeps may_leave start len disk disk false) (to_come reader left) told reader [] left told
+module _ {D : Type 0} (L : Ghosts D) (log : List Record) where
+  pub at_start : (disk : D) (left told : Option (List ℕ)) (reader : Reader) → reader.lines ≡ 0 → reader.taken ≡ 0 → IsBounded reader → Out L disk (begin_stage log) → Between L.tells log (Out L disk) (to_come reader left) told reader [] left told
   unfolding Fits AllAlong stage text along
-  at_start left told reader lines taken most = record {
+  at_start disk left told reader lines taken most out = record {
     read = [];
     script = refl;
     taken = Consumes-nil (to_come reader left);
@@ -216,22 +202,14 @@ module _ {D : Type 0} (tells : Type 0) (keeps : D → Kept) (may_leave : D → K
     size = taken;
     most = most;
     fits = tt;
-    holds = record { past = All-nil IsRightLife; kept = refl; life = refl; active = refl; device = refl };
+    holds = out;
     wrote = Appends-nil told;
   }
 
-pub nothing_pending : (left : Option (List ℕ)) → to_come first_reader left ≡ left
-nothing_pending None = refl
-nothing_pending (Some bytes) = refl
-
--- ---- the call
-
-module _ {D : Type 0} (tells : Type 0) (keeps : D → Kept) (may_leave : D → Kept → Type 0) (start len : D → ℕ) (disk : D) where
   -- nothing is run
-  not_begun : (left told : Option (List ℕ)) (status : Status) → Ended tells (start disk) (len disk) status [] [] [] [] (prepend_known [] left) → LeavesAt tells keeps may_leave start len disk disk status []
-      → (pending : List ℕ) × Headline tells keeps may_leave start len disk disk left pending left told told status
+  pub not_begun : (disk : D) (left told : Option (List ℕ)) (status : Status) → cuts status ≡ false → Ended L log disk status [] [] [] [] (prepend_known [] left) → Leaves L disk (begin_stage log) → (pending : List ℕ) × Headline L log disk left pending left told told status
   unfolding Fits AllAlong stage text along
-  not_begun left told status ended left_at = (
+  not_begun disk left told status whole ended leaves = (
     [],
     record {
       turns = [];
@@ -240,31 +218,28 @@ module _ {D : Type 0} (tells : Type 0) (keeps : D → Kept) (may_leave : D → K
       written = [];
       taken = subst (λ (x : Option (List ℕ)). Consumes left x []) (sym (nothing_pending left)) (Consumes-nil left);
       most = omega arith;
-      ran = record { script = refl; fits = tt; right = All-nil IsRightLife };
+      ran = record { script = refl; fits = tt; right = λ _. All-nil IsRightLife };
+      cut = sym whole;
       wrote = Appends-nil told;
       ended = ended;
-      leaves = left_at;
+      leaves = leaves;
     },
   )
 
-  nothing_left : Leaves tells keeps may_leave start len disk disk (stage [])
-  unfolding stage
-  nothing_left = record { now = λ t. refl; crash = λ t c left. left; blank = λ some. absurd (some refl) }
-
-  pub not_called : (left told : Option (List ℕ)) → (pending : List ℕ) × Headline tells keeps may_leave start len disk disk left pending left told told statuses.Usage
-  not_called left told = not_begun left told statuses.Usage refl nothing_left
-
-  nothing_written : Partly [] []
+  nothing_written : Partly log [] []
   unfolding text along
-  nothing_written = all_of []
+  nothing_written = all_of log []
 
-  pub no_buffer : (left told : Option (List ℕ)) (status : Status) → status ≡ statuses.Memory → (pending : List ℕ) × Headline tells keeps may_leave start len disk disk left pending left told told status
-  no_buffer left told status is = subst (λ (x : Status). (pending : List ℕ) × Headline tells keeps may_leave start len disk disk left pending left told told x) (sym is) (not_begun left told statuses.Memory nothing_written nothing_left)
+  pub not_called : (disk : D) (left told : Option (List ℕ)) → Leaves L disk (begin_stage log) → (pending : List ℕ) × Headline L log disk left pending left told told statuses.Usage
+  not_called disk left told leaves = not_begun disk left told statuses.Usage refl refl leaves
 
-  pub ran_whole : (now : D) (left left' told told' : Option (List ℕ)) (old new : Reader) (status : Status) → old ≡ first_reader → Headline tells keeps may_leave start len disk now (to_come old left) new.pending left' told told' status
-      → (pending : List ℕ) × Headline tells keeps may_leave start len disk now left pending left' told told' status
-  ran_whole now left left' told told' old new status is h = (
+  pub no_buffer : (disk : D) (left told : Option (List ℕ)) (status : Status) → status ≡ statuses.Memory → Leaves L disk (begin_stage log) → (pending : List ℕ) × Headline L log disk left pending left told told status
+  no_buffer disk left told status is leaves = subst (λ (x : Status). (pending : List ℕ) × Headline L log disk left pending left told told x) (sym is) (not_begun disk left told statuses.Memory refl nothing_written leaves)
+
+  pub ran_whole : (disk : D) (left left' told told' : Option (List ℕ)) (old new : Reader) (status : Status) → old ≡ first_reader → Headline L log disk (to_come old left) new.pending left' told told' status
+      → (pending : List ℕ) × Headline L log disk left pending left' told told' status
+  ran_whole disk left left' told told' old new status is h = (
     new.pending,
-    subst (λ (x : Option (List ℕ)). Headline tells keeps may_leave start len disk now x new.pending left' told told' status) (nothing_pending left)
-        (subst (λ (r : Reader). Headline tells keeps may_leave start len disk now (to_come r left) new.pending left' told told' status) is h),
+    subst (λ (x : Option (List ℕ)). Headline L log disk x new.pending left' told told' status) (nothing_pending left)
+        (subst (λ (r : Reader). Headline L log disk (to_come r left) new.pending left' told told' status) is h),
   )

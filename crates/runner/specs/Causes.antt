@@ -1,10 +1,22 @@
 -- Why a run ends: which statuses a part of the run may give, and that a device's fault has its cause.
-use Rattle.std.specs.Prelude.{◌≡◌, ℕ}
+use Rattle.std.specs.Prelude.{◌≡◌, ◌≢◌, ◌≤◌, ℕ}
 use Rattle.media.specs.Cause.{Rose}
+use Rattle.media.specs.Objects.{Stored, MayLeave}
+use Rattle.media.specs.declared.disk.Disk.{Ghosts}
+use Rattle.store_model.specs.declared.object.ObjectName.{ObjectName}
+use Rattle.runner.specs.declared.at.At.{At}
+use Rattle.runner.specs.declared.at.At.TheVariants.{Outside, Inside}
+use Rattle.runner.specs.declared.at.Stepped.{Stepped}
+use Rattle.runner.specs.declared.at.Stepped.TheVariants as steps
+use Rattle.runner.specs.declared.run.Turned.{Turned}
+use Rattle.runner.specs.declared.run.Turned.TheVariants as turns
+use Rattle.runner.specs.declared.run.Lived.{Lived}
+use Rattle.runner.specs.declared.run.Lived.TheVariants as ways
 use Rattle.runner.specs.declared.status.Status.{Status}
 use Rattle.runner.specs.declared.status.Status.TheVariants as statuses
+use Rattle.runner.specs.LogDisk.{IsFormatted}
 
--- a fault of the log disk comes only where that disk's count rose, and no stream's fault and no usage comes
+-- a fault of the log disk comes only where that disk's own count rose, and no stream's fault and no usage comes
 abbrev pub LogCause : ℕ → ℕ → Status → Type 0
 LogCause before now statuses.LogFault = Rose before now
 LogCause before now statuses.SourceFault = ⊥
@@ -12,6 +24,16 @@ LogCause before now statuses.SinkFault = ⊥
 LogCause before now statuses.Usage = ⊥
 LogCause before now statuses.Done = ⊥
 LogCause before now _ = Unit {0}
+
+-- the same of a command in a life, which makes and opens no log
+abbrev pub LifeCause : ℕ → ℕ → Status → Type 0
+LifeCause before now statuses.LogFault = Rose before now
+LifeCause before now statuses.SourceFault = ⊥
+LifeCause before now statuses.SinkFault = ⊥
+LifeCause before now statuses.Usage = ⊥
+LifeCause before now statuses.Done = ⊥
+LifeCause before now statuses.AlreadyFormatted = ⊥
+LifeCause before now _ = Unit {0}
 
 -- the same of the next line: no fault of the log disk or of the sink
 abbrev pub LineCause : ℕ → ℕ → Status → Type 0
@@ -27,24 +49,39 @@ pub record RunCause (source0 source1 sink0 sink1 log0 log1 : ℕ) (status : Stat
   pub sink : status ≡ statuses.SinkFault → Rose sink0 sink1
   pub log : status ≡ statuses.LogFault → Rose log0 log1
 
--- why a log isn't opened, in the line that asks for it
-abbrev pub IsOpenRefusal : ℕ → Status → Type 0
-IsOpenRefusal line statuses.Memory = Unit {0}
-IsOpenRefusal line statuses.LogFault = Unit {0}
-IsOpenRefusal line (statuses.LogBad block byte) = Unit {0}
-IsOpenRefusal line statuses.NotFormatted = Unit {0}
-IsOpenRefusal line (statuses.NotBuilt n) = n ≡ line
-IsOpenRefusal line _ = ⊥
+-- a log is refused as formatted only where an open gate stands on its disk
+abbrev pub Shows : {D : Type 0} → Ghosts D → D → Status → Type 0
+Shows L disk statuses.AlreadyFormatted = L.tells → IsFormatted (L.told disk)
+Shows L disk _ = Unit {0}
 
--- why a log isn't made
-abbrev pub IsFormatRefusal : Status → Type 0
-IsFormatRefusal statuses.Memory = Unit {0}
-IsFormatRefusal statuses.LogFault = Unit {0}
-IsFormatRefusal _ = ⊥
+-- the log disk of a place
+abbrev pub disk_at : {D F : Type 0} → (F → D) → At D F → D
+disk_at device (Outside disk) = disk
+disk_at device (Inside life) = device life
 
--- what an opening may meet though the disk keeps the log that a format made: want of memory, a fault, a block that is bad
-abbrev pub IsDiskFault : Status → Type 0
-IsDiskFault statuses.Memory = Unit {0}
-IsDiskFault statuses.LogFault = Unit {0}
-IsDiskFault (statuses.LogBad block byte) = Unit {0}
-IsDiskFault _ = ⊥
+-- the disk's own count doesn't fall, and each status has its cause
+abbrev pub SteppedCause : {D F : Type 0} → Ghosts D → (F → D) → D → Stepped D F → Type 0
+SteppedCause L device disk (steps.Goes out at) = L.own disk ≤ L.own (disk_at device at)
+SteppedCause L device disk (steps.Ends status left) = (L.own disk ≤ L.own left) × LogCause (L.own disk) (L.own left) status × Shows L left status
+
+abbrev pub TurnedCause : {D F : Type 0} → Ghosts D → (F → D) → D → ℕ → ℕ → ℕ → ℕ → Turned D F → Type 0
+TurnedCause L device disk source0 source1 sink0 sink1 (turns.Goes at) = L.own disk ≤ L.own (disk_at device at)
+TurnedCause L device disk source0 source1 sink0 sink1 (turns.Ends status left) = (L.own disk ≤ L.own left) × RunCause source0 source1 sink0 sink1 (L.own disk) (L.own left) status × Shows L left status × (status ≢ statuses.Usage)
+
+abbrev pub LivedCause : {D : Type 0} → Ghosts D → D → ℕ → ℕ → ℕ → ℕ → Lived D → Type 0
+LivedCause L disk source0 source1 sink0 sink1 (ways.Stopped left) = L.own disk ≤ L.own left
+LivedCause L disk source0 source1 sink0 sink1 (ways.Ends status left) = (L.own disk ≤ L.own left) × RunCause source0 source1 sink0 sink1 (L.own disk) (L.own left) status × Shows L left status × (status ≢ statuses.Usage)
+
+-- what stops leave of a vault, or none: its count of faults, each synced object, and what no name stood for
+pub record IsCycled {D : Type 0} (tells : Type 0) (told : D → ObjectName → Stored) (faults : D → ℕ) (old new : D) : Type 0 where
+  pub left : tells → (name : ObjectName) → MayLeave (told old name) (told new name)
+  pub unfailed : faults new ≡ faults old
+
+-- a status that the script asks for, where no device fails; or want of memory
+abbrev pub IsAsked : Status → Type 0
+IsAsked statuses.Usage = ⊥
+IsAsked statuses.SourceFault = ⊥
+IsAsked statuses.SinkFault = ⊥
+IsAsked statuses.LogFault = ⊥
+IsAsked (statuses.LogBad block byte) = ⊥
+IsAsked _ = Unit {0}

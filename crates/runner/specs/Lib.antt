@@ -6,12 +6,12 @@ pub mod Leaf
 pub mod Lines
 pub mod LogDisk
 pub mod Machine
+pub mod Openings
 pub mod Printing
 pub mod Refusals
-pub mod Replaying
+pub mod Rules
 pub mod Session
 pub mod Status
 pub mod Text
-pub mod Turning
 pub mod Turns
 pub mod Usage

@@ -1,5 +1,5 @@
 -- The exit codes of the program.
-use Rattle.std.specs.Prelude.{ℕ}
+use Rattle.std.specs.Prelude.{ℕ, Bool, true, false}
 use Rattle.runner.specs.declared.status.Status.{Status}
 use Rattle.runner.specs.declared.status.Status.TheVariants as statuses
 
@@ -13,5 +13,11 @@ code_of statuses.SinkFault = 5
 code_of statuses.LogFault = 6
 code_of (statuses.LogBad block byte) = 8
 code_of statuses.NotFormatted = 10
+code_of statuses.AlreadyFormatted = 11
 code_of (statuses.NotBuilt line) = 12
 code_of (statuses.NoSplit line) = 13
+
+-- whether the status cuts a command off that has entered something
+abbrev pub cuts : Status → Bool
+cuts statuses.LogFault = true
+cuts _ = false

@@ -1,32 +1,43 @@
 -- Turns: a command of the script, what it added to the history of its life, and how it ended; and what turns leave.
-use Rattle.std.specs.Prelude.{◌≡◌, ◌<◌, ℕ, List, [], ◌∷◌, ◌++◌, length, fold, Option, Some, None, Bool, true, false, not, if◌then◌else◌, IsTrue}
+use Rattle.std.specs.Prelude.{◌≡◌, ◌≢◌, ◌⊎◌, ◌+◌, ◌≤◌, ℕ, List, [], ◌∷◌, ◌++◌, length, take, fold, unwrap_or, Option, Some, None, Bool, true, false, not, if◌then◌else◌, IsTrue}
 use Rattle.std.specs.List.{All, list_any}
 use Rattle.store_model.specs.Along.{AllAlong}
 use Rattle.store_model.specs.Range.{point}
 use Rattle.store_model.specs.declared.request.Request.{Request}
 use Rattle.store_model.specs.declared.request.Request.TheVariants as requests
-use Rattle.store_model.specs.declared.reply.Reply.{Reply}
+use Rattle.store_model.specs.declared.reply.Outcome.TheVariants as outcomes
 use Rattle.store_model.specs.declared.range.Mode.TheVariants.{Shared, Exclusive}
+use Rattle.wal_record.specs.Rules.{is_limit}
+use Rattle.wal_record.specs.Chains.{pages}
+use Rattle.wal_record.specs.OpenWrites.{pending}
+use Rattle.wal_record.specs.Checkpoints.{limit_of}
 use Rattle.wal_record.specs.History.{life_log}
-use Rattle.wal_record.specs.OpenWrites.{open_writes}
+use Rattle.wal_record.specs.Left.{IsLeft, acknowledges, is_commit_of}
 use Rattle.wal_record.specs.declared.record.Record.{Record}
 use Rattle.wal_record.specs.declared.record.Record.TheVariants as kinds
 use Rattle.wal_record.specs.declared.entry.Entry.{Entry}
-use Rattle.wal_record.specs.declared.entry.Entry.TheVariants.{Rec, Lock, Said, Acked, Began}
+use Rattle.wal_record.specs.declared.entry.Entry.TheVariants.{Rec, Lock, Said, Declined, Acked, Began}
 use Rattle.life_laws.specs.Calm.{first_log}
 use Rattle.life_laws.specs.CalmLaw.{IsRight}
 use Rattle.script.specs.Word.{same_text}
+use Rattle.script.specs.declared.command.Device.{Device}
+use Rattle.script.specs.declared.command.Device.TheVariants.{Log}
 use Rattle.script.specs.declared.command.Command.{Command}
 use Rattle.script.specs.declared.command.Command.TheVariants as commands
 
--- a command has its lines, or a status cut it off
+-- How a command ended: it was answered; a fuse refused a log call of it, and the log is durable up to this LSN then; its
+-- life had ended before, with this LSN; or a status cut it off.
 pub data End : Type 0 where
   Done : End
+  LogFault : ℕ → End
+  Ended : ℕ → End
   Cut : End
 
+-- an `open` that is done has found a log
 pub record Turn : Type 0 where
   pub command : Command
   pub entries : List Entry
+  pub found : List Record
   pub end : End
 
 -- the log that a life opened, and its history
@@ -39,21 +50,50 @@ pub record Active : Type 0 where
   pub name : List ℕ
   pub tx : ℕ
 
--- what the turns so far leave
+-- ---- which log an opening may find
+
+-- what the disk was used for last: it was handed in with this log; a format made the log of a store with this limit, or
+-- failed; or this life is over
+pub data Last : Type 0 where
+  Found : List Record → Last
+  Formatted : ℕ → Last
+  Unformatted : Last → ℕ → Last
+  Left : Life → Last
+
+-- the logs that the disk may hold then; a format that failed has made its log where none was, or nothing
+abbrev pub MayFind : Last → List Record → Type 0
+MayFind (Found log) rs = rs ≡ log
+MayFind (Formatted limit) rs = rs ≡ first_log limit
+MayFind (Unformatted before limit) rs = MayFind before rs ⊎ (MayFind before [] × (rs ≡ first_log limit))
+MayFind (Left l) rs = (own : List Record) × IsLeft l.opening l.history own × (rs ≡ l.opening ++ own)
+
+abbrev pub last_of : Option Life → Last → Last
+last_of None last = last
+last_of (Some l) last = Left l
+
+-- ---- what the turns so far leave
+
 pub record Stage : Type 0 where
-  -- the log that the disk keeps, where a store was formatted
-  pub kept : Option (List Record)
+  -- which log the disk may hold where no life is open
+  pub last : Last
   -- the lives that are over, and the one that is open
   pub past : List Life
   pub life : Option Life
   pub active : List Active
+  -- whether the log disk's fuse is armed
+  pub armed : Bool
+  -- up to which LSN the log was durable when the life ended, if it has
+  pub ended : Option ℕ
+  -- whether a status has cut a command off
+  pub cut : Bool
 
-abbrev pub begin_stage : Stage
-begin_stage = record { kept = None; past = []; life = None; active = [] }
+-- the log disk was handed in with this log
+abbrev pub begin_stage : List Record → Stage
+begin_stage log = record { last = Found log; past = []; life = None; active = []; armed = false; ended = None; cut = false }
 
--- the log of a format that names no limit
-abbrev pub formatted_log : List Record
-formatted_log = first_log 16384
+-- pages and writes that may be undone, together, of a format
+abbrev pub room_of : Option ℕ → ℕ
+room_of limit = unwrap_or limit 16384
 
 -- the transaction of a name
 abbrev pub tx_of : List Active → List ℕ → Option ℕ
@@ -77,29 +117,51 @@ longer (Some l) es = Some (record l { history = l.history ++ es })
 abbrev pub with_entries : Stage → List Entry → Stage
 with_entries s es = record s { life = longer s.life es }
 
-abbrev pub opened : Option (List Record) → Option Life
-opened None = None
-opened (Some log) = Some (record { opening = log; history = [] })
+abbrev pub lives_of : Option Life → List Life → List Life
+lives_of None past = past
+lives_of (Some l) past = past ++ l ∷ []
 
-abbrev pub done_stage : Stage → Command → List Entry → Stage
-done_stage s (commands.Format limit) es = record s { kept = Some formatted_log }
-done_stage s commands.Open es = record s { life = opened s.kept; active = [] }
-done_stage s (commands.Begin name) es = record (with_entries s es) { active = began name es ++ s.active }
-done_stage s (commands.Commit name) es = record (with_entries s es) { active = without s.active name }
-done_stage s _ es = with_entries s es
+-- a stop ends the life, and renews the fuse
+abbrev pub stopped : Stage → Stage
+stopped s = record { last = last_of s.life s.last; past = lives_of s.life s.past; life = None; active = []; armed = false; ended = None; cut = s.cut }
 
-abbrev pub stage_after : Stage → Command → List Entry → End → Stage
-stage_after s c es Done = done_stage s c es
-stage_after s c es Cut = with_entries s es
+abbrev pub done_stage : Stage → Command → List Entry → List Record → Stage
+done_stage s commands.Nothing es found = s
+done_stage s (commands.Format limit) es found = record s { last = Formatted (room_of limit) }
+done_stage s commands.Open es found = record s { life = Some (record { opening = found; history = [] }) }
+done_stage s (commands.Begin name) es found = record (with_entries s es) { active = began name es ++ s.active }
+done_stage s (commands.Ask name request) es found = with_entries s es
+done_stage s (commands.Commit name) es found = record (with_entries s es) { active = without s.active name }
+done_stage s (commands.Stop keep) es found = stopped s
+done_stage s (commands.Fuse device calls) es found = record s { armed = true }
+done_stage s (commands.Renew device) es found = record s { armed = false }
+done_stage s _ es found = s
+
+-- the disk failed in a command
+abbrev pub failed_stage : Stage → Command → List Entry → Stage
+failed_stage s (commands.Format limit) es = record s { last = Unformatted s.last (room_of limit) }
+failed_stage s (commands.Commit name) es = with_entries s es
+failed_stage s _ es = s
+
+-- a fault of the disk in a commit ends the life
+abbrev pub end_after : Stage → Command → ℕ → Option ℕ
+end_after s (commands.Commit name) n = Some n
+end_after s _ n = s.ended
+
+abbrev pub stage_after : Stage → Command → List Entry → List Record → End → Stage
+stage_after s c es found Done = done_stage s c es found
+stage_after s c es found (LogFault n) = record (failed_stage s c es) { ended = end_after s c n }
+stage_after s c es found (Ended n) = s
+stage_after s c es found Cut = record (failed_stage s c es) { cut = true }
 
 abbrev pub turn : Command → List Entry → End → Turn
-turn c es end = record { command = c; entries = es; end = end }
+turn c es end = record { command = c; entries = es; found = []; end = end }
 
 abbrev pub stage_step : Stage → Turn → Stage
-stage_step s t = stage_after s t.command t.entries t.end
+stage_step s t = stage_after s t.command t.entries t.found t.end
 
-unfoldable pub stage : List Turn → Stage
-stage turns = fold stage_step begin_stage turns
+unfoldable pub stage : List Record → List Turn → Stage
+stage log turns = fold stage_step (begin_stage log) turns
 
 -- the log of a life so far
 abbrev pub log_of_life : Option Life → List Record
@@ -118,12 +180,20 @@ is_known names name = list_any (λ a. same_text name a.name) names
 -- the command may stand after these turns; those of words that aren't built yet may stand nowhere
 abbrev pub is_lawful : Stage → Command → Bool
 is_lawful s commands.Nothing = true
-is_lawful s (commands.Format limit) = no_life s.life
+is_lawful s (commands.Format limit) = if no_life s.life then is_limit (room_of limit) else false
 is_lawful s commands.Open = no_life s.life
 is_lawful s (commands.Begin name) = if no_life s.life then false else not (is_known s.active name)
 is_lawful s (commands.Ask name request) = is_known s.active name
 is_lawful s (commands.Commit name) = is_known s.active name
+is_lawful s (commands.Stop keep) = true
+is_lawful s (commands.Fuse device calls) = true
+is_lawful s (commands.Renew device) = true
 is_lawful s _ = false
+
+-- no stop, which ends a life
+abbrev pub IsNoStop : Command → Type 0
+IsNoStop (commands.Stop keep) = ⊥
+IsNoStop _ = Unit {0}
 
 -- what may stand in a turn beside the answer: the lock of the request, its write
 abbrev pub IsAid : ℕ → Request → Entry → Type 0
@@ -132,21 +202,27 @@ IsAid tx (requests.Put key value) (Lock t range mode) = (t ≡ tx) × (range ≡
 IsAid tx (requests.Put key value) (Rec lsn (kinds.Write w)) = (w.tx ≡ tx) × (w.key ≡ key) × (w.new ≡ Some value)
 IsAid tx _ _ = ⊥
 
--- a transaction that may have another put
-abbrev pub MayPut : List Record → Option ℕ → Type 0
-MayPut log None = ⊥
-MayPut log (Some tx) = length (open_writes log tx) < 4000
+-- one write more leaves room to undo all
+abbrev pub HasRoom : List Record → Request → Type 0
+HasRoom log (requests.Put key value) = pages log + pending log + 2 ≤ limit_of log
+HasRoom log _ = Unit {0}
 
--- the requests that are built: a get, and a put of such a transaction
-abbrev pub IsRequestBuilt : List Record → Option ℕ → Request → Type 0
-IsRequestBuilt log tx (requests.Get key) = Unit {0}
-IsRequestBuilt log tx (requests.Put key value) = MayPut log tx
-IsRequestBuilt log tx _ = ⊥
+-- the answer to a request in this log: a reply, or a put is refused as full
+abbrev pub IsAnswer : Type 0 → List Record → ℕ → Request → Entry → Type 0
+IsAnswer tells log tx request (Said session t r reply) = (t ≡ tx) × (r ≡ request) × (tells → HasRoom log request)
+IsAnswer tells log tx (requests.Put key value) (Declined session t r (outcomes.Full pages pending)) = (t ≡ tx) × (r ≡ requests.Put key value)
+IsAnswer tells log tx _ _ = ⊥
+
+-- the requests that are built
+abbrev pub IsRequestBuilt : Request → Type 0
+IsRequestBuilt (requests.Get key) = Unit {0}
+IsRequestBuilt (requests.Put key value) = Unit {0}
+IsRequestBuilt _ = ⊥
 
 -- a request is answered
-abbrev pub Answers : Option ℕ → Request → List Entry → Type 0
-Answers None request es = ⊥
-Answers (Some tx) request es = (aids : List Entry) × (session : ℕ) × (reply : Reply) × (es ≡ aids ++ Said session tx request reply ∷ []) × All (IsAid tx request) aids
+abbrev pub Answers : Type 0 → List Record → Option ℕ → Request → List Entry → Type 0
+Answers tells log None request es = ⊥
+Answers tells log (Some tx) request es = (aids : List Entry) × (answer : Entry) × (es ≡ aids ++ answer ∷ []) × IsAnswer tells log tx request answer × All (IsAid tx request) aids
 
 abbrev pub Commits : Option ℕ → List Entry → Type 0
 Commits None es = ⊥
@@ -157,41 +233,64 @@ abbrev pub CutCommit : Option ℕ → List Entry → Type 0
 CutCommit None es = ⊥
 CutCommit (Some tx) es = (lsn : ℕ) × (prev : ℕ) × (es ≡ Rec lsn (kinds.Commit (record { tx = tx; prev = prev })) ∷ [])
 
-abbrev pub DoneRow : Stage → Command → List Entry → Type 0
-DoneRow s commands.Nothing es = es ≡ []
-DoneRow s (commands.Format limit) es = (es ≡ []) × (limit ≡ None) × (s.kept ≡ None)
-DoneRow s commands.Open es = (es ≡ []) × ((log : List Record) × (s.kept ≡ Some log))
-DoneRow s (commands.Begin name) es = (s.active ≡ []) × (session : ℕ) × (tx : ℕ) × (es ≡ Began session tx ∷ [])
-DoneRow s (commands.Ask name request) es = IsRequestBuilt (log_of_life s.life) (tx_of s.active name) request × Answers (tx_of s.active name) request es
-DoneRow s (commands.Commit name) es = Commits (tx_of s.active name) es
-DoneRow s _ es = ⊥
+-- What a command adds that is done. An `open` finds a log that may be found, a `format` an empty one; commands of a life
+-- are done in one that goes on. A disk that tells nothing gives the form alone.
+abbrev pub DoneRow : Type 0 → Stage → Command → List Entry → List Record → Type 0
+DoneRow tells s commands.Nothing es found = es ≡ []
+DoneRow tells s (commands.Format limit) es found = (es ≡ []) × (tells → MayFind s.last [])
+DoneRow tells s commands.Open es found = (es ≡ []) × (tells → MayFind s.last found)
+DoneRow tells s (commands.Begin name) es found = (s.ended ≡ None) × (s.active ≡ []) × (session : ℕ) × (tx : ℕ) × (es ≡ Began session tx ∷ [])
+DoneRow tells s (commands.Ask name request) es found = (s.ended ≡ None) × IsRequestBuilt request × Answers tells (log_of_life s.life) (tx_of s.active name) request es
+DoneRow tells s (commands.Commit name) es found = (s.ended ≡ None) × Commits (tx_of s.active name) es
+DoneRow tells s (commands.Stop keep) es found = es ≡ []
+DoneRow tells s (commands.Fuse device calls) es found = (es ≡ []) × (device ≡ Log)
+DoneRow tells s (commands.Renew device) es found = (es ≡ []) × (device ≡ Log)
+DoneRow tells s _ es found = ⊥
 
--- what a command had entered when the log disk failed
+-- what a command had entered when the disk failed
 abbrev pub CutRow : Stage → Command → List Entry → Type 0
 CutRow s (commands.Format limit) es = es ≡ []
 CutRow s commands.Open es = es ≡ []
-CutRow s (commands.Commit name) es = CutCommit (tx_of s.active name) es
+CutRow s (commands.Commit name) es = (s.ended ≡ None) × CutCommit (tx_of s.active name) es
 CutRow s _ es = ⊥
 
-abbrev pub Row : Stage → Command → List Entry → End → Type 0
-Row s c es Done = DoneRow s c es
-Row s c es Cut = CutRow s c es
+-- the life's log was durable up to an LSN when it ended: none behind the last, and none before the Commit of an
+-- acknowledged transaction
+pub record IsEndedAt (l : Life) (n : ℕ) : Type 0 where
+  pub most : n ≤ length (life_log l.opening l.history)
+  pub least : (t : ℕ) → list_any (acknowledges t) l.history ≡ true → list_any (is_commit_of t) (take n (life_log l.opening l.history)) ≡ true
 
-pub record FitsAt (s : Stage) (t : Turn) : Type 0 where
+abbrev pub IsEnd : Option Life → Option ℕ → Type 0
+IsEnd (Some l) (Some n) = IsEndedAt l n
+IsEnd _ _ = Unit {0}
+
+-- an ended life answers so to the commands of a transaction
+abbrev pub EndedRow : Command → List Entry → Type 0
+EndedRow (commands.Begin name) es = es ≡ []
+EndedRow (commands.Ask name request) es = es ≡ []
+EndedRow (commands.Commit name) es = es ≡ []
+EndedRow _ es = ⊥
+
+-- a fault is a line only where the disk's fuse is armed
+abbrev pub Row : Type 0 → Stage → Command → List Entry → List Record → End → Type 0
+Row tells s c es found Done = DoneRow tells s c es found
+Row tells s c es found (LogFault n) = (s.armed ≡ true) × CutRow s c es × (tells → IsEnd (failed_stage s c es).life (end_after s c n))
+Row tells s c es found (Ended n) = (s.ended ≡ Some n) × EndedRow c es
+Row tells s c es found Cut = CutRow s c es
+
+-- nothing follows a command that a status cut off
+pub record FitsAt (tells : Type 0) (s : Stage) (t : Turn) : Type 0 where
+  pub goes : s.cut ≡ false
   pub lawful : IsTrue (is_lawful s t.command)
-  pub row : Row s t.command t.entries t.end
+  pub row : Row tells s t.command t.entries t.found t.end
 
-abbrev pub fits_after : List Turn → Turn → Type 0
-fits_after before t = FitsAt (stage before) t
+abbrev pub fits_after : Type 0 → List Record → List Turn → Turn → Type 0
+fits_after tells log before t = FitsAt tells (stage log before) t
 
-unfoldable pub Fits : List Turn → Type 0
-Fits turns = AllAlong fits_after turns
+unfoldable pub Fits : Type 0 → List Record → List Turn → Type 0
+Fits tells log turns = AllAlong (fits_after tells log) turns
 
 -- ---- lives
-
-abbrev pub lives_of : Option Life → List Life → List Life
-lives_of None past = past
-lives_of (Some l) past = past ++ l ∷ []
 
 abbrev pub lives : Stage → List Life
 lives s = lives_of s.life s.past

@@ -1,28 +1,36 @@
 //! Runs a script of commands over a store, and prints its transcript.
 //!
-//! The way of a line: `input` reads it, `script` says which command it spells, `outside` or `life` carries the command
-//! out, `print` has the lines that answer it, and `run` writes them before it reads on. A life, from its `open` to its
-//! end, is one function, which owns what the life needs and hands the devices back.
+//! The way of a line: `input` reads it, `script` says which command it spells, `at` carries it out, in `outside` or in
+//! `life`, `print` has the lines that answer it, and `run` writes them before it reads on. A run is a row of lives, each
+//! from an `open` to a `stop` or to the end of the run; a life is a value that owns what it needs, with the log disk, and
+//! between two lives there is the log disk alone. The log disk is in a fuse, which lines arm and renew, and which a stop
+//! renews.
 //!
 //! The layer's promise is the clause `headline` of [`run_words`]. There are turns (`specs/Turns`), each a command with the
 //! entries that it adds to the history of its life. Their commands are those of the lines read, each fits behind those
 //! before it, and their text (`specs/Text`) is what was written, all of it where the run is done (`specs/Clause`). Each
-//! life of theirs is legal, has the replies of a serial run, and whatever a stop may leave of it has its first
-//! transactions. The log disk that is handed back holds such a rest, also after a crash (`specs/LogDisk`). Each status
-//! comes for its own cause (`specs/Refusals`, `specs/Causes`).
+//! life of theirs opens a log that the life before may have left, or that was handed in or made; it is legal, has the
+//! replies of a serial run, and whatever a stop may leave of it has its first transactions. The log disk that is handed
+//! back holds such a rest, also after a crash (`specs/LogDisk`). Each status comes for its own cause (`specs/Refusals`,
+//! `specs/Causes`).
+//!
+//! What a disk tells is said twice: of disks that tell, with what they hold, and of all, with the form of the transcript
+//! alone. Each clause is universal over these views (`View` in `specs/LogDisk`).
 //!
 //! Only the loops in `run` speak of turns; the commands in `outside` and `life` are universal over the `Stage` that turns
-//! leave, and see neither source nor sink.
+//! leave (`specs/Machine`), and see neither source nor sink.
 #![tactic(auto)]
 
+mod at;
+mod built;
 mod input;
-mod leaf;
 mod life;
 mod opening;
 mod outside;
 mod print;
 mod run;
 mod session;
+mod standing;
 mod status;
 mod words;
 

@@ -1,78 +1,70 @@
-//! Opening a life: the log's records are applied to the page in order.
-ghost use Rattle.std.specs.Prelude.{◌≡◌, ◌≤◌, ◌↔◌, ◌∷◌, ℕ, List, true, [], None, IsOk, IfErr, IfOk, MatchResult};
-ghost use Rattle.log_blocks.specs.Log.{Block};
+//! Opening a life, and making the log that a life can open.
+ghost use Rattle.std.specs.Prelude.{◌≡◌, ◌≤◌, ◌+◌, ℕ, List, [], None, length, IsTrue, IfOk, IfErr, OnOk, IsErrAnd, MatchResult};
+ghost use Rattle.media.specs.Counted.{Blames};
+ghost use Rattle.log_blocks.specs.Log.{Block, first_lsn};
 ghost use Rattle.log_blocks.specs.LogState.{IsDurable};
-ghost use Rattle.log_blocks.specs.Opening.{RoseFor};
-ghost use Rattle.runner.specs.Turns.{formatted_log};
-ghost use Rattle.runner.specs.LogDisk.{KeepsLog, KeepsFirst, first_block};
-ghost use Rattle.runner.specs.Causes.{LogCause, IsOpenRefusal, IsDiskFault};
-ghost use Rattle.runner.specs.Replaying.{ReadNothing, ReadFormat, first_format};
-ghost use Rattle.wal_record.specs.Spelling.{spelling};
+ghost use Rattle.log_manager.specs.Records.{AreRecordsOf, IsLogOf};
+ghost use Rattle.log_replay.specs.Answers.{Opens};
+ghost use Rattle.wal_record.specs.Rules.{is_limit};
+ghost use Rattle.wal_record.specs.State.{KeepsState};
+ghost use Rattle.wal_record.specs.declared.record.Record.{Record};
+ghost use Rattle.runner.specs.LogDisk.{View, seen};
+ghost use Rattle.runner.specs.Machine.{IsCalm};
+ghost use Rattle.runner.specs.Causes.{Shows};
+ghost use Rattle.runner.specs.Openings.{Makes, IsMade, IsFirst, IsFault, IsNotMade, IsBegun, IsNotBegun, MadeStatus, ReadStatus, ReplayStatus};
+ghost use Rattle.runner.specs.declared.status.Status.TheVariants as statuses;
 
-use crate::leaf::{Leaf, PutRefused};
 use crate::life::Life;
+use crate::standing::Standing;
 use crate::status::Status;
-use log_blocks::{BlockLog, one_log, open_log};
+use log_blocks::{BlockLog, never_bad, one_log, open_log};
+use log_manager::LogManager;
+use log_replay::{Found, NotReplayed, replay};
 use media::Disk;
-use record_codec::{RecordFault, decode};
+use operators::Operators;
 use std::alloc::Global;
-use store_model::{Fault, Lsn, TxId};
-use wal_record::{LeafRow, Record, Write};
+use std::slice;
+use store_model::Fault;
+use wal_record::{Format, Record};
 
-/// Where a block's payload begins.
-const HEAD: u64 = 23;
+/// The numbers of a life stay below this: no log comes so far.
+const MOST: u64 = 1 << 62;
 
-/// Where its count of records stands.
-const COUNT: u64 = 17;
-
-/// What the records so far made.
-#[derive(Drop)]
-struct Replay {
-    leaf: Leaf,
-    /// The LSN of the last record that names the page.
-    head: Lsn,
-    /// The least number above those of all transactions.
-    next: TxId,
-    commits: u64,
-    /// The LSN of the last record.
-    last: Lsn,
-
-    ghost number: { 1 ≤ next },
-}
-
-/// A log that isn't opened, with its disk.
+/// A log that isn't opened or made, with its disk.
 #[derive(Drop)]
 pub struct NotOpened<L> {
     pub disk: L,
     pub status: Status,
 }
 
-/// Reads the log of a disk, and opens a life on it. `line` is the line that asks for it. Only the log that a format
-/// made is opened yet: where the disk gives another one, it isn't built.
-pub fn open<L: Disk>(alloc: Global, disk: L, line: u64) -> Result<Life<L>, NotOpened<L>>
-    ensures later { MatchResult result (λ life. L.faults disk ≤ L.faults life.log.device) (λ refused. L.faults disk ≤ L.faults refused.disk) }
-    ensures cause { IfErr result (λ refused. LogCause (L.faults disk) (L.faults refused.disk) refused.status) }
-    ensures first { IfOk result (λ life. (life.leaf ≡ []) × (life.head ≡ 1) × (life.session ≡ None) × (life.next ≡ 1) × (life.commits ≡ 0) × (life.log.next ≡ 2)) }
-    // It syncs and reads, and changes no byte.
-    ensures opened { L.tells → KeepsFirst L.told L.may_leave disk → IfOk result (λ life. KeepsLog L.told L.may_leave life.log formatted_log) }
-    ensures kept { L.tells → KeepsFirst L.told L.may_leave disk → IfErr result (λ refused. KeepsFirst L.told L.may_leave refused.disk) }
-    ensures fresh { IfOk result (λ life. life.log.pending ≡ []) }
-    ensures met { L.tells → KeepsFirst L.told L.may_leave disk → IfErr result (λ refused. IsDiskFault refused.status) }
-    ensures err { IfErr result (λ refused. IsOpenRefusal line refused.status) }
+/// Makes the log of a store with this room on a disk whose log is empty.
+pub fn make_log<L: Disk>(alloc: Global, disk: L, limit: u32) -> Result<L, NotOpened<L>>
+    requires { IsTrue (is_limit limit) }
+    ensures made { IfOk result (λ left. (v : View L.tells) → Makes (seen L.Disk v) disk (IsMade (seen L.Disk v) limit left)) }
+    ensures not { IfErr result (λ r. (v : View L.tells) → IsNotMade (seen L.Disk v) limit disk r.disk r.status) }
+    ensures shows { IfErr result (λ r. Shows L.Disk r.disk r.status) }
+    ensures fuse { MatchResult result (λ left. Blames L.passes L.refused L.own disk left ⊥) (λ r. Blames L.passes L.refused L.own disk r.disk (r.status ≡ statuses.LogFault)) }
 {
-    let mut log = match open_log(alloc, disk) {
-        Ok(log) => log,
-        Err(refused) => {
-            return Err(NotOpened {
-                disk: refused.disk,
-                status: status_of(&refused.fault),
-            });
-        }
-    };
     // What the disk keeps can be read in one way only.
     one_log();
-    match replay_log(alloc, &mut log, line) {
-        Ok(found) => first_life(log, found, line),
+    never_bad();
+    let log = match open_log(alloc, disk) {
+        Ok(log) => log,
+        Err(refused) => return Err(NotOpened {
+            disk: refused.disk,
+            status: not_made(&refused.fault),
+        }),
+    };
+    let count = log.blocks();
+    if count != 0 {
+        return Err(NotOpened {
+            disk: log.into_device(),
+            status: Status::AlreadyFormatted,
+        });
+    }
+    let mut log = LogManager::start(alloc, log);
+    match enter_format(alloc, &mut log, limit) {
+        Ok(()) => Ok(log.into_device()),
         Err(status) => Err(NotOpened {
             disk: log.into_device(),
             status,
@@ -80,45 +72,107 @@ pub fn open<L: Disk>(alloc: Global, disk: L, line: u64) -> Result<Life<L>, NotOp
     }
 }
 
-/// A life on the log that a format made, which is the only one that is opened yet.
-fn first_life<L: Disk>(log: BlockLog<L>, found: Replay, line: u64) -> Result<Life<L>, NotOpened<L>>
-    ensures log { MatchResult result (λ life. life.log ≡ log) (λ refused. refused.disk ≡ log.device) }
-    ensures first { IfOk result (λ life. (life.leaf ≡ []) × (life.head ≡ 1) × (life.session ≡ None) × (life.next ≡ 1) × (life.commits ≡ 0) × (life.log.next ≡ 2)) }
-    ensures err { IfErr result (λ refused. IsOpenRefusal line refused.status) }
-    ensures cause { IfErr result (λ refused. LogCause 0 0 refused.status) }
-    ensures met { ReadFormat found.leaf found.head found.next found.commits found.last → IfErr result (λ refused. IsDiskFault refused.status) }
+/// Enters the first record and flushes it.
+fn enter_format<L: Disk>(
+    alloc: Global,
+    log: &mut LogManager<L>,
+    limit: u32,
+) -> Result<(), Status>
+    requires limit { IsTrue (is_limit limit) }
+    requires first { log.old.log.next ≡ 1 }
+    requires goes { log.old.log.ended ≡ None }
+    ensures made { OnOk result (L.tells → IsLogOf L.told L.may_leave log.old.log [] [] → IsFirst L.told L.may_leave limit 1 log.new.log.device) }
+    ensures cut { IfErr result (λ status. status ≡ statuses.LogFault → L.tells → IsLogOf L.told L.may_leave log.old.log [] [] → IsFirst L.told L.may_leave limit 0 log.new.log.device) }
+    ensures same { IfErr result (λ status. status ≡ statuses.Memory → log.new.log.device ≡ log.old.log.device) }
+    ensures kind { IfErr result IsFault }
+    ensures fuse { Blames L.passes L.refused L.own log.old.log.device log.new.log.device (IsErrAnd result (λ status. status ≡ statuses.LogFault)) }
 {
-    if !found.is_first() {
-        return Err(NotOpened {
-            disk: log.into_device(),
-            status: Status::NotBuilt { line },
-        });
+    let format = Record::Format(Format { limit });
+    let lsn = match log.append_group(alloc, slice::from_ref(&format)) {
+        Ok(lsn) => lsn,
+        Err(_) => return Err(Status::Memory),
+    };
+    match log.flush_to(lsn) {
+        Ok(()) => Ok(()),
+        Err(Fault::LogFault) => Err(Status::LogFault),
+        Err(_) => Err(Status::Memory),
     }
-    // The one block has one record, and counts others.
-    if log.next() != 2 {
+}
+
+/// The status of a log that isn't made since it can't be read: an open gate stands there.
+fn not_made(fault: &Fault) -> Status
+    ensures { MadeStatus fault.now result }
+{
+    match fault {
+        Fault::LogFault => Status::LogFault,
+        Fault::LogBad { block: _, byte: _ } => Status::AlreadyFormatted,
+        _ => Status::Memory,
+    }
+}
+
+/// Reads the log of a disk, and opens a life on it. `line` is the line that asks for it.
+pub fn open<L: Disk>(
+    alloc: Global,
+    operators: &Operators,
+    disk: L,
+    line: u64,
+) -> Result<Life<L>, NotOpened<L>>
+    ensures begun { IfOk result (λ life. (v : View L.tells) → Makes (seen L.Disk v) disk (IsBegun (seen L.Disk v) life.log.log life.standing)) }
+    ensures first { IfOk result (λ life. (life.standing.session ≡ None) × (life.log.log.ended ≡ None)) }
+    ensures not { IfErr result (λ r. (v : View L.tells) → IsNotBegun (seen L.Disk v) line disk r.disk r.status) }
+    ensures fuse { MatchResult result (λ life. Blames L.passes L.refused L.own disk life.log.log.device ⊥) (λ r. Blames L.passes L.refused L.own disk r.disk (r.status ≡ statuses.LogFault)) }
+{
+    // What the disk keeps can be read in one way only.
+    one_log();
+    never_bad();
+    let mut log = match open_log(alloc, disk) {
+        Ok(log) => log,
+        Err(refused) => return Err(NotOpened {
+            disk: refused.disk,
+            status: not_read(&refused.fault),
+        }),
+    };
+    match replay(alloc, &mut log, operators) {
+        Ok(found) => begin(alloc, log, found),
+        Err(why) => Err(NotOpened {
+            disk: log.into_device(),
+            status: not_replayed(&why, line),
+        }),
+    }
+}
+
+/// A life on a log in which this was found, where its numbers aren't used up.
+fn begin<L: Disk>(alloc: Global, log: BlockLog<L>, found: Found) -> Result<Life<L>, NotOpened<L>>
+    requires rules { KeepsState found.page }
+    requires number { 1 ≤ found.next }
+    requires fresh { log.pending ≡ [] }
+    requires goes { log.ended ≡ None }
+    ensures begun { IfOk result (λ life. (v : View L.tells) → L.tells → (bs : List Block) (rs : List Record) → IsDurable L.told L.may_leave log bs → AreRecordsOf bs rs → first_lsn bs ≡ 1 → Opens rs found → log.next ≡ length rs + 1 → IsCalm (seen L.Disk v) life.log.log life.standing (record { opening = rs; history = [] }) (length rs)) }
+    ensures first { IfOk result (λ life. (life.standing.session ≡ None) × (life.log.log.ended ≡ None) × (life.log.log.device ≡ log.device)) }
+    ensures not { IfErr result (λ r. (r.disk ≡ log.device) × (r.status ≡ statuses.Memory)) }
+{
+    if found.head >= MOST || found.next >= MOST {
         return Err(NotOpened {
             disk: log.into_device(),
-            status: Status::LogBad {
-                block: 0,
-                byte: COUNT,
-            },
+            status: Status::Memory,
         });
     }
     Ok(Life {
-        log,
-        leaf: found.leaf,
-        head: found.head,
-        session: None,
-        next: found.next,
-        commits: found.commits,
+        log: LogManager::start(alloc, log),
+        standing: Standing {
+            page: Some(found.page),
+            head: found.head,
+            session: None,
+            next: found.next,
+            commits: found.commits,
+            limit: found.limit,
+        },
     })
 }
 
-/// The status of a fault of the log.
-pub fn status_of(fault: &Fault) -> Status
-    ensures cause { (before now : ℕ) → RoseFor before now fault.now → LogCause before now result }
-    ensures kind { (line : ℕ) → IsOpenRefusal line result }
-    ensures met { IsDiskFault result }
+/// The status of a log whose blocks can't be read.
+fn not_read(fault: &Fault) -> Status
+    ensures { ReadStatus fault.now result }
 {
     match fault {
         Fault::LogFault => Status::LogFault,
@@ -130,124 +184,18 @@ pub fn status_of(fault: &Fault) -> Status
     }
 }
 
-fn replay_log<L: Disk>(alloc: Global, log: &mut BlockLog<L>, line: u64) -> Result<Replay, Status>
-    requires { log.old.ended ≡ None }
-    ensures durable { L.tells → (bs : List Block) → IsDurable L.told L.may_leave log.old bs → IsDurable L.told L.may_leave log.new bs }
-    ensures pending { log.new.pending ≡ log.old.pending }
-    ensures met { L.tells → (n : ℕ) → IsDurable L.told L.may_leave log.old (first_block n ∷ []) → log.old.pending ≡ [] → MatchResult result (λ found. ReadFormat found.leaf found.head found.next found.commits found.last) IsDiskFault }
-    ensures later { L.faults log.old.device ≤ L.faults log.new.device }
-    ensures cause { IfErr result (LogCause (L.faults log.old.device) (L.faults log.new.device)) }
-    ensures number { IfOk result (λ found. 1 ≤ found.next) }
-    ensures err { IfErr result (IsOpenRefusal line) }
+/// The status of a log whose records make no life.
+fn not_replayed(why: &NotReplayed, line: u64) -> Status
+    ensures { ReplayStatus line why.now result }
 {
-    let mut found = Replay {
-        leaf: Leaf::new(alloc),
-        head: 0,
-        next: 1,
-        commits: 0,
-        last: 0,
-    };
-    for block in 0..log.blocks() {
-        let mut payload = Vec::new(alloc);
-        match log.read_block(block, &mut payload) {
-            Ok(()) => {}
-            Err(Fault::LogFault) => return Err(Status::LogFault),
-            Err(_) => return Err(Status::Memory),
-        }
-        match found.replay_block(alloc, block, &payload, line) {
-            Ok(()) => {}
-            Err(status) => return Err(status),
-        }
-    }
-    if found.last == 0 {
-        return Err(Status::NotFormatted);
-    }
-    Ok(found)
-}
-
-impl Replay {
-    /// Whether a format was the only record.
-    fn is_first(&self) -> bool
-        ensures { (result ≡ true) ↔ ((self.now.leaf ≡ []) × (self.now.head ≡ 1) × (self.now.next ≡ 1) × (self.now.commits ≡ 0)) }
-    {
-        self.leaf.is_empty() && self.head == 1 && self.next == 1 && self.commits == 0
-    }
-
-    fn replay_block(
-        &mut self,
-        alloc: Global,
-        block: u64,
-        payload: &[u8],
-        line: u64,
-    ) -> Result<(), Status>
-        ensures cause { IfErr result (LogCause 0 0) }
-        ensures err { IfErr result (IsOpenRefusal line) }
-        ensures met { ReadNothing self.old.leaf self.old.head self.old.next self.old.commits self.old.last → payload.now ≡ spelling first_format → MatchResult result (λ _. ReadFormat self.new.leaf self.new.head self.new.next self.new.commits self.new.last) IsDiskFault }
-    {
-        let mut at = 0;
-        while at < payload.len() {
-            let (_, rest) = payload.split_at(at);
-            match decode(alloc, rest) {
-                Ok((record, length)) => {
-                    match self.apply(&record, line) {
-                        Ok(()) => {}
-                        Err(status) => return Err(status),
-                    }
-                    at += length;
-                }
-                Err(RecordFault::Memory) => return Err(Status::Memory),
-                Err(RecordFault::Bad { byte }) => {
-                    return Err(Status::LogBad {
-                        block,
-                        byte: HEAD + (at + byte) as u64,
-                    });
-                }
-            }
-        }
-        Ok(())
-    }
-
-    /// A record does to the page what it says. Kinds that nothing enters yet aren't built.
-    fn apply(&mut self, record: &Record, line: u64) -> Result<(), Status>
-        ensures cause { IfErr result (LogCause 0 0) }
-        ensures err { IfErr result (IsOpenRefusal line) }
-        ensures format { ReadNothing self.old.leaf self.old.head self.old.next self.old.commits self.old.last → «record».now ≡ first_format → IsOk result × ReadFormat self.new.leaf self.new.head self.new.next self.new.commits self.new.last }
-    {
-        self.last = self.last.saturating_add(1);
-        match record {
-            Record::Format(_) => {
-                self.head = self.last;
-                Ok(())
-            }
-            Record::Write(write) => self.apply_write(write, line),
-            Record::Commit(commit) => {
-                self.next = self.next.max(commit.tx.saturating_add(1));
-                self.commits = self.commits.saturating_add(1);
-                Ok(())
-            }
-            _ => Err(Status::NotBuilt { line }),
-        }
-    }
-
-    fn apply_write(&mut self, write: &Write, line: u64) -> Result<(), Status>
-        ensures cause { IfErr result (LogCause 0 0) }
-        ensures err { IfErr result (IsOpenRefusal line) }
-    {
-        self.head = self.last;
-        self.next = self.next.max(write.tx.saturating_add(1));
-        let value = match &write.new {
-            Some(value) => value.copied(),
-            None => return Err(Status::NotBuilt { line }),
-        };
-        let row = LeafRow {
-            key: write.key.copied(),
-            tombstone: false,
-            value,
-        };
-        match self.leaf.put(row) {
-            Ok(()) => Ok(()),
-            Err(PutRefused::Full) => Err(Status::NotBuilt { line }),
-            Err(PutRefused::Memory) => Err(Status::Memory),
-        }
+    match why {
+        NotReplayed::Memory => Status::Memory,
+        NotReplayed::LogFault => Status::LogFault,
+        NotReplayed::LogBad { block, byte } => Status::LogBad {
+            block: *block,
+            byte: *byte,
+        },
+        NotReplayed::NotFormatted => Status::NotFormatted,
+        NotReplayed::NotBuilt => Status::NotBuilt { line },
     }
 }

@@ -1,204 +1,265 @@
 //! Commands where no life is open.
-ghost use Rattle.std.specs.Prelude.{◌≡◌, ◌≤◌, ◌∷◌, [], ℕ, None, true, false, IfErr, IfOk, MatchResult, codes};
-ghost use Rattle.log_blocks.specs.Opening.{RoseFor};
-ghost use Rattle.runner.specs.Causes.{LogCause, IsFormatRefusal};
+ghost use Rattle.std.specs.Prelude.{◌≡◌, ◌≤◌, ◌<◌, ◌^◌, ℕ, codes, None, IfOk, IfErr};
+ghost use Rattle.media.specs.Crash.{Only};
+ghost use Rattle.wal_record.specs.Rules.{is_limit};
+ghost use Rattle.runner.specs.Causes.{SteppedCause};
+ghost use Rattle.runner.specs.LogDisk.{View, seen};
 ghost use Rattle.runner.specs.Turns.{Stage};
-ghost use Rattle.runner.specs.Machine.{Out, Inside, StepsOut};
-ghost use Rattle.runner.specs.LogDisk.{IsBlank, KeepsFirst, LeavesBlank, first_block};
-ghost use Rattle.script.specs.declared.command.Command.TheVariants as commands;
-ghost use Rattle.runner.specs.Turning.{OutsideCause};
-ghost use Rattle.runner.specs.Session.{IsPlain};
 ghost use Rattle.runner.specs.declared.status.Status.{Status};
+ghost use Rattle.runner.specs.Machine.{Out, In, Safe, Steps, Refuses};
+ghost use Rattle.script.specs.declared.command.Command.TheVariants as commands;
 
+use crate::at::{At, Stepped};
 use crate::life::Life;
-use crate::opening::{NotOpened, open};
+use crate::opening::{NotOpened, make_log, open};
 use crate::print;
 use crate::status::Status;
-use log_blocks::{Batch, open_log};
 use media::Disk;
-use record_codec::encode;
-use script::Command;
+use operators::Operators;
+use script::{Command, Device};
 use std::alloc::Global;
-use store_model::Fault;
-use wal_record::{Format, Record};
 
 /// The room of a store whose `format` names none.
-const LIMIT: u32 = 16_384;
+const ROOM: u32 = 16_384;
 
-/// A blank log is far shorter.
-const MOST: u64 = 1 << 61;
+/// A fuse refuses far fewer calls.
+const MOST: u64 = 1 << 62;
 
-/// What a command outside of a life did: its lines and what is there then, or why it ended the run.
-#[derive(Drop)]
-pub enum Outside<D, F> {
-    Stays {
-        lines: Vec<u8>,
-        disk: D,
-        formatted: bool,
-    },
-    Opens {
-        lines: Vec<u8>,
-        life: F,
-    },
-    Ends {
-        status: Status,
-        disk: D,
-    },
-}
-
-/// Carries a command out. `formatted` is whether this run has made the disk's log.
+/// Carries a command out.
 pub fn step<L: Disk>(
     alloc: Global,
+    operators: &Operators,
     disk: L,
-    formatted: bool,
     command: &Command,
     line: u64,
-) -> Outside<L, Life<L>>
-    ensures turns { (disk0 : L) (s : Stage) → Out L.tells L.told L.may_leave L.start L.len disk0 disk formatted s → StepsOut L.tells L.told L.may_leave L.start L.len disk0 (λ life. Inside L.tells L.told L.may_leave L.start L.len disk0 life.leaf life.head life.session life.next life.commits life.log) s command.now line result }
-    ensures cause { OutsideCause L.faults (λ life. life.log.device) disk result }
+) -> Stepped<L, Life<L>>
+    ensures turns { (v : View L.tells) (s : Stage) → Out (seen L.Disk v) disk s → Steps (seen L.Disk v) (λ life. In (seen L.Disk v) life.log.log life.standing) s command.now line result }
+    ensures cause { SteppedCause L.Disk (λ life. life.log.log.device) disk result }
 {
     match command {
-        Command::Nothing => Outside::Stays {
+        Command::Nothing => Stepped::Goes {
             lines: Vec::new(alloc),
-            disk,
-            formatted,
+            at: At::Outside { disk },
         },
-        Command::Format { limit } => match limit {
-            None => format(alloc, disk, formatted, line),
-            Some(_) => Outside::Ends {
-                status: Status::NotBuilt { line },
-                disk,
-            },
-        },
-        Command::Open => opens(alloc, disk, formatted, line),
-        _ => Outside::Ends {
+        Command::Format { limit } => format(alloc, disk, *limit, line),
+        Command::Open => opens(alloc, operators, disk, line),
+        Command::Stop { keep } => stop(alloc, disk, *keep, line),
+        Command::Fuse { device, calls } => fuse(alloc, disk, *device, *calls, line),
+        Command::Renew { device } => renew(alloc, disk, *device, line),
+        _ => Stepped::Ends {
             status: Status::Script { line },
             disk,
         },
     }
 }
 
-/// Makes the log of a blank disk, with its first record.
-fn format<L: Disk>(alloc: Global, disk: L, formatted: bool, line: u64) -> Outside<L, Life<L>>
-    ensures turns { (disk0 : L) (s : Stage) → Out L.tells L.told L.may_leave L.start L.len disk0 disk formatted s → StepsOut L.tells L.told L.may_leave L.start L.len disk0 (λ life. Inside L.tells L.told L.may_leave L.start L.len disk0 life.leaf life.head life.session life.next life.commits life.log) s (commands.Format None) line result }
-    ensures cause { OutsideCause L.faults (λ life. life.log.device) disk result }
+/// Makes the log of a disk that has none.
+fn format<L: Disk>(alloc: Global, disk: L, limit: Option<u32>, line: u64) -> Stepped<L, Life<L>>
+    ensures turns { (v : View L.tells) (s : Stage) → Out (seen L.Disk v) disk s → Steps (seen L.Disk v) (λ life. In (seen L.Disk v) life.log.log life.standing) s (commands.Format limit) line result }
+    ensures cause { SteppedCause L.Disk (λ life. life.log.log.device) disk result }
 {
-    if formatted || disk.start() != 0 || disk.len() != 0 {
-        return Outside::Ends {
-            status: Status::NotBuilt { line },
+    let room = limit.unwrap_or(ROOM);
+    if !is_room(room) {
+        return Stepped::Ends {
+            status: Status::Script { line },
             disk,
         };
     }
-    let (lines, batch) = match first_batch(alloc) {
-        Ok(made) => made,
-        Err(status) => return Outside::Ends { status, disk },
-    };
-    match make_log(alloc, disk, batch) {
-        Ok(disk) => Outside::Stays {
-            lines,
-            disk,
-            formatted: true,
-        },
-        Err(refused) => Outside::Ends {
-            status: refused.status,
-            disk: refused.disk,
-        },
-    }
-}
-
-/// Writes the first block to a blank disk.
-fn make_log<L: Disk>(alloc: Global, disk: L, batch: Batch) -> Result<L, NotOpened<L>>
-    requires blank { IsBlank L.start L.len disk }
-    requires first { batch.blocks ≡ first_block 0 ∷ [] }
-    requires plain { IsPlain 1 batch.blocks }
-    ensures made { L.tells → IfOk result (KeepsFirst L.told L.may_leave) }
-    ensures kept { L.tells → IfErr result (λ refused. LeavesBlank L.told L.may_leave disk refused.disk refused.status) }
-    ensures kind { IfErr result (λ refused. IsFormatRefusal refused.status) }
-    ensures later { MatchResult result (λ left. L.faults disk ≤ L.faults left) (λ refused. L.faults disk ≤ L.faults refused.disk) }
-    ensures cause { IfErr result (λ refused. LogCause (L.faults disk) (L.faults refused.disk) refused.status) }
-{
-    let mut log = match open_log(alloc, disk) {
-        Ok(log) => log,
-        Err(refused) => return Err(NotOpened {
-            disk: refused.disk,
-            status: not_made(&refused.fault),
-        }),
-    };
-    if log.next() >= MOST || log.end() >= MOST {
-        return Err(NotOpened {
-            disk: log.into_device(),
+    let refused = disk.refused();
+    if refused >= MOST {
+        return Stepped::Ends {
             status: Status::Memory,
-        });
+            disk,
+        };
     }
-    let mut batch = batch;
-    log.append_batch(&mut batch);
-    match log.flush() {
-        Ok(()) => Ok(log.into_device()),
-        // A flush takes no memory, and this log is open.
-        Err(_) => Err(NotOpened {
-            disk: log.into_device(),
-            status: Status::LogFault,
-        }),
+    let (lines, failed) = match format_lines(alloc) {
+        Ok(lines) => lines,
+        Err(status) => return Stepped::Ends { status, disk },
+    };
+    match make_log(alloc, disk, room) {
+        Ok(disk) => Stepped::Goes {
+            lines,
+            at: At::Outside { disk },
+        },
+        Err(not) => refuse(not, refused, failed),
     }
 }
 
-/// The status of a log that isn't made. A blank disk has no block that could be bad.
-fn not_made(fault: &Fault) -> Status
-    ensures cause { (before now : ℕ) → RoseFor before now fault.now → LogCause before now result }
-    ensures kind { IsFormatRefusal result }
+/// Whether a store may have this room.
+fn is_room(room: u32) -> bool
+    ensures { result ≡ is_limit room }
 {
-    match fault {
-        Fault::LogFault => Status::LogFault,
-        _ => Status::Memory,
-    }
+    8 <= room && room <= ROOM
 }
 
-/// The line that answers a format, and the block with its record.
-fn first_batch(alloc: Global) -> Result<(Vec<u8>, Batch), Status>
-    ensures lines { IfOk result (λ r. r.0.items ≡ codes "format ok\n") }
-    ensures first { IfOk result (λ r. r.1.blocks ≡ first_block 0 ∷ []) }
-    ensures plain { IfOk result (λ r. IsPlain 1 r.1.blocks) }
+/// The line of a format, and the one of a format that failed.
+fn format_lines(alloc: Global) -> Result<(Vec<u8>, Vec<u8>), Status>
+    ensures lines { IfOk result (λ r. (r.0.items ≡ codes "format ok\n") × (r.1.items ≡ codes "format log failed\n")) }
     ensures memory { IfErr result (λ status. status ≡ Status.Memory) }
 {
-    let lines = match print::format_line(alloc) {
-        Ok(lines) => lines,
-        Err(_) => return Err(Status::Memory),
-    };
-    let mut bytes = Vec::new(alloc);
-    match encode(alloc, &Record::Format(Format { limit: LIMIT }), &mut bytes) {
-        Ok(()) => {}
-        Err(_) => return Err(Status::Memory),
+    match print::format_line(alloc) {
+        Ok(lines) => match print::format_failed(alloc) {
+            Ok(failed) => Ok((lines, failed)),
+            Err(_) => Err(Status::Memory),
+        },
+        Err(_) => Err(Status::Memory),
     }
-    let mut batch = Batch::new(alloc);
-    match batch.push(1, 0, &bytes) {
-        Ok(()) => {}
-        Err(_) => return Err(Status::Memory),
-    }
-    Ok((lines, batch))
 }
 
-/// Opens a life, where this run has made the disk's log.
-fn opens<L: Disk>(alloc: Global, disk: L, formatted: bool, line: u64) -> Outside<L, Life<L>>
-    ensures turns { (disk0 : L) (s : Stage) → Out L.tells L.told L.may_leave L.start L.len disk0 disk formatted s → StepsOut L.tells L.told L.may_leave L.start L.len disk0 (λ life. Inside L.tells L.told L.may_leave L.start L.len disk0 life.leaf life.head life.session life.next life.commits life.log) s commands.Open line result }
-    ensures cause { OutsideCause L.faults (λ life. life.log.device) disk result }
+/// Opens a life.
+fn opens<L: Disk>(
+    alloc: Global,
+    operators: &Operators,
+    disk: L,
+    line: u64,
+) -> Stepped<L, Life<L>>
+    ensures turns { (v : View L.tells) (s : Stage) → Out (seen L.Disk v) disk s → Steps (seen L.Disk v) (λ life. In (seen L.Disk v) life.log.log life.standing) s commands.Open line result }
+    ensures cause { SteppedCause L.Disk (λ life. life.log.log.device) disk result }
 {
-    if !formatted {
-        return Outside::Ends {
-            status: Status::NotBuilt { line },
+    let refused = disk.refused();
+    if refused >= MOST {
+        return Stepped::Ends {
+            status: Status::Memory,
             disk,
         };
     }
-    match open(alloc, disk, line) {
-        Ok(life) => match print::open_line(alloc, life.commits) {
-            Ok(lines) => Outside::Opens { lines, life },
-            Err(_) => Outside::Ends {
+    let failed = match print::open_failed(alloc) {
+        Ok(failed) => failed,
+        Err(_) => return Stepped::Ends {
+            status: Status::Memory,
+            disk,
+        },
+    };
+    match open(alloc, operators, disk, line) {
+        Ok(life) => match print::open_line(alloc, life.standing.commits) {
+            Ok(lines) => Stepped::Goes {
+                lines,
+                at: At::Inside { life },
+            },
+            Err(_) => Stepped::Ends {
                 status: Status::Memory,
                 disk: life.log.into_device(),
             },
         },
-        Err(refused) => Outside::Ends {
-            status: refused.status,
-            disk: refused.disk,
+        Err(not) => refuse(not, refused, failed),
+    }
+}
+
+/// A log that isn't made or opened: a line, where the disk's fuse refused a call, else the end of the run. So many calls
+/// had been refused before.
+fn refuse<L: Disk>(not: NotOpened<L>, before: u64, failed: Vec<u8>) -> Stepped<L, Life<L>>
+    requires { before < 2 ^ 62 }
+    ensures { Refuses L.Disk not.disk not.status before failed.items result }
+{
+    match not.status {
+        Status::LogFault => {
+            if not.disk.refused() > before {
+                Stepped::Goes {
+                    lines: failed,
+                    at: At::Outside { disk: not.disk },
+                }
+            } else {
+                Stepped::Ends {
+                    status: Status::LogFault,
+                    disk: not.disk,
+                }
+            }
+        }
+        status => Stepped::Ends {
+            status,
+            disk: not.disk,
+        },
+    }
+}
+
+/// The machine stops, and the disk's fuse is renewed.
+pub fn stop<L: Disk>(alloc: Global, disk: L, keep: Option<u64>, line: u64) -> Stepped<L, Life<L>>
+    ensures turns { (v : View L.tells) (s : Stage) → Safe (seen L.Disk v) disk s → Steps (seen L.Disk v) (λ life. In (seen L.Disk v) life.log.log life.standing) s (commands.Stop keep) line result }
+    ensures cause { SteppedCause L.Disk (λ life. life.log.log.device) disk result }
+{
+    match print::stop_line(alloc) {
+        Ok(lines) => Stepped::Goes {
+            lines,
+            at: At::Outside {
+                disk: cycled(disk, keep.unwrap_or(0)),
+            },
+        },
+        Err(_) => Stepped::Ends {
+            status: Status::Memory,
+            disk,
+        },
+    }
+}
+
+/// The disk after a stop of the machine, with its fuse renewed.
+fn cycled<L: Disk>(disk: L, keep: u64) -> L
+    ensures left { L.tells → L.may_leave disk (L.told result) }
+    ensures durable { L.tells → Only (L.told result) (L.may_leave result) }
+    ensures fuse { L.fuses → L.passes result ≡ None }
+    ensures later { L.own disk ≤ L.own result }
+{
+    let mut disk = disk;
+    disk.power_cycle(keep);
+    disk.fuse(None);
+    disk
+}
+
+/// Arms the disk's fuse.
+fn fuse<L: Disk>(
+    alloc: Global,
+    disk: L,
+    device: Device,
+    calls: u64,
+    line: u64,
+) -> Stepped<L, Life<L>>
+    ensures turns { (v : View L.tells) (s : Stage) → Out (seen L.Disk v) disk s → Steps (seen L.Disk v) (λ life. In (seen L.Disk v) life.log.log life.standing) s (commands.Fuse device calls) line result }
+    ensures cause { SteppedCause L.Disk (λ life. life.log.log.device) disk result }
+{
+    let mut disk = disk;
+    if device != Device::Log {
+        return Stepped::Ends {
+            status: Status::NotBuilt { line },
+            disk,
+        };
+    }
+    match print::fuse_line(alloc, calls) {
+        Ok(lines) => {
+            disk.fuse(Some(calls));
+            Stepped::Goes {
+                lines,
+                at: At::Outside { disk },
+            }
+        }
+        Err(_) => Stepped::Ends {
+            status: Status::Memory,
+            disk,
+        },
+    }
+}
+
+/// Renews the disk's fuse.
+fn renew<L: Disk>(alloc: Global, disk: L, device: Device, line: u64) -> Stepped<L, Life<L>>
+    ensures turns { (v : View L.tells) (s : Stage) → Out (seen L.Disk v) disk s → Steps (seen L.Disk v) (λ life. In (seen L.Disk v) life.log.log life.standing) s (commands.Renew device) line result }
+    ensures cause { SteppedCause L.Disk (λ life. life.log.log.device) disk result }
+{
+    let mut disk = disk;
+    if device != Device::Log {
+        return Stepped::Ends {
+            status: Status::NotBuilt { line },
+            disk,
+        };
+    }
+    match print::renew_line(alloc) {
+        Ok(lines) => {
+            disk.fuse(None);
+            Stepped::Goes {
+                lines,
+                at: At::Outside { disk },
+            }
+        }
+        Err(_) => Stepped::Ends {
+            status: Status::Memory,
+            disk,
         },
     }
 }

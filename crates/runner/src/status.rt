@@ -25,6 +25,8 @@ pub enum Status {
     LogBad { block: u64, byte: u64 },
     /// The log is empty.
     NotFormatted,
+    /// The log disk holds a log already.
+    AlreadyFormatted,
     /// The line asks for what isn't built yet.
     NotBuilt { line: u64 },
     /// The page has no room for the line's row, and isn't split yet.
@@ -46,6 +48,7 @@ impl Status {
             Status::LogFault => 6,
             Status::LogBad { block: _, byte: _ } => 8,
             Status::NotFormatted => 10,
+            Status::AlreadyFormatted => 11,
             Status::NotBuilt { line: _ } => 12,
             Status::NoSplit { line: _ } => 13,
         }
@@ -64,6 +67,7 @@ impl fmt::Display for Status {
             Status::LogFault => f.write_str("log failed"),
             Status::LogBad { block, byte } => write!(f, "log block {block} bad at byte {byte}"),
             Status::NotFormatted => f.write_str("not formatted"),
+            Status::AlreadyFormatted => f.write_str("already formatted"),
             Status::NotBuilt { line } => write!(f, "not built in line {line}"),
             Status::NoSplit { line } => write!(f, "page full in line {line}"),
         }

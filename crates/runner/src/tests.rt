@@ -2,10 +2,12 @@ ghost use Rattle.std.specs.Prelude.{◌<◌};
 
 use super::*;
 use media::Devices;
-use media_mem::{MemDisk, MemSink, MemSource};
+use media_mem::{MemDisk, MemPages, MemSink, MemSource, MemVault};
+use operators::{Operators, add, join, max};
 use std::alloc::Global;
 use std::collections::BTreeMap;
 use std::test::Fail;
+use store_model::{OpValue, Value};
 
 /// A script with one transaction, and its transcript.
 const APPLE: &[u8] = b"format\nopen\nbegin A\nput A apple 1\nget A apple\ncommit A\n";
@@ -21,6 +23,35 @@ struct Ran {
     kept: Vec<u8>,
 }
 
+/// Runs a script on a log disk, with streams of which the calls with these numbers fail.
+fn run_on(
+    rt: &HostRuntime,
+    script: &[u8],
+    reads: u64,
+    writes: u64,
+    log: MemDisk,
+) -> Result<Ran, Fail> {
+    let alloc = rt.alloc();
+    let mut source = MemSource::failing(script.to_vec(alloc)?, vec![in alloc; reads]?);
+    let mut sink = MemSink::failing(alloc, vec![in alloc; writes]?);
+    let devices = Devices {
+        log,
+        pages: MemPages::new(alloc),
+        vault: MemVault::new(alloc),
+    };
+    let operators = Operators::new(
+        Box::new(alloc, |old: &Option<Value>, argument: &OpValue| add(old, argument))?,
+        Box::new(alloc, |old: &Option<Value>, argument: &OpValue| max(old, argument))?,
+        Box::new(alloc, |old: &Option<Value>, argument: &OpValue| join(old, argument))?,
+    );
+    let (status, devices) = run_words(alloc, &[], &mut source, &mut sink, devices, &operators);
+    Ok(Ran {
+        status,
+        printed: sink.bytes().to_vec(alloc)?,
+        kept: devices.log.bytes().to_vec(alloc)?,
+    })
+}
+
 /// Runs a script on blank devices, of which the calls with these numbers fail.
 fn run_failing(
     rt: &HostRuntime,
@@ -30,19 +61,13 @@ fn run_failing(
     calls: u64,
 ) -> Result<Ran, Fail> {
     let alloc = rt.alloc();
-    let mut source = MemSource::failing(script.to_vec(alloc)?, vec![in alloc; reads]?);
-    let mut sink = MemSink::failing(alloc, vec![in alloc; writes]?);
-    let devices = Devices {
-        log: MemDisk::failing(alloc, vec![in alloc; calls]?),
-        pages: (),
-        vault: (),
-    };
-    let (status, devices) = run_words(alloc, &[], &mut source, &mut sink, devices);
-    Ok(Ran {
-        status,
-        printed: sink.bytes().to_vec(alloc)?,
-        kept: devices.log.bytes().to_vec(alloc)?,
-    })
+    run_on(
+        rt,
+        script,
+        reads,
+        writes,
+        MemDisk::failing(alloc, vec![in alloc; calls]?),
+    )
 }
 
 /// Runs a script on blank devices.
@@ -97,10 +122,9 @@ fn lines_end_a_run(rt: HostRuntime) -> Result<(), Fail> {
             b"\n# nothing\nget k\n".as_slice(),
             Status::Script { line: 3 },
         ),
-        (b"open\n".as_slice(), Status::NotBuilt { line: 1 }),
-        (b"format 8\n".as_slice(), Status::NotBuilt { line: 1 }),
+        (b"open\n".as_slice(), Status::NotFormatted),
         (b"format 7\n".as_slice(), Status::Script { line: 1 }),
-        (b"format\nformat\n".as_slice(), Status::NotBuilt { line: 2 }),
+        (b"format\nformat\n".as_slice(), Status::AlreadyFormatted),
         (
             b"format\nopen\nformat\n".as_slice(),
             Status::Script { line: 3 },
@@ -118,35 +142,14 @@ fn lines_end_a_run(rt: HostRuntime) -> Result<(), Fail> {
             Status::Script { line: 5 },
         ),
         (
-            b"format\nopen\nstop\n".as_slice(),
+            b"format\nopen\nfuse data 1\n".as_slice(),
             Status::NotBuilt { line: 3 },
         ),
+        (b"fuse\n".as_slice(), Status::NotBuilt { line: 1 }),
+        (b"renew log 1\n".as_slice(), Status::Script { line: 1 }),
     ];
     for (script, status) in cases {
         assert_eq!(rt; run(&rt, script)?.status, status);
-    }
-    Ok(())
-}
-
-#[test]
-fn words_are_none_or_run(rt: HostRuntime) -> Result<(), Fail> {
-    let alloc = rt.alloc();
-    let cases = [
-        ("run", Status::Done),
-        ("--help", Status::Usage),
-        ("RUN", Status::Usage),
-    ];
-    for (word, status) in cases {
-        let words = vec![in alloc; String::from_str(alloc, word)?]?;
-        let mut source = MemSource::new(alloc, Vec::new(alloc));
-        let mut sink = MemSink::new(alloc);
-        let devices = Devices {
-            log: MemDisk::new(alloc),
-            pages: (),
-            vault: (),
-        };
-        let (ended, _devices) = run_words(alloc, &words, &mut source, &mut sink, devices);
-        assert_eq!(rt; ended, status);
     }
     Ok(())
 }
@@ -170,6 +173,116 @@ fn a_fault_ends_a_run_where_it_comes(rt: HostRuntime) -> Result<(), Fail> {
         assert!(rt; APPLE_PRINTED.starts_with(&ran.printed));
     }
     assert_eq!(rt; run_failing(&rt, APPLE, 0, 0, 30)?.status, Status::Done);
+    Ok(())
+}
+
+/// Whether a script on blank devices prints this, and is done.
+fn prints(rt: &HostRuntime, script: &[u8], printed: &[u8]) -> Result<bool, Fail> {
+    let ran = run(rt, script)?;
+    Ok(ran.status == Status::Done && ran.printed.as_slice() == printed)
+}
+
+#[test]
+fn a_stop_leaves_what_was_committed(rt: HostRuntime) -> Result<(), Fail> {
+    assert!(rt;
+        prints(
+            &rt,
+            b"format\nopen\nbegin A\nput A x 1\ncommit A\nstop\nopen\nbegin B\nget B x\n".as_slice(),
+            b"format ok\nopen commits=0 losers=0\nA begin\nA put x was none\nA commit 1\nstop\nopen commits=1 losers=0\nB begin\nB get x = 1\n".as_slice(),
+        )?
+    );
+    assert!(rt;
+        prints(
+            &rt,
+            b"format\nopen\nbegin A\nput A x 1\nstop\nopen\nbegin B\nget B x\ncommit B\nstop 7\nopen\n".as_slice(),
+            b"format ok\nopen commits=0 losers=0\nA begin\nA put x was none\nstop\nopen commits=0 losers=0\nB begin\nB get x none\nB commit 1\nstop\nopen commits=1 losers=0\n".as_slice(),
+        )?
+    );
+    Ok(())
+}
+
+#[test]
+fn an_empty_log_is_not_opened_and_a_used_one_not_formatted(rt: HostRuntime) -> Result<(), Fail> {
+    let ran = run(&rt, b"open\n".as_slice())?;
+    assert_eq!(rt; ran.status, Status::NotFormatted);
+    assert!(rt; ran.printed.is_empty() && ran.kept.is_empty());
+    let ran = run(&rt, b"format\nformat\n".as_slice())?;
+    assert_eq!(rt; ran.status, Status::AlreadyFormatted);
+    assert_eq!(rt; ran.printed.as_slice(), b"format ok\n".as_slice());
+    Ok(())
+}
+
+/// A commit that the fuse of the log disk refuses, and a life that has ended.
+const FUSED: [(&[u8], &[u8]); 5] = [
+    (
+        b"fuse log 1\ncommit A\nget A x\nstop 9\nopen\n",
+        b"fuse log 1\nA commit log failed\nA get x ended 1\nstop\nopen commits=0 losers=0\n",
+    ),
+    (
+        b"fuse log 1\ncommit A\nget A x\nstop 4096\nopen\n",
+        b"fuse log 1\nA commit log failed\nA get x ended 1\nstop\nopen commits=0 losers=0\n",
+    ),
+    (
+        b"fuse log 3\ncommit A\nget A x\nstop 4096\nopen\n",
+        b"fuse log 3\nA commit log failed\nA get x ended 1\nstop\nopen commits=1 losers=0\n",
+    ),
+    (
+        b"fuse log 3\ncommit A\nget A x\nstop 0\nopen\n",
+        b"fuse log 3\nA commit log failed\nA get x ended 1\nstop\nopen commits=0 losers=0\n",
+    ),
+    (
+        b"fuse log 0\ncommit A\nrenew log\ncommit A\nput A x 2\nbegin B\nget A x\n",
+        b"fuse log 0\nA commit log failed\nrenew log\nA commit ended 1\nA put x ended 1\n",
+    ),
+];
+
+#[test]
+fn a_commit_that_a_fuse_refused_ends_the_life(rt: HostRuntime) -> Result<(), Fail> {
+    let alloc = rt.alloc();
+    for (script, printed) in FUSED {
+        let mut whole = b"format\nopen\nbegin A\nput A x 1\n".as_slice().to_vec(alloc)?;
+        whole.extend_from_slice(script)?;
+        let mut expected =
+            b"format ok\nopen commits=0 losers=0\nA begin\nA put x was none\n".as_slice().to_vec(alloc)?;
+        expected.extend_from_slice(printed)?;
+        let ran = run(&rt, &whole)?;
+        assert_eq!(rt; ran.printed.as_slice(), expected.as_slice());
+    }
+    Ok(())
+}
+
+#[test]
+fn calls_that_a_fuse_refused_are_lines(rt: HostRuntime) -> Result<(), Fail> {
+    assert!(rt;
+        prints(
+            &rt,
+            b"fuse log 2\nformat\nrenew log\nformat\nfuse log 0\nopen\nstop\nopen\n".as_slice(),
+            b"fuse log 2\nformat log failed\nrenew log\nformat ok\nfuse log 0\nopen log failed\nstop\nopen commits=0 losers=0\n".as_slice(),
+        )?
+    );
+    Ok(())
+}
+
+#[test]
+fn a_put_that_could_not_be_undone_is_full(rt: HostRuntime) -> Result<(), Fail> {
+    assert!(rt;
+        prints(
+            &rt,
+            b"format 8\nopen\nbegin A\nput A a 1\nput A b 1\nput A c 1\nput A d 1\nput A e 1\nput A f 1\nput A g 1\ncommit A\nbegin B\nput B g 1\n".as_slice(),
+            b"format ok\nopen commits=0 losers=0\nA begin\nA put a was none\nA put b was none\nA put c was none\nA put d was none\nA put e was none\nA put f was none\nA put g full 1 6\nA commit 1\nB begin\nB put g was none\n".as_slice(),
+        )?
+    );
+    Ok(())
+}
+
+#[test]
+fn a_block_that_is_cut_is_named(rt: HostRuntime) -> Result<(), Fail> {
+    let mut bytes = [0u8; 29];
+    bytes[0] = 0xa5;
+    let disk = MemDisk::with_bytes(rt.alloc(), bytes.as_slice())?;
+    let ran = run_on(&rt, b"open\n".as_slice(), 0, 0, disk)?;
+    assert_eq!(rt; ran.status, Status::LogBad { block: 0, byte: 1 });
+    assert_eq!(rt; ran.kept.as_slice(), bytes.as_slice());
     Ok(())
 }
 

@@ -20,7 +20,7 @@ pub use command::{Command, Device};
 pub use line::command_of;
 pub use name::Name;
 pub use token::is_plain;
-pub use word::first_word;
+pub use word::{cut, first_word};
 
 #[cfg(test)]
 mod tests;

@@ -1,43 +1,22 @@
-use Rattle.std.proofs.Common.{sym, subst}
-use Rattle.log_blocks.specs.LogState.{LogState}
-use Rattle.runner.specs.Turns.{formatted_log}
-use Rattle.runner.specs.LogDisk.{KeepsFirst, KeepsLog}
-use Rattle.runner.proofs.Replays.{ok_from, err_from}
-use Rattle.runner.proofs.Disks.{first_kept, first_log_kept, kept_first}
+use Rattle.std.proofs.Common.{rules, refl, sym, ap, subst, ◌∙◌, arith, ◌≡◌}
+use Rattle.runner.specs.LogDisk.{seen}
+use Rattle.runner.specs.Openings.{IsNotBegun}
+use Rattle.runner.proofs.Commands.{err_map}
+use Rattle.runner.proofs.Lives.{crashed, tells_of}
+use Rattle.runner.proofs.Openings.{read_refused, replay_refused, open_no_memory, did_begin_life, ok_map}
 use Rattle.runner.proofs.opening.open.Goals as goal
 
-pub returns-in-Err-clause-cause : goal.returns-in-Err-clause-cause
-returns-in-Err-clause-cause g c = c.status_of.ensures.cause _ _ c.in-Err.ensures.cause
+pub returns-in-Err-clause-not : goal.returns-in-Err-clause-not
+returns-in-Err-clause-not g c = λ v. read_refused c.never_bad.ensures (seen g.L.Disk v) c.args.disk c.in-Err.refused.disk (λ t. c.in-Err.ensures.same (tells_of v t)) (crashed g.L.Disk c.args.disk c.in-Err.refused.disk _ c.in-Err.ensures.any_moment (λ t k le m. g.met.L.Disk.counts_now c.in-Err.refused.disk t k le m))
+    c.args.line c.in-Err.refused.fault c.not_read.result c.not_read.ensures (λ t. c.in-Err.ensures.bad (tells_of v t))
 
-pub returns-in-Err-clause-err : goal.returns-in-Err-clause-err
-returns-in-Err-clause-err g c = c.status_of.ensures.kind c.args.line
+pub returns-in-Ok-replay-clause-begun : goal.returns-in-Ok-replay-clause-begun
+returns-in-Ok-replay-clause-begun g c = ok_map c.begin.result _ _ (λ life k v t last keeps. did_begin_life c.one_log.ensures (seen g.L.Disk v) c.args.disk c.in-Ok.log c.replay.new.log (λ t. c.in-Ok.ensures.blocks (tells_of v t)) (λ t. c.in-Ok.ensures.same (tells_of v t)) (λ t bs d. c.replay.ensures.durable (tells_of v t) bs d) life.log.log life.standing c.in-Ok-replay.found
+    (λ u bs rs d r sound. c.in-Ok-replay.ensures.met (tells_of v u) bs rs d r sound) (λ u bs rs d r sound. c.in-Ok-replay.ensures.records (tells_of v u) bs rs d r sound) (λ u bs rs d r one opens place. k v (tells_of v u) bs rs d r one opens place) t last keeps) c.begin.ensures.begun
 
-pub returns-in-Err-replay_log-clause-kept : goal.returns-in-Err-replay_log-clause-kept
-returns-in-Err-replay_log-clause-kept g c = λ t k.
-    let found = c.in-Ok.ensures.blocks t in
-    let first = first_kept g.L.Disk.told g.L.Disk.may_leave c.args.disk c.in-Ok.log found.0 c.one_log.ensures k found.1 (c.in-Ok.ensures.same t) in
-    subst (KeepsFirst g.L.Disk.told g.L.Disk.may_leave) (sym c.into_device.ensures) (kept_first g.L.Disk.told g.L.Disk.may_leave c.replay_log.new.log first.0 (c.in-Err-replay_log.ensures.durable t _ first.1))
+pub returns-in-Ok-replay-clause-not : goal.returns-in-Ok-replay-clause-not
+returns-in-Ok-replay-clause-not g c = err_map c.begin.result _ _ (λ r k v. subst (λ (d : g.row.L.Denot). IsNotBegun (seen g.L.Disk v) c.args.line c.args.disk d r.status) (sym k.0) (subst (IsNotBegun (seen g.L.Disk v) c.args.line c.args.disk c.replay.new.log.device) (sym k.1) (open_no_memory c.one_log.ensures (seen g.L.Disk v) c.args.disk c.in-Ok.log c.replay.new.log (λ t. c.in-Ok.ensures.blocks (tells_of v t)) (λ t. c.in-Ok.ensures.same (tells_of v t)) (λ t bs d. c.replay.ensures.durable (tells_of v t) bs d) c.args.line))) c.begin.ensures.not
 
-pub returns-in-Err-replay_log-clause-met : goal.returns-in-Err-replay_log-clause-met
-returns-in-Err-replay_log-clause-met g c = λ t k.
-    let found = c.in-Ok.ensures.blocks t in
-    let first = first_kept g.L.Disk.told g.L.Disk.may_leave c.args.disk c.in-Ok.log found.0 c.one_log.ensures k found.1 (c.in-Ok.ensures.same t) in
-    c.in-Err-replay_log.ensures.met t first.0 first.1 c.in-Ok.ensures.fresh.0
-
-pub returns-in-Ok-replay_log-clause-opened : goal.returns-in-Ok-replay_log-clause-opened
-returns-in-Ok-replay_log-clause-opened g c = λ t k.
-    let found = c.in-Ok.ensures.blocks t in
-    let first = first_kept g.L.Disk.told g.L.Disk.may_leave c.args.disk c.in-Ok.log found.0 c.one_log.ensures k found.1 (c.in-Ok.ensures.same t) in
-    ok_from _ _ c.first_life.result c.first_life.ensures.log (λ life. KeepsLog g.L.Disk.told g.L.Disk.may_leave life.log formatted_log) (λ life is. subst (λ (l : LogState g.row.L.Denot). KeepsLog g.L.Disk.told g.L.Disk.may_leave l formatted_log) (sym is) (first_log_kept g.L.Disk.told g.L.Disk.may_leave c.replay_log.new.log first.0 (c.in-Ok-replay_log.ensures.durable t _ first.1)))
-
-pub returns-in-Ok-replay_log-clause-kept : goal.returns-in-Ok-replay_log-clause-kept
-returns-in-Ok-replay_log-clause-kept g c = λ t k.
-    let found = c.in-Ok.ensures.blocks t in
-    let first = first_kept g.L.Disk.told g.L.Disk.may_leave c.args.disk c.in-Ok.log found.0 c.one_log.ensures k found.1 (c.in-Ok.ensures.same t) in
-    err_from _ _ c.first_life.result c.first_life.ensures.log (λ refused. KeepsFirst g.L.Disk.told g.L.Disk.may_leave refused.disk) (λ refused is. subst (KeepsFirst g.L.Disk.told g.L.Disk.may_leave) (sym is) (kept_first g.L.Disk.told g.L.Disk.may_leave c.replay_log.new.log first.0 (c.in-Ok-replay_log.ensures.durable t _ first.1)))
-
-pub returns-in-Ok-replay_log-clause-met : goal.returns-in-Ok-replay_log-clause-met
-returns-in-Ok-replay_log-clause-met g c = λ t k.
-    let found = c.in-Ok.ensures.blocks t in
-    let first = first_kept g.L.Disk.told g.L.Disk.may_leave c.args.disk c.in-Ok.log found.0 c.one_log.ensures k found.1 (c.in-Ok.ensures.same t) in
-    c.first_life.ensures.met (c.in-Ok-replay_log.ensures.met t first.0 first.1 c.in-Ok.ensures.fresh.0)
+pub returns-in-Err-replay-clause-not : goal.returns-in-Err-replay-clause-not
+returns-in-Err-replay-clause-not g c = λ v. subst (λ (d : g.row.L.Denot). IsNotBegun (seen g.L.Disk v) c.args.line c.args.disk d c.not_replayed.result) (sym c.into_device.ensures)
+    (replay_refused c.one_log.ensures (seen g.L.Disk v) c.args.disk c.in-Ok.log c.replay.new.log (λ t. c.in-Ok.ensures.blocks (tells_of v t)) (λ t. c.in-Ok.ensures.same (tells_of v t)) (λ t bs d. c.replay.ensures.durable (tells_of v t) bs d) c.args.line c.in-Err-replay.why c.not_replayed.result c.not_replayed.ensures (λ t bs rs d r sound. c.in-Err-replay.ensures.met (tells_of v t) bs rs d r sound))

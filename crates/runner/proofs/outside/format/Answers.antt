@@ -1,15 +1,20 @@
-use Rattle.std.proofs.Common.{rules, arith, inl, inr}
-use Rattle.runner.proofs.Commands.{not_blank, ends_format}
+use Rattle.std.proofs.Common.{rules, refl, sym, ap, subst, ◌∙◌, arith, ◌≡◌, ℕ}
+use Rattle.wal_record.specs.Rules.{is_limit}
+use Rattle.runner.specs.declared.life.Life.{Life}
+use Rattle.runner.specs.LogDisk.{Form, seen}
+use Rattle.runner.specs.Machine.{In}
+use Rattle.runner.specs.Openings.{Makes, IsMade, IsNotMade}
+use Rattle.runner.proofs.Without.{did_format, format_refused, made_kind, refused_cause}
 use Rattle.runner.proofs.outside.format.Goals as goal
-use Rattle.runner.proofs.outside.format.Goals.{then-formatted-via-then-formatted, then-formatted-via-else-formatted+then-start-ne0, then-formatted-via-else-formatted+else-start-ne0+then-len-ne0}
 
-pub returns-then-formatted-clause-turns : goal.returns-then-formatted-clause-turns
-returns-then-formatted-clause-turns g c = λ disk0 s h. not_blank g.L.Disk.tells g.L.Disk.told g.L.Disk.may_leave g.L.Disk.start g.L.Disk.len disk0 c.args.disk s c.args.formatted h c.args.line (elim c.then-formatted.branch [
-  | then-formatted-via-then-formatted w ↦ inl w.if-formatted.true
-  | then-formatted-via-else-formatted+then-start-ne0 w ↦ inr (inl (omega (arith, w.if-start-ne0.true, w.start.ensures)))
-  | then-formatted-via-else-formatted+else-start-ne0+then-len-ne0 w ↦ inr (inr (omega (arith, w.if-len-ne0.true, w.len.ensures.value)))
-])
+pub returns-in-Ok-make_log-clause-turns : goal.returns-in-Ok-make_log-clause-turns
+returns-in-Ok-make_log-clause-turns g c = λ v s h. did_format (seen g.L.Disk v) (λ (life : Life g.row.L.Denot g.L.Disk). In (seen g.L.Disk v) life.log.log life.standing) c.args.disk s h c.args.limit (ap is_limit (sym c.unwrap_or-room.ensures) ∙ sym c.is_room.ensures ∙ c.if-not-is_room.false) c.in-Ok-make_log.disk c.in-Ok.lines.0.items _
+    (subst (λ (n : ℕ). Makes (seen g.L.Disk v) c.args.disk (IsMade (seen g.L.Disk v) n c.in-Ok-make_log.disk)) c.unwrap_or-room.ensures (c.in-Ok-make_log.ensures.made v)) c.in-Ok-make_log.ensures.fuse c.in-Ok.ensures.lines.0
 
 pub returns-in-Err-make_log-clause-turns : goal.returns-in-Err-make_log-clause-turns
-returns-in-Err-make_log-clause-turns g c = λ disk0 s h.
-    ends_format g.L.Disk.tells g.L.Disk.told g.L.Disk.may_leave g.L.Disk.start g.L.Disk.len disk0 c.args.disk s c.args.formatted h c.if-formatted.false (search rules) c.in-Err-make_log.refused.disk c.args.line c.in-Err-make_log.refused.status c.in-Err-make_log.ensures.kind c.in-Err-make_log.ensures.kept
+returns-in-Err-make_log-clause-turns g c = λ v s h. format_refused (seen g.L.Disk v) (λ (life : Life g.row.L.Denot g.L.Disk). In (seen g.L.Disk v) life.log.log life.standing) c.args.disk s h c.args.limit (ap is_limit (sym c.unwrap_or-room.ensures) ∙ sym c.is_room.ensures ∙ c.if-not-is_room.false) c.in-Err-make_log.not.disk c.args.line _ c.in-Err-make_log.not.status c.in-Ok.lines.1.items c.refuse.result (omega (arith, c.refused-refused.ensures, c.if-refused-ge-MOST.false)) c.refuse.ensures
+    (subst (λ (n : ℕ). IsNotMade (seen g.L.Disk v) n c.args.disk c.in-Err-make_log.not.disk c.in-Err-make_log.not.status) c.unwrap_or-room.ensures (c.in-Err-make_log.ensures.not v)) c.in-Err-make_log.ensures.fuse c.in-Ok.ensures.lines.1
+
+pub returns-in-Err-make_log-clause-cause : goal.returns-in-Err-make_log-clause-cause
+returns-in-Err-make_log-clause-cause g c = refused_cause g.L.Disk (λ (life : Life g.row.L.Denot g.L.Disk). life.log.log.device) c.args.disk c.in-Err-make_log.not.disk _ c.in-Err-make_log.not.status c.in-Ok.lines.1.items c.refuse.result (omega (arith, c.refused-refused.ensures, c.if-refused-ge-MOST.false)) (omega (arith, c.if-refused-ge-MOST.false)) c.refuse.ensures c.in-Err-make_log.ensures.fuse
+    (made_kind (seen g.L.Disk Form) _ c.args.disk c.in-Err-make_log.not.disk c.in-Err-make_log.not.status (c.in-Err-make_log.ensures.not Form)) c.in-Err-make_log.ensures.shows

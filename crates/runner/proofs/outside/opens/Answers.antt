@@ -1,12 +1,21 @@
-use Rattle.std.proofs.Common.{rules}
-use Rattle.runner.proofs.Commands.{did_open, ends_open}
+use Rattle.std.proofs.Common.{rules, refl, sym, ap, subst, ◌∙◌, arith, ◌≡◌}
+use Rattle.runner.specs.declared.life.Life.{Life}
+use Rattle.runner.specs.LogDisk.{Form, seen}
+use Rattle.script.specs.declared.command.Command.TheVariants as commands
+use Rattle.runner.specs.Refusals.{RefusesAt}
+use Rattle.runner.specs.Machine.{In}
+use Rattle.runner.specs.declared.status.Status.TheVariants as statuses
+use Rattle.runner.proofs.Without.{did_open, opened_leaves, open_kind, open_refused, open_shows, refused_cause}
 use Rattle.runner.proofs.outside.opens.Goals as goal
 
-pub returns-in-Ok-open_line-clause-turns : goal.returns-in-Ok-open_line-clause-turns
-returns-in-Ok-open_line-clause-turns g c = λ disk0 s h.
-    let first = c.in-Ok.ensures.first in
-    did_open g.L.Disk.tells g.L.Disk.told g.L.Disk.may_leave g.L.Disk.start g.L.Disk.len disk0 c.args.disk s _ h (search rules) _ _ _ _ _ _ first.0 first.1 first.2 first.3 first.4 first.5 c.in-Ok.ensures.fresh c.in-Ok.ensures.opened _ c.in-Ok-open_line.ensures
+pub returns-in-Ok-open-clause-turns : goal.returns-in-Ok-open-clause-turns
+returns-in-Ok-open-clause-turns g c = λ v s h. subst (λ (d : g.row.L.Denot). RefusesAt (seen g.L.Disk v) d s commands.Open c.args.line statuses.Memory) (sym c.into_device.ensures) (opened_leaves (seen g.L.Disk v) (λ (life : Life g.row.L.Denot g.L.Disk). In (seen g.L.Disk v) life.log.log life.standing) c.args.disk s h c.in-Ok-open.life.log.log c.in-Ok-open.life.standing c.args.line (c.in-Ok-open.ensures.begun v))
 
-pub returns-in-Err-clause-turns : goal.returns-in-Err-clause-turns
-returns-in-Err-clause-turns g c = λ disk0 s h.
-    ends_open g.L.Disk.tells g.L.Disk.told g.L.Disk.may_leave g.L.Disk.start g.L.Disk.len disk0 c.args.disk s c.args.formatted h (search rules) c.in-Err.refused.disk c.args.line c.in-Err.refused.status c.in-Err.ensures.err c.in-Err.ensures.met c.in-Err.ensures.kept
+pub returns-in-Ok-open_line-clause-turns : goal.returns-in-Ok-open_line-clause-turns
+returns-in-Ok-open_line-clause-turns g c = λ v s h. did_open g.L.Disk v c.args.disk s h c.in-Ok-open.life.log.log c.in-Ok-open.life.standing c.in-Ok-open_line.lines.items _ (c.in-Ok-open.ensures.begun v) c.in-Ok-open.ensures.first.0 c.in-Ok-open.ensures.first.1 c.in-Ok-open.ensures.fuse c.in-Ok-open_line.ensures
+
+pub returns-clause-turns : goal.returns-clause-turns
+returns-clause-turns g c = λ v s h. open_refused (seen g.L.Disk v) (λ (life : Life g.row.L.Denot g.L.Disk). In (seen g.L.Disk v) life.log.log life.standing) c.args.disk s h c.in-Err-open.not.disk c.args.line _ c.in-Err-open.not.status c.in-Ok.failed.items c.refuse.result (omega (arith, c.refused-refused.ensures, c.if-refused-ge-MOST.false)) c.refuse.ensures (c.in-Err-open.ensures.not v) c.in-Err-open.ensures.fuse c.in-Ok.ensures
+
+pub returns-clause-cause : goal.returns-clause-cause
+returns-clause-cause g c = refused_cause g.L.Disk (λ (life : Life g.row.L.Denot g.L.Disk). life.log.log.device) c.args.disk c.in-Err-open.not.disk _ c.in-Err-open.not.status c.in-Ok.failed.items c.refuse.result (omega (arith, c.refused-refused.ensures, c.if-refused-ge-MOST.false)) (omega (arith, c.if-refused-ge-MOST.false)) c.refuse.ensures c.in-Err-open.ensures.fuse (open_kind (seen g.L.Disk Form) c.args.line c.args.disk c.in-Err-open.not.disk c.in-Err-open.not.status (c.in-Err-open.ensures.not Form)) (open_shows g.L.Disk (seen g.L.Disk Form) c.args.line c.args.disk c.in-Err-open.not.disk c.in-Err-open.not.status (c.in-Err-open.ensures.not Form))

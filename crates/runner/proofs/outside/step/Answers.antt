@@ -1,25 +1,26 @@
-use Rattle.std.proofs.Common.{rules, arith, ℕ, Option, sym, ap, subst, ◌∙◌}
+use Rattle.std.proofs.Common.{refl, sym, subst}
 use Rattle.script.specs.declared.command.Command.{Command}
-use Rattle.script.specs.declared.command.Command.TheVariants as commands
 use Rattle.runner.specs.declared.life.Life.{Life}
-use Rattle.runner.specs.declared.status.Status.TheVariants as statuses
-use Rattle.runner.specs.Machine.{Inside, StepsOut, EndsRun}
-use Rattle.runner.proofs.Commands.{has_limit, ends_out}
+use Rattle.runner.specs.LogDisk.{IsWhole, seen}
+use Rattle.runner.specs.Machine.{In, Out, Adds, Steps}
+use Rattle.runner.proofs.Lives.{safe_out}
+use Rattle.runner.proofs.Without.{out_nothing}
 use Rattle.runner.proofs.outside.step.Goals as goal
 
-pub returns-in-None-clause-turns : goal.returns-in-None-clause-turns
-returns-in-None-clause-turns g c = λ disk0 s h.
-    subst (λ (x : Command). StepsOut g.L.Disk.tells g.L.Disk.told g.L.Disk.may_leave g.L.Disk.start g.L.Disk.len disk0 (λ (life : Life g.row.L.Denot g.L.Disk). Inside g.L.Disk.tells g.L.Disk.told g.L.Disk.may_leave g.L.Disk.start g.L.Disk.len disk0 life.leaf life.head life.session life.next life.commits life.log) s x c.args.line c.format.result) (sym (c.in-Format.is ∙ ap (λ (o : Option ℕ). commands.Format o) c.in-None.is)) (c.format.ensures.turns disk0 s h)
+pub returns-in-Nothing-clause-turns : goal.returns-in-Nothing-clause-turns
+returns-in-Nothing-clause-turns g c = λ v s h. subst (λ (x : Command). Adds (IsWhole v) (Out (seen g.L.Disk v) c.args.disk) s x c.new.result.items) (sym c.in-Nothing.is) (out_nothing (seen g.L.Disk v) (λ (life : Life g.row.L.Denot g.L.Disk). In (seen g.L.Disk v) life.log.log life.standing) c.args.disk s h c.new.result.items c.new.ensures.items)
 
-pub returns-in-Some-clause-turns : goal.returns-in-Some-clause-turns
-returns-in-Some-clause-turns g c = λ disk0 s h.
-    subst (λ (x : Command). EndsRun g.L.Disk.tells g.L.Disk.told g.L.Disk.may_leave g.L.Disk.start g.L.Disk.len disk0 c.args.disk s x c.args.line (statuses.NotBuilt c.args.line)) (sym (c.in-Format.is ∙ ap (λ (o : Option ℕ). commands.Format o) c.in-Some.is)) (has_limit g.L.Disk.tells g.L.Disk.told g.L.Disk.may_leave g.L.Disk.start g.L.Disk.len disk0 c.args.disk s c.args.formatted h c.in-Some.field-0 c.args.line)
+pub returns-in-Format-clause-turns : goal.returns-in-Format-clause-turns
+returns-in-Format-clause-turns g c = λ v s h. subst (λ (x : Command). Steps (seen g.L.Disk v) (λ (life : Life g.row.L.Denot g.L.Disk). In (seen g.L.Disk v) life.log.log life.standing) s x c.args.line c.format.result) (sym c.in-Format.is) (c.format.ensures.turns v s h)
 
 pub returns-in-Open-clause-turns : goal.returns-in-Open-clause-turns
-returns-in-Open-clause-turns g c = λ disk0 s h. subst (λ (x : Command). StepsOut g.L.Disk.tells g.L.Disk.told g.L.Disk.may_leave g.L.Disk.start g.L.Disk.len disk0 (λ (life : Life g.row.L.Denot g.L.Disk). Inside g.L.Disk.tells g.L.Disk.told g.L.Disk.may_leave g.L.Disk.start g.L.Disk.len disk0 life.leaf life.head life.session life.next life.commits life.log) s x c.args.line c.opens.result) (sym c.in-Open.is) (c.opens.ensures.turns disk0 s h)
+returns-in-Open-clause-turns g c = λ v s h. subst (λ (x : Command). Steps (seen g.L.Disk v) (λ (life : Life g.row.L.Denot g.L.Disk). In (seen g.L.Disk v) life.log.log life.standing) s x c.args.line c.opens.result) (sym c.in-Open.is) (c.opens.ensures.turns v s h)
 
-pub returns-in_default : goal.returns-in_default
-returns-in_default g c = record {
-  turns = λ disk0 s h. ends_out g.L.Disk.tells g.L.Disk.told g.L.Disk.may_leave g.L.Disk.start g.L.Disk.len disk0 c.args.disk s c.args.formatted h c.args.command.now c.args.line (statuses.Script c.args.line) (λ q. cc) (search rules);
-  cause = (omega arith, tt);
-}
+pub returns-in-Stop-clause-turns : goal.returns-in-Stop-clause-turns
+returns-in-Stop-clause-turns g c = λ v s h. subst (λ (x : Command). Steps (seen g.L.Disk v) (λ (life : Life g.row.L.Denot g.L.Disk). In (seen g.L.Disk v) life.log.log life.standing) s x c.args.line c.stop.result) (sym c.in-Stop.is) (c.stop.ensures.turns v s (safe_out (seen g.L.Disk v) c.args.disk s h))
+
+pub returns-in-Fuse-clause-turns : goal.returns-in-Fuse-clause-turns
+returns-in-Fuse-clause-turns g c = λ v s h. subst (λ (x : Command). Steps (seen g.L.Disk v) (λ (life : Life g.row.L.Denot g.L.Disk). In (seen g.L.Disk v) life.log.log life.standing) s x c.args.line c.fuse.result) (sym c.in-Fuse.is) (c.fuse.ensures.turns v s h)
+
+pub returns-in-Renew-clause-turns : goal.returns-in-Renew-clause-turns
+returns-in-Renew-clause-turns g c = λ v s h. subst (λ (x : Command). Steps (seen g.L.Disk v) (λ (life : Life g.row.L.Denot g.L.Disk). In (seen g.L.Disk v) life.log.log life.standing) s x c.args.line c.renew.result) (sym c.in-Renew.is) (c.renew.ensures.turns v s h)

@@ -1,36 +1,45 @@
-use Rattle.std.proofs.Common.{arith, [], ◌∷◌, ◌++◌}
+use Rattle.std.proofs.Common.{arith, [], ◌∷◌, ◌++◌, ◌≤◌, List, ℕ, subst, sym}
 use Rattle.std.proofs.KnownBytes.{Consumes-nil}
-use Rattle.runner.specs.Machine.{Out}
-use Rattle.runner.proofs.Commands.{leaves_out}
-use Rattle.runner.proofs.Runs.{at_start, no_memory, right_out}
+use Rattle.runner.specs.declared.at.At.{At}
+use Rattle.runner.specs.declared.life.Life.{Life}
+use Rattle.runner.specs.Causes.{disk_at}
+use Rattle.runner.specs.Clause.{Between}
+use Rattle.runner.specs.Lines.{to_come}
+use Rattle.runner.specs.LogDisk.{IsWhole, seen}
+use Rattle.runner.specs.Machine.{In, Out, IsAt}
+use Rattle.runner.proofs.Lives.{safe_out}
+use Rattle.runner.proofs.Causes.{run_cause_since}
+use Rattle.runner.proofs.Places.{cycled_self, cycled_trans}
+use Rattle.runner.proofs.Runs.{at_start, no_memory}
 use Rattle.runner.proofs.run.run.Goals as goal
 
 pub loop-init : goal.loop-init
-loop-init g c = record { turns = ([], at_start g.L.Disk.tells g.L.Disk.told g.L.Disk.may_leave g.L.Disk.start g.L.Disk.len c.args.disk _ _ c.args.input.now c.requires.0 c.requires.1 c.requires.2); source = omega arith; sink = omega arith; log = omega arith }
-
-pub returns-in-Opens-clause-headline : goal.returns-in-Opens-clause-headline
-returns-in-Opens-clause-headline g c =
-    let p = c.loop.invariant.turns in
-    let t = c.in-Opens.ensures.turns _ _ c.args.disk p.0 p.1 in
-    c.run_life.ensures.turns _ _ c.args.disk (p.0 ++ t.0 ∷ []) t.1
-
-pub returns-in-Ends-clause-headline : goal.returns-in-Ends-clause-headline
-returns-in-Ends-clause-headline g c =
-    let p = c.loop.invariant.turns in
-    c.in-Ends.ensures.turns _ _ c.args.disk p.0 p.1
+loop-init g c = record { turns = λ v log out. ([], at_start (seen g.L.Disk v) log c.args.disk _ _ c.args.input.now c.requires.0 c.requires.1 c.requires.2 out); source = omega arith; sink = omega arith; log = omega arith; vault = cycled_self _ _ _ _ }
 
 pub loop-preserved : goal.loop-preserved
-loop-preserved g c =
-    let p = c.loop.invariant.turns in
-    let t = c.in-Stays.ensures.turns _ _ c.args.disk p.0 p.1 in
-    record {
-      turns = (p.0 ++ t.0 ∷ [], t.1);
-      source = omega (arith, c.loop.invariant.source, c.in-Stays.ensures.later.0);
-      sink = omega (arith, c.loop.invariant.sink, c.in-Stays.ensures.later.1);
-      log = omega (arith, c.loop.invariant.log, c.in-Stays.ensures.cause);
-    }
+loop-preserved g c = record {
+  turns = λ v log out.
+      let p = c.loop.invariant.turns v log out in
+      let t = c.in-Goes.ensures.turns v log _ _ p.0 p.1 in
+      c.in-Stopped.ensures.turns v log _ _ (p.0 ++ t.0 ∷ []) t.1;
+  source = omega (arith, c.loop.invariant.source, c.in-Goes.ensures.later.0, c.in-Stopped.ensures.later.0);
+  sink = omega (arith, c.loop.invariant.sink, c.in-Goes.ensures.later.1, c.in-Stopped.ensures.later.1);
+  log = omega (arith, c.loop.invariant.log, c.in-Goes.ensures.cause, c.in-Stopped.ensures.cause);
+  vault = cycled_trans _ _ _ _ _ _ (cycled_trans _ _ _ _ _ _ c.loop.invariant.vault c.in-Goes.ensures.vault) c.in-Stopped.ensures.vault;
+}
+
+pub returns-in-Ends-run_from-clause-headline : goal.returns-in-Ends-run_from-clause-headline
+returns-in-Ends-run_from-clause-headline g c = λ v log out.
+    let p = c.loop.invariant.turns v log out in
+    let t = c.in-Goes.ensures.turns v log _ _ p.0 p.1 in
+    c.in-Ends-run_from.ensures.turns v log _ _ (p.0 ++ t.0 ∷ []) t.1
+
+pub returns-in-Ends-clause-headline : goal.returns-in-Ends-clause-headline
+returns-in-Ends-clause-headline g c = λ v log out.
+    let p = c.loop.invariant.turns v log out in
+    c.in-Ends.ensures.turns v log _ _ p.0 p.1
 
 pub returns-clause-headline : goal.returns-clause-headline
-returns-clause-headline g c =
-    let p = c.loop.invariant.turns in
-    no_memory g.L.Disk.tells g.L.Disk.told g.L.Disk.may_leave g.L.Disk.start g.L.Disk.len c.args.disk c.loop.disk _ _ c.loop.input c.loop.input _ _ _ p.0 (Out g.L.Disk.tells g.L.Disk.told g.L.Disk.may_leave g.L.Disk.start g.L.Disk.len c.args.disk c.loop.disk c.loop.formatted) (right_out g.L.Disk.tells g.L.Disk.told g.L.Disk.may_leave g.L.Disk.start g.L.Disk.len c.args.disk c.loop.disk c.loop.formatted) (λ s. leaves_out g.L.Disk.tells g.L.Disk.told g.L.Disk.may_leave g.L.Disk.start g.L.Disk.len c.args.disk s c.loop.disk c.loop.formatted) p.1 p.1.most [] (Consumes-nil _) (omega arith)
+returns-clause-headline g c = λ v log out.
+    let p = c.loop.invariant.turns v log out in
+    no_memory (seen g.L.Disk v) log c.loop.disk _ _ c.loop.input c.loop.input _ _ _ p.0 (Out (seen g.L.Disk v) c.loop.disk) (λ s h. safe_out (seen g.L.Disk v) c.loop.disk s h) p.1 p.1.most [] (Consumes-nil _) (omega arith)

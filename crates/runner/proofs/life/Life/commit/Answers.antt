@@ -1,19 +1,25 @@
-use Rattle.std.proofs.Common.{rules, refl}
-use Rattle.runner.proofs.Blocks.{checked_plain}
-use Rattle.runner.proofs.Commands.{did_commit, cut_commit}
-use Rattle.runner.proofs.Disks.{flushed_durable, flushed_crash}
+use Rattle.std.proofs.Common.{rules, refl, sym, ap, ◌∙◌}
+use Rattle.script.specs.declared.command.Command.TheVariants as commands
+use Rattle.runner.specs.LogDisk.{seen}
+use Rattle.runner.proofs.Commands.{unlawful, unknown, did_end, leaves_here, lawful_here, is_named, err_map}
 use Rattle.runner.proofs.life.Life.commit.Goals as goal
 
-pub append_batch-requires-clause-checked : goal.append_batch-requires-clause-checked
-append_batch-requires-clause-checked g c = checked_plain _ _ c.commit-batch.ensures.plain.checkpoint
+pub returns-then-not-is_active-clause-err : goal.returns-then-not-is_active-clause-err
+returns-then-not-is_active-clause-err g c = λ v s h. unlawful (seen g.L.Disk v) s _ _ h (commands.Commit c.args.name.now) c.args.line (unknown (seen g.L.Disk v) s _ _ h c.args.name.now (sym c.is_active.ensures ∙ c.if-not-is_active.true))
 
-pub returns-in-Ok-flush-clause-ok : goal.returns-in-Ok-flush-clause-ok
-returns-in-Ok-flush-clause-ok g c = λ disk0 s h.
-    did_commit g.L.Disk.tells g.L.Disk.told g.L.Disk.may_leave g.L.Disk.start g.L.Disk.len disk0 s _ _ _ _ _ _ h c.args.name.now c.in-Some.session (search rules) (search rules) _ _ c.flush.new.self c.commit-batch.result.blocks _ (search rules) refl (search rules) (search rules) (search rules) c.commit-batch.ensures.entered c.in-Ok-flush.ensures.all.0
-    (λ t bs d. flushed_durable g.L.Disk.told g.L.Disk.may_leave c.args.self.now.log c.append_batch.new.self _ _ c.append_batch.ensures.appended c.flush.new.self bs d (c.in-Ok-flush.ensures.durable t bs)) c.in-Ok.ensures
+pub returns-in-Ok-clause-ok : goal.returns-in-Ok-clause-ok
+returns-in-Ok-clause-ok g c = λ v s h.
+    let named = is_named _ c.args.name.now (sym c.is_active.ensures ∙ c.if-not-is_active.false) in
+    did_end (seen g.L.Disk v) s _ _ h (commands.Commit c.args.name.now) c.in-Some.at c.in-Ok.out.items (sym c.ended.ensures ∙ c.in-Some.is) (lawful_here (seen g.L.Disk v) s _ _ h c.args.name.now named.0 named.1 named.2) refl c.in-Ok.ensures
 
-pub returns-in-Err-LogFault-clause-err : goal.returns-in-Err-LogFault-clause-err
-returns-in-Err-LogFault-clause-err g c = λ disk0 s h.
-    cut_commit g.L.Disk.tells g.L.Disk.told g.L.Disk.may_leave g.L.Disk.start g.L.Disk.len disk0 s _ _ _ _ _ _ h c.args.name.now c.in-Some.session (search rules) (search rules) c.flush.new.self.device c.commit-batch.result.blocks (search rules) (search rules) c.commit-batch.ensures.entered
-    (λ t bs d. flushed_crash g.L.Disk.told g.L.Disk.may_leave c.args.self.now.log c.append_batch.new.self _ _ c.append_batch.ensures.appended g.L.Disk.moment g.L.Disk.left_since c.flush.new.self bs d (c.in-Err-LogFault.ensures.any_moment t bs)
-    (λ n k le left. g.met.L.Disk.counts_now c.flush.new.self.device n k le left))
+pub returns-clause-err : goal.returns-clause-err
+returns-clause-err g c = err_map c.commit_open.result _ _ (λ status k v s h. k v c.args.line s h) c.commit_open.ensures.err
+
+pub returns-then-self-ge-LIMIT-clause-err : goal.returns-then-self-ge-LIMIT-clause-err
+returns-then-self-ge-LIMIT-clause-err g c = λ v s h. leaves_here (seen g.L.Disk v) s _ _ h
+
+pub returns-in-Err-commit_line-clause-err : goal.returns-in-Err-commit_line-clause-err
+returns-in-Err-commit_line-clause-err g c = λ v s h. leaves_here (seen g.L.Disk v) s _ _ h
+
+pub returns-in-Err-commit_failed-clause-err : goal.returns-in-Err-commit_failed-clause-err
+returns-in-Err-commit_failed-clause-err g c = λ v s h. leaves_here (seen g.L.Disk v) s _ _ h

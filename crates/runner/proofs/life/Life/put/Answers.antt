@@ -1,17 +1,27 @@
-use Rattle.std.proofs.Common.{rules, refl, sym, subst, ap, ◌∙◌, ◌≤◌, ◌+◌, ℕ, List}
-use Rattle.std.specs.Prelude.{sum_by, Option}
-use Rattle.wal_record.specs.State.{leaf_row_size}
-use Rattle.wal_record.specs.declared.page.LeafRow.{LeafRow}
-use Rattle.runner.specs.Active.{MayWrite}
-use Rattle.runner.specs.Leaf.{row_room}
-use Rattle.runner.specs.Machine.{records_by, HasWritten}
-use Rattle.runner.proofs.Commands.{did_put, is_named}
+use Rattle.std.proofs.Common.{rules, refl, sym, ap, subst, ◌∙◌, ◌++◌, ◌+◌, ◌<◌, ℕ, List, Option, arith}
+use Rattle.std.specs.Prelude.{codes}
+use Rattle.std.specs.Fmt.{decimal}
+use Rattle.script.specs.declared.command.Command.TheVariants as commands
+use Rattle.store_model.specs.declared.request.Request.TheVariants as requests
+use Rattle.runner.specs.declared.session.Session.{Session}
+use Rattle.runner.specs.Active.{puts_of}
+use Rattle.runner.specs.LogDisk.{seen}
+use Rattle.runner.specs.Printing.{escaped}
+use Rattle.runner.proofs.Commands.{did_full, did_end, is_named, lawful_here, leaves_here}
 use Rattle.runner.proofs.life.Life.put.Goals as goal
 
-pub returns-in-Ok-enter_write-clause-ok : goal.returns-in-Ok-enter_write-clause-ok
-returns-in-Ok-enter_write-clause-ok g c = λ disk0 s h.
+pub returns-in-Ok-clause-ok : goal.returns-in-Ok-clause-ok
+returns-in-Ok-clause-ok g c = λ v s h.
     let named = is_named _ c.args.name.now c.requires in
-    let few = subst MayWrite named.1 c.in-Ok.ensures.ok.1 in
-    let size = subst (λ (rs : List LeafRow). sum_by leaf_row_size rs ≤ row_room) (sym c.in-Ok-put.ensures.ok) c.in-Ok-put.ensures.fits in
-    did_put g.L.Disk.tells g.L.Disk.told g.L.Disk.may_leave g.L.Disk.start g.L.Disk.len disk0 s _ _ _ _ _ _ h c.args.name.now named.0 named.1 named.2 _ _ _ _ c.args.key.now c.args.value.now _ (subst (λ (v : Option (List ℕ)). HasWritten c.in-Ok.lsn c.args.self.now.head c.args.key.now v c.args.value.now c.args.self.now.session c.enter_write.new.session) c.live-old.ensures c.in-Ok-enter_write.ensures.written)
-    (c.in-Ok.ensures.value ∙ ap (λ (n : ℕ). n + records_by c.args.self.now.session) c.next.ensures) refl (search rules) (search rules) (search rules) size few c.in-Ok.ensures.ok.0 (search rules) (search rules)
+    did_end (seen g.L.Disk v) s _ _ h (commands.Ask c.args.name.now (requests.Put c.args.key.now c.args.value.now)) c.in-Some.at c.in-Ok.out.items (sym c.ended.ensures ∙ c.in-Some.is) (lawful_here (seen g.L.Disk v) s _ _ h c.args.name.now named.0 named.1 named.2) refl c.in-Ok.ensures
+
+pub returns-in-Ok-put_full-clause-ok : goal.returns-in-Ok-put_full-clause-ok
+returns-in-Ok-put_full-clause-ok g c = λ v s h.
+    let named = is_named _ c.args.name.now c.requires in
+    let puts = c.puts.ensures ∙ ap puts_of named.1 in
+    did_full (seen g.L.Disk v) s _ _ h c.args.name.now named.0 named.1 named.2 (sym c.ended.ensures ∙ c.in-None.is) c.args.key.now c.args.value.now c.in-Ok-put_full.out.items
+        (subst (λ (x : Option Session). c.args.self.now.standing.limit < puts_of x + 3) named.1 (c.is_full.ensures.0 c.if-is_full.true))
+        (c.in-Ok-put_full.ensures ∙ ap (λ (n : ℕ). c.args.name.now ++ codes " put " ++ escaped c.args.key.now ++ (codes " full " ++ decimal 1 ++ codes " " ++ decimal n) ++ codes "\n") puts)
+
+pub returns-in-Err-put_full-clause-err : goal.returns-in-Err-put_full-clause-err
+returns-in-Err-put_full-clause-err g c = λ v s h. leaves_here (seen g.L.Disk v) s _ _ h

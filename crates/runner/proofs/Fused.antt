@@ -1,0 +1,129 @@
+-- The log disk in its fuse, and without it.
+use Rattle.std.proofs.Common.{◌≡◌, ◌≢◌, ℕ, ◌+◌, ap, List, [], Option, Some, None, true, refl, sym, subst, inl, inr}
+use Rattle.std.specs.List.{All}
+use Rattle.std.proofs.lemmas.List.Elements.{All-nil}
+use Rattle.media.specs.Kept.{Kept}
+use Rattle.media.specs.Fused.{Fused}
+use Rattle.media.specs.declared.disk.Disk.{Ghosts}
+use Rattle.log_blocks.specs.Log.{StandsFor}
+use Rattle.log_replay.specs.Standing.{DevicesStandFor}
+use Rattle.wal_record.specs.declared.record.Record.{Record}
+use Rattle.script.specs.declared.command.Command.{Command}
+use Rattle.script.specs.declared.command.Command.TheVariants as commands
+use Rattle.runner.specs.declared.status.Status.{Status}
+use Rattle.runner.specs.declared.status.Status.TheVariants as statuses
+use Rattle.runner.specs.Causes.{IsAsked}
+use Rattle.runner.specs.Clause.{OfCommand, NotBuiltLine, Ended, Headline}
+use Rattle.runner.specs.LogDisk.{View, IsWhole, seen, StandsOn, Keeps, HoldsOne, Leaves}
+use Rattle.runner.specs.Machine.{Out}
+use Rattle.runner.specs.Refusals.{IsNotBuilt}
+use Rattle.runner.specs.Turns.{Turn, Stage, Found, IsRightLife, begin_stage, is_lawful, stage}
+use Rattle.runner.proofs.Lives.{keeps_only}
+
+-- what a fuse round a device says
+abbrev pub fuse_of : {D : Type 0} → Ghosts D → Ghosts (Fused D)
+fuse_of D = record {
+  tells = D.tells;
+  start = λ f. D.start f.inner;
+  len = λ f. D.len f.inner;
+  told = λ f. D.told f.inner;
+  may_leave = λ f c. D.may_leave f.inner c;
+  moment = λ f. D.moment f.inner;
+  left_since = λ f t c. D.left_since f.inner t c;
+  faults = λ f. D.faults f.inner + f.refused;
+  own = λ f. D.faults f.inner;
+  refused = λ f. f.refused;
+  passes = λ f. f.left;
+  fuses = Unit {0};
+}
+
+-- ---- the start
+
+pub stands_at : {D : Type 0} (L : Ghosts D) (disk : D) (log : List Record) → DevicesStandFor L.told L.may_leave disk log → Keeps L (HoldsOne (Found log)) disk
+stands_at L disk log s = keeps_only L (HoldsOne (Found log)) disk (log, refl, record { sound = s.sound; bs = s.log_disk.bs; stands = s.log_disk.stands; records = s.log_disk.records }) s.log_disk.only
+
+-- a fuse that isn't armed round a disk that stands for a log
+pub out_at : {D E : Type 0} (T : Type 0) (L : Ghosts D) (F : Ghosts E) (e : E) (d : D) → L.told d ≡ F.told e → ((c : Kept) → F.may_leave e c → L.may_leave d c) → F.fuses → F.passes e ≡ None → (log : List Record) → (T → DevicesStandFor L.told L.may_leave d log) → Out (record F { tells = T }) e (begin_stage log)
+out_at T L F e d told may fuse none log stands = record {
+  past = λ t. All-nil IsRightLife;
+  life = refl;
+  active = refl;
+  ended = refl;
+  goes = refl;
+  fused = record { fuse = fuse; renewed = λ _. none };
+  keeps = λ t. let k = stands_at L d log (stands t) in record { now = subst (HoldsOne (Found log)) told k.now; crash = λ c m. k.crash c (may c m) };
+}
+
+-- ---- the end
+
+of_map : (P Q : Command → Type 0) → ((c : Command) → P c → Q c) → (o : Option Command) → OfCommand P o → OfCommand Q o
+of_map P Q f None h = h
+of_map P Q f (Some c) h = f c h
+
+module _ {D E : Type 0} (T : Type 0) (L : Ghosts D) (F : Ghosts E) (e : E) (d : D) (told : F.told e ≡ L.told d) (may : (c : Kept) → L.may_leave d c → F.may_leave e c) where
+  keeps_inner : (P : Kept → Type 0) → Keeps (record F { tells = T }) P e → Keeps (record L { tells = T }) P d
+  keeps_inner P k = record { now = subst P told k.now; crash = λ c m. k.crash c (may c m) }
+
+  not_built_inner : (s : Stage) (c : Command) → IsNotBuilt (record F { tells = T }) e s c → IsNotBuilt (record L { tells = T }) d s c
+  not_built_inner s commands.Open h = λ t. let f = h t in record {
+    log = f.log;
+    found = f.found;
+    stands = record { sound = f.stands.sound; bs = f.stands.bs; stands = subst (StandsFor f.stands.bs) told f.stands.stands; records = f.stands.records };
+    unbuilt = f.unbuilt;
+  }
+  not_built_inner s (commands.Begin name) h = h
+  not_built_inner s (commands.Ask name request) h = h
+  not_built_inner s (commands.Fuse device calls) h = h
+  not_built_inner s (commands.Renew device) h = h
+  not_built_inner s _ h = absurd h
+
+  line_inner : (s : Stage) (rest : List ℕ) → NotBuiltLine (record F { tells = T }) e s rest → NotBuiltLine (record L { tells = T }) d s rest
+  line_inner s rest (inl x) = inl x
+  line_inner s rest (inr (line, whole, h)) = inr (line, whole, of_map (λ c. (is_lawful s c ≡ true) × IsNotBuilt (record F { tells = T }) e s c) (λ c. (is_lawful s c ≡ true) × IsNotBuilt (record L { tells = T }) d s c) (λ c h. (h.0, not_built_inner s c h.1)) _ h)
+
+  ended_inner : (log : List Record) (status : Status) (turns : List Turn) (read rest written : List ℕ) (left : Option (List ℕ)) → Ended (record F { tells = T }) log e status turns read rest written left → Ended (record L { tells = T }) log d status turns read rest written left
+  ended_inner log (statuses.NotBuilt n) turns read rest written left h = (h.0, h.1, line_inner (stage log turns) rest h.2)
+  ended_inner log statuses.Done turns read rest written left h = h
+  ended_inner log statuses.Memory turns read rest written left h = h
+  ended_inner log statuses.Usage turns read rest written left h = h
+  ended_inner log (statuses.Script n) turns read rest written left h = h
+  ended_inner log statuses.SourceFault turns read rest written left h = h
+  ended_inner log statuses.SinkFault turns read rest written left h = h
+  ended_inner log statuses.LogFault turns read rest written left h = h
+  ended_inner log (statuses.LogBad block byte) turns read rest written left h = h
+  ended_inner log statuses.NotFormatted turns read rest written left h = h
+  ended_inner log statuses.AlreadyFormatted turns read rest written left h = h
+  ended_inner log (statuses.NoSplit n) turns read rest written left h = h
+
+  pub unfused : (log : List Record) (left0 : Option (List ℕ)) (pending : List ℕ) (left told0 told1 : Option (List ℕ)) (status : Status) → Headline (record F { tells = T }) log e left0 pending left told0 told1 status → Headline (record L { tells = T }) log d left0 pending left told0 told1 status
+  unfused log left0 pending left told0 told1 status h = record {
+    turns = h.turns;
+    read = h.read;
+    rest = h.rest;
+    written = h.written;
+    taken = h.taken;
+    most = h.most;
+    ran = h.ran;
+    cut = h.cut;
+    wrote = h.wrote;
+    ended = ended_inner log status h.turns h.read h.rest h.written _ h.ended;
+    leaves = λ t. keeps_inner _ (h.leaves t);
+  }
+
+-- ---- completeness
+
+pub asked : {D : Type 0} (L : Ghosts D) (log : List Record) (disk : D) (left0 : Option (List ℕ)) (pending : List ℕ) (left told0 told : Option (List ℕ)) (status : Status) → Headline L log disk left0 pending left told0 told status → L.tells
+    → status ≢ statuses.Usage → status ≢ statuses.SourceFault → status ≢ statuses.SinkFault → status ≢ statuses.LogFault → IsAsked status
+asked L log disk left0 pending left told0 told statuses.Usage h t usage source sink fault = usage refl
+asked L log disk left0 pending left told0 told statuses.SourceFault h t usage source sink fault = source refl
+asked L log disk left0 pending left told0 told statuses.SinkFault h t usage source sink fault = sink refl
+asked L log disk left0 pending left told0 told statuses.LogFault h t usage source sink fault = fault refl
+asked L log disk left0 pending left told0 told (statuses.LogBad block byte) h t usage source sink fault = h.ended.2 t
+asked L log disk left0 pending left told0 told _ h t usage source sink fault = tt
+
+-- a run round a fused disk is one round the disk
+pub begun_fused : {D : Type 0} (L : Ghosts D) (v : View L.tells) (e : Fused D) (d : D) → e ≡ record { inner = d; left = None; refused = 0 } → (log : List Record) → (IsWhole v → DevicesStandFor L.told L.may_leave d log) → Out (seen (fuse_of L) v) e (begin_stage log)
+begun_fused L v e d is log stands = subst (λ (x : Fused _). Out (seen (fuse_of L) v) x (begin_stage log)) (sym is) (out_at (IsWhole v) L (fuse_of L) (record { inner = d; left = None; refused = 0 }) d refl (λ c m. m) tt refl log stands)
+
+pub ended_fused : {D : Type 0} (L : Ghosts D) (v : View L.tells) (e : Fused D) (d : D) → d ≡ e.inner → (log : List Record) (left0 : Option (List ℕ)) (pending : List ℕ) (left told0 told1 : Option (List ℕ)) (status : Status) → Headline (seen (fuse_of L) v) log e left0 pending left told0 told1 status → Headline (seen L v) log d left0 pending left told0 told1 status
+ended_fused L v e d is log left0 pending left told0 told1 status h = subst (λ (x : _). Headline (seen L v) log x left0 pending left told0 told1 status) (sym is) (unfused (IsWhole v) L (fuse_of L) e e.inner refl (λ c m. m) log left0 pending left told0 told1 status h)

@@ -1,0 +1,95 @@
+-- What holds at any place of a run: lives are right, and the log disk keeps a log that may be found.
+use Rattle.std.proofs.Common.{◌≡◌, ℕ, ◌≤◌, List, [], ◌∷◌, ◌++◌, Option, Some, None, refl, sym, ap, subst, ◌∙◌, arith, append_assoc, take, drop}
+use Rattle.std.specs.List.{All}
+use Rattle.std.proofs.lemmas.List.Elements.{All-cons, All-nil, All-append}
+use Rattle.media.specs.Crash.{Only, NoMore, LeavesOnly}
+use Rattle.media.specs.Kept.{Kept}
+use Rattle.media.specs.declared.disk.Disk.{Ghosts}
+use Rattle.log_blocks.specs.Log.{Block, first_lsn}
+use Rattle.log_blocks.specs.LogState.{LogState}
+use Rattle.log_manager.specs.Records.{StandsForRecords}
+use Rattle.log_replay.proofs.WholeLogs.{hold_whole}
+use Rattle.wal_record.specs.Left.{IsLeft}
+use Rattle.wal_record.specs.Sound.{IsSound}
+use Rattle.wal_record.specs.declared.record.Record.{Record}
+use Rattle.life_laws.specs.CalmLaw.{IsRight}
+use Rattle.life_laws.proofs.CalmLives.{calm_right}
+use Rattle.runner.specs.Active.{opened_by}
+use Rattle.runner.specs.Leaf.{rows_of}
+use Rattle.runner.specs.LogDisk.{View, Whole, Form, IsWhole, StandsOn, Keeps, HoldsOne, lsn_from}
+use Rattle.runner.specs.Machine.{Out, In, Safe, IsCalm, IsOver, LivesOn}
+use Rattle.runner.specs.Turns.{Life, Stage, Last, Left, IsRightLife, lives_of, last_of}
+use Rattle.runner.specs.declared.standing.Standing.{Standing}
+use Rattle.runner.proofs.Lists.{first_is}
+
+-- ---- views
+
+pub tells_of : {T : Type 0} (v : View T) → IsWhole v → T
+tells_of (Whole t) h = t
+tells_of Form h = absurd h
+
+-- ---- the disk
+
+pub keeps_map : {D : Type 0} (L : Ghosts D) (P Q : Kept → Type 0) (disk : D) → ((k : Kept) → P k → Q k) → Keeps L P disk → Keeps L Q disk
+keeps_map L P Q disk f k = record { now = f (L.told disk) k.now; crash = λ c left. f c (k.crash c left) }
+
+-- a disk that gives the same, and of which a crash leaves nothing else
+pub keeps_same : {D : Type 0} (L : Ghosts D) (P : Kept → Type 0) (old new : D) → L.told new ≡ L.told old → NoMore L.may_leave old new → Keeps L P old → Keeps L P new
+keeps_same L P old new same more k = record { now = subst P (sym same) k.now; crash = λ c left. k.crash c (more c left) }
+
+pub keeps_only : {D : Type 0} (L : Ghosts D) (P : Kept → Type 0) (disk : D) → P (L.told disk) → Only (L.told disk) (L.may_leave disk) → Keeps L P disk
+keeps_only L P disk p only = record { now = p; crash = λ c left. subst P (sym (only c left)) p }
+
+-- what a crash may leave now is among what one might have left since before
+pub crashed : {D : Type 0} (L : Ghosts D) (old new : D) (P : Kept → Type 0) → LeavesOnly L.moment L.left_since old new P
+    → ((t : ℕ) (c : Kept) → t ≤ L.moment new → L.may_leave new c → L.left_since new t c) → (c : Kept) → L.may_leave new c → P c
+crashed L old new P only counts c left = only.each c (counts (L.moment old) c only.later left)
+
+-- ---- what the kept bytes stand for
+
+pub stands_on : (log : List Record) (k : Kept) → IsSound log → (s : StandsForRecords log k) → first_lsn s.bs ≡ 1 → StandsOn log k
+stands_on log k sound s one = record { sound = sound; bs = s.bs; stands = s.stands; records = hold_whole log s.bs s.records one }
+
+-- a member of what a stop may leave of a life
+pub left_stands : (l : Life) (own : List Record) (k : Kept) → IsLeft l.opening l.history own → (s : StandsForRecords (l.opening ++ own) k) → first_lsn s.bs ≡ 1 → HoldsOne (Left l) k
+left_stands l own k left s one = (l.opening ++ own, (own, left, refl), stands_on (l.opening ++ own) k left.sound s one)
+
+-- ---- lives
+
+module _ {D : Type 0} (L : Ghosts D) where
+  module _ (log : LogState D) (standing : Standing) (l : Life) (lsn : ℕ) (c : IsCalm L log standing l lsn) where
+    pub calm_is_right : IsRightLife l
+    calm_is_right = calm_right l.opening l.history (rows_of standing.page) standing.head (opened_by standing.session) standing.next standing.commits lsn c.calm
+
+    pub calm_left : IsLeft l.opening l.history c.durable
+    calm_left = calm_is_right.behind c.durable c.waiting c.whole c.uncommitted
+
+    first_here : first_lsn c.stands.bs ≡ 1
+    first_here = sym (first_is (L.told log.device).start c.stands.bs) ∙ ap lsn_from (sym c.stands.durable.places_are) ∙ c.first
+
+    pub calm_keeps : Keeps L (HoldsOne (Left l)) log.device
+    calm_keeps = keeps_only L (HoldsOne (Left l)) log.device (left_stands l c.durable (L.told log.device) calm_left (record { bs = c.stands.bs; stands = c.stands.durable.stands; records = c.stands.records }) first_here) c.stands.durable.only
+
+  pub over : (log : LogState D) (standing : Standing) (l : Life) (e : Option ℕ) → LivesOn L log standing l e → L.tells → IsOver L log l
+  over log standing l None h t = record { right = calm_is_right log standing l h.lsn (h.calm t); keeps = calm_keeps log standing l h.lsn (h.calm t) }
+  over log standing l (Some n) h t = h t
+
+  pub safe_out : (disk : D) (s : Stage) → Out L disk s → Safe L disk s
+  safe_out disk s h = record {
+    right = λ t. subst (λ (x : Option Life). All IsRightLife (lives_of x s.past)) (sym h.life) (h.past t);
+    leaves = λ t. subst (λ (x : Option Life). Keeps L (HoldsOne (last_of x s.last)) disk) (sym h.life) (h.keeps t);
+    goes = h.goes;
+    fuse = h.fused.fuse;
+  }
+
+  -- the lives with one more
+  pub right_more : (past : List Life) (l : Life) → All IsRightLife past → IsRightLife l → All IsRightLife (past ++ l ∷ [])
+  right_more past l h r = All-append IsRightLife past (l ∷ []) h (All-cons IsRightLife l [] r (All-nil IsRightLife))
+
+  pub safe_in : (log : LogState D) (standing : Standing) (s : Stage) → In L log standing s → Safe L log.device s
+  safe_in log standing s h = record {
+    right = λ t. subst (λ (x : Option Life). All IsRightLife (lives_of x s.past)) (sym h.life) (right_more s.past h.here (h.past t) (over log standing h.here log.ended h.lives t).right);
+    leaves = λ t. subst (λ (x : Option Life). Keeps L (HoldsOne (last_of x s.last)) log.device) (sym h.life) (over log standing h.here log.ended h.lives t).keeps;
+    goes = h.goes;
+    fuse = h.fused.fuse;
+  }

@@ -1,0 +1,10 @@
+use Rattle.std.proofs.Common.{rules, refl, sym, ap, subst, ◌∙◌, arith, ◌≡◌}
+use Rattle.runner.specs.declared.life.Life.{Life}
+use Rattle.runner.specs.LogDisk.{seen}
+use Rattle.runner.specs.Machine.{In}
+use Rattle.runner.proofs.Lives.{tells_of}
+use Rattle.runner.proofs.Without.{did_renew}
+use Rattle.runner.proofs.outside.renew.Goals as goal
+
+pub returns-in-Ok-clause-turns : goal.returns-in-Ok-clause-turns
+returns-in-Ok-clause-turns g c = λ v s h. did_renew (seen g.L.Disk v) (λ (life : Life g.row.L.Denot g.L.Disk). In (seen g.L.Disk v) life.log.log life.standing) c.args.disk s h c.fuse.new.self (λ t. c.fuse.ensures.told (tells_of v t)) c.fuse.ensures.crash c.args.device c.in-Ok.lines.items (search rules) c.fuse.ensures.fuse.armed c.in-Ok.ensures

@@ -1,0 +1,79 @@
+-- Openings and formats of a disk that keeps a log that may be found.
+use Rattle.std.specs.Prelude.{◌≡◌, ℕ, List, [], length, Option, None}
+use Rattle.media.specs.declared.disk.Disk.{Ghosts}
+use Rattle.media.specs.Kept.{Kept}
+use Rattle.log_blocks.specs.LogState.{LogState}
+use Rattle.log_manager.specs.Records.{StandsForMoreRecords}
+use Rattle.log_replay.specs.declared.found.NotReplayed.{NotReplayed}
+use Rattle.log_replay.specs.declared.found.NotReplayed.TheVariants as whys
+use Rattle.store_model.specs.declared.fault.Fault.{Fault}
+use Rattle.store_model.specs.declared.fault.Fault.TheVariants as faults
+use Rattle.life_laws.specs.Calm.{first_log}
+use Rattle.wal_record.specs.declared.record.Record.{Record}
+use Rattle.runner.specs.declared.session.Session.{Session}
+use Rattle.runner.specs.declared.standing.Standing.{Standing}
+use Rattle.runner.specs.declared.status.Status.{Status}
+use Rattle.runner.specs.declared.status.Status.TheVariants as statuses
+use Rattle.runner.specs.LogDisk.{Keeps, HoldsOne}
+use Rattle.runner.specs.Machine.{IsCalm}
+use Rattle.runner.specs.Refusals.{FindsLog, FindsUnbuilt}
+use Rattle.runner.specs.Turns.{Last, Formatted, Unformatted, MayFind}
+
+-- what was so of the disk before, where it tells, is this now
+abbrev pub Makes : {D : Type 0} → Ghosts D → D → (Last → Type 0) → Type 0
+Makes L disk Q = L.tells → (last : Last) → Keeps L (HoldsOne last) disk → Q last
+
+-- the disk's bytes, also after a crash, stand for the record of a format, or for none; at least for so many
+pub record IsFirst {D : Type 0} (told : D → Kept) (may_leave : D → Kept → Type 0) (limit least : ℕ) (disk : D) : Type 0 where
+  pub now : StandsForMoreRecords 1 [] (first_log limit) least (told disk)
+  pub crash : (c : Kept) → may_leave disk c → StandsForMoreRecords 1 [] (first_log limit) least c
+
+-- a log is made where none was
+pub record IsMade {D : Type 0} (L : Ghosts D) (limit : ℕ) (left : D) (last : Last) : Type 0 where
+  pub none : MayFind last []
+  pub keeps : Keeps L (HoldsOne (Formatted limit)) left
+
+-- why a log isn't made
+abbrev pub IsNotMade : {D : Type 0} → Ghosts D → ℕ → D → D → Status → Type 0
+IsNotMade L limit disk left statuses.Memory = Makes L disk (λ last. Keeps L (HoldsOne last) left)
+IsNotMade L limit disk left statuses.LogFault = Makes L disk (λ last. Keeps L (HoldsOne (Unformatted last limit)) left)
+IsNotMade L limit disk left statuses.AlreadyFormatted = Makes L disk (λ last. FindsLog last × Keeps L (HoldsOne last) left)
+IsNotMade L limit disk left _ = ⊥
+
+-- a life begins on a log that may be found
+pub record IsBegun {D : Type 0} (L : Ghosts D) (log : LogState D) (standing : Standing) (last : Last) : Type 0 where
+  pub opening : List Record
+  pub found : MayFind last opening
+  pub calm : IsCalm L log standing (record { opening = opening; history = [] }) (length opening)
+
+-- why no life begins, in the line that asks for it
+abbrev pub IsNotBegun : {D : Type 0} → Ghosts D → ℕ → D → D → Status → Type 0
+IsNotBegun L line disk left statuses.Memory = Makes L disk (λ last. Keeps L (HoldsOne last) left)
+IsNotBegun L line disk left statuses.LogFault = Makes L disk (λ last. Keeps L (HoldsOne last) left)
+IsNotBegun L line disk left (statuses.LogBad block byte) = Makes L disk (λ last. ⊥)
+IsNotBegun L line disk left statuses.NotFormatted = Makes L disk (λ last. MayFind last [] × Keeps L (HoldsOne last) left)
+IsNotBegun L line disk left (statuses.NotBuilt n) = (n ≡ line) × Makes L disk (λ last. FindsUnbuilt L left last × Keeps L (HoldsOne last) left)
+IsNotBegun L line disk left _ = ⊥
+
+-- the status of a fault, where a log isn't made, and where it isn't opened
+abbrev pub MadeStatus : Fault → Status → Type 0
+MadeStatus faults.LogFault status = status ≡ statuses.LogFault
+MadeStatus (faults.LogBad block byte) status = status ≡ statuses.AlreadyFormatted
+MadeStatus fault status = status ≡ statuses.Memory
+
+abbrev pub ReadStatus : Fault → Status → Type 0
+ReadStatus faults.LogFault status = status ≡ statuses.LogFault
+ReadStatus (faults.LogBad block byte) status = status ≡ statuses.LogBad block byte
+ReadStatus fault status = status ≡ statuses.Memory
+
+abbrev pub ReplayStatus : ℕ → NotReplayed → Status → Type 0
+ReplayStatus line whys.Memory status = status ≡ statuses.Memory
+ReplayStatus line whys.LogFault status = status ≡ statuses.LogFault
+ReplayStatus line (whys.LogBad block byte) status = status ≡ statuses.LogBad block byte
+ReplayStatus line whys.NotFormatted status = status ≡ statuses.NotFormatted
+ReplayStatus line whys.NotBuilt status = status ≡ statuses.NotBuilt line
+
+abbrev pub IsFault : Status → Type 0
+IsFault statuses.Memory = Unit {0}
+IsFault statuses.LogFault = Unit {0}
+IsFault _ = ⊥

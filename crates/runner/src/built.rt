@@ -1,0 +1,53 @@
+//! Which lines ask for what is built.
+ghost use Rattle.std.specs.Prelude.{◌≡◌, Option, List, ℕ};
+ghost use Rattle.std.specs.Option.{option_copied};
+ghost use Rattle.runner.specs.Built.{is_built, is_built_word, has_fuse, is_built_device};
+
+use script::cut;
+
+/// Whether a line is empty, a comment, or begins with a word that is built.
+#[tactic(auto, unfolding(crate::specs::Built::is_built))]
+pub fn is_built(line: &[u8]) -> bool
+    ensures { result ≡ is_built line.now }
+{
+    match line {
+        [] => true,
+        [b'#', ..] => true,
+        _ => {
+            let (word, rest) = cut(line);
+            is_built_word(word) || (has_fuse(word) && is_built_device(rest))
+        }
+    }
+}
+
+fn is_built_word(word: &[u8]) -> bool
+    ensures { result ≡ is_built_word word.now }
+{
+    word == b"format".as_slice()
+        || word == b"open".as_slice()
+        || word == b"begin".as_slice()
+        || word == b"get".as_slice()
+        || word == b"put".as_slice()
+        || word == b"commit".as_slice()
+        || word == b"stop".as_slice()
+}
+
+/// Whether the second word belongs to it: the device of a fuse.
+fn has_fuse(word: &[u8]) -> bool
+    ensures { result ≡ has_fuse word.now }
+{
+    word == b"fuse".as_slice() || word == b"renew".as_slice()
+}
+
+/// Whether what stands behind the first word begins with a device whose fuse is built.
+fn is_built_device(rest: Option<&[u8]>) -> bool
+    ensures { result ≡ is_built_device (option_copied rest.entry) }
+{
+    match rest {
+        None => false,
+        Some(rest) => {
+            let (word, _) = cut(rest);
+            word == b"log".as_slice()
+        }
+    }
+}
