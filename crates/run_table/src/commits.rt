@@ -2,6 +2,7 @@
 
 use crate::fixture::{blank, is_done, run};
 use std::alloc::Global;
+use std::ops::Range;
 use std::test::Fail;
 
 /// A transaction of three puts, and what it prints, but for the answer of its commit.
@@ -134,19 +135,29 @@ fn try_cut(alloc: Global, cut: Cut) -> Result<(), Fail> {
     Err(Fail::new(format_args!("{passes} calls and {keep} bytes")))
 }
 
-/// All bytes of a block are kept, or fewer.
-fn try_each_keep(alloc: Global, passes: usize) -> Result<(), Fail> {
-    for keep in 0..=LONGEST {
-        try_cut(alloc, Cut { passes, keep })?;
-    }
-    try_cut(alloc, Cut { passes, keep: 4096 })
-}
-
-/// The twelve calls of the three commits pass, or fewer.
-#[test]
-fn a_stop_keeps_acknowledged_commits_or_one_more(rt: HostRuntime) -> Result<(), Fail> {
-    for passes in 0..=12 {
-        try_each_keep(rt.alloc(), passes)?;
+/// These calls are refused first, and of a block's bytes all are kept, or fewer.
+fn try_each(alloc: Global, refused: Range<usize>) -> Result<(), Fail> {
+    for passes in refused {
+        for keep in 0..=LONGEST {
+            try_cut(alloc, Cut { passes, keep })?;
+        }
+        try_cut(alloc, Cut { passes, keep: 4096 })?;
     }
     Ok(())
+}
+
+#[test]
+fn a_stop_in_the_first_commit_keeps_none_or_one(rt: HostRuntime) -> Result<(), Fail> {
+    try_each(rt.alloc(), 0..4)
+}
+
+#[test]
+fn a_stop_in_the_second_commit_keeps_one_or_two(rt: HostRuntime) -> Result<(), Fail> {
+    try_each(rt.alloc(), 4..8)
+}
+
+/// The fuse of twelve calls doesn't blow.
+#[test]
+fn a_stop_in_the_third_commit_or_behind_it_keeps_two_or_three(rt: HostRuntime) -> Result<(), Fail> {
+    try_each(rt.alloc(), 8..13)
 }
