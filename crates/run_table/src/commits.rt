@@ -1,4 +1,5 @@
 //! Three transactions, a fuse of the log disk that blows in one of their commits or in none, and a stop.
+ghost use Rattle.std.specs.Prelude.{◌≤◌};
 
 use crate::fixture::{blank, is_done, run};
 use std::alloc::Global;
@@ -68,7 +69,9 @@ struct Cut {
 
 impl Cut {
     /// How many commits are acknowledged. Each makes four calls.
-    fn acknowledged(&self) -> usize {
+    fn acknowledged(&self) -> usize
+        ensures { result ≤ 3 }
+    {
         (self.passes / 4).min(3)
     }
 
