@@ -110,16 +110,9 @@ impl Cut {
             printed.push_str(transaction.printed)?;
             printed.push_str(&format!(in alloc; " {number}\n")?)?;
         }
-        if let Some(
-            Transaction {
-                name,
-                lines: _,
-                printed: lines,
-            },
-        ) = TRANSACTIONS.get(acknowledged)
-        {
-            let end = 4 * acknowledged + 1;
-            printed.push_str(lines)?;
+        if let Some(refused) = TRANSACTIONS.get(acknowledged) {
+            let (name, end) = (refused.name, 4 * acknowledged + 1);
+            printed.push_str(refused.printed)?;
             printed.push_str(&format!(in alloc; " log failed\n{name} get w ended {end}\n")?)?;
         }
         printed.push_str("stop\n")?;
