@@ -1,0 +1,54 @@
+//! A format that a fuse of the log disk refuses, and a stop.
+
+use crate::fixture::{blank, run};
+use runner::Status;
+use std::alloc::Global;
+use std::test::Fail;
+
+/// So many calls of a format pass, and a stop keeps so many of the bytes written since the last sync.
+#[derive(Clone, Copy)]
+struct Cut {
+    passes: u32,
+    keep: u32,
+}
+
+impl Cut {
+    /// Whether the next life finds a store. A format syncs, closes a gate in two calls, and writes a block in four: the
+    /// third of these opens its gate, and the fourth makes that last.
+    fn is_formatted(&self) -> bool {
+        self.passes > 6 || self.passes == 6 && self.keep > 0
+    }
+}
+
+fn try_cut(alloc: Global, cut: Cut) -> Result<(), Fail> {
+    let Cut { passes, keep } = cut;
+    let script = format!(in alloc; "fuse log {passes}\nformat\nstop {keep}\n")?;
+    let first = run(alloc, &script, blank(alloc))?;
+    let open = run(alloc, "open\n", first.devices)?;
+    let format = run(alloc, "format\n", open.devices)?;
+    let last = run(alloc, "open\n", format.devices)?;
+    let (opened, formatted) = if cut.is_formatted() {
+        (Status::Done, Status::AlreadyFormatted)
+    } else {
+        (Status::NotFormatted, Status::Done)
+    };
+    if first.status == Status::Done
+        && open.status == opened
+        && format.status == formatted
+        && last.status == Status::Done
+    {
+        return Ok(());
+    }
+    Err(Fail::new(format_args!("{passes} calls and {keep} bytes")))
+}
+
+/// All seven calls of a format pass, or fewer, and all 29 bytes of its block are kept, or fewer.
+#[test]
+fn a_format_that_was_cut_is_none_or_whole(rt: HostRuntime) -> Result<(), Fail> {
+    for passes in 0..=7 {
+        for keep in 0..=29 {
+            try_cut(rt.alloc(), Cut { passes, keep })?;
+        }
+    }
+    Ok(())
+}
