@@ -494,7 +494,7 @@ module _ {D : Type 0} (L : Ghosts D) where
             let w = c.waiting ++ committing o ∷ [] in
             let kept : IsLeft h.here.opening (h.here.history ++ e ∷ []) c.durable = left_longer h.here.opening h.here.history (e ∷ []) c.durable (calm_left L log standing h.here r.lsn c) (λ _. refl) in
             left_more h.here.opening c.calm.begins (h.here.history ++ e ∷ []) (right_then t).legal (calm_then t).log.whole c.durable (take n w) (drop n w) kept
-                (whole_commit t [] refl ∙ ap (λ (rs : List Record). c.durable ++ rs) (sym (take_drop n w)) ∙ sym (append_assoc c.durable (take n w) (drop n w)))
+            (whole_commit t [] refl ∙ ap (λ (rs : List Record). c.durable ++ rs) (sym (take_drop n w)) ∙ sym (append_assoc c.durable (take n w) (drop n w)))
 
         module _ (left : (t : L.tells) → RecordsLeft L.told L.may_leave (h.here.opening ++ (r.calm t).durable) ((r.calm t).waiting ++ committing o ∷ []) mid new) where
           holds_then : (t : L.tells) (k : Kept) → StandsForMoreRecords (first_kept mid) (h.here.opening ++ (r.calm t).durable) ((r.calm t).waiting ++ committing o ∷ []) (left t).done k → HoldsOne (Left after) k

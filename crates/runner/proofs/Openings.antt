@@ -289,7 +289,7 @@ first_flushed L limit old mid new next added stands stands_mid left least reache
     let none : stands.bs ≡ [] = no_blocks (first_lsn stands.bs) stands.records.before stands.bs stands.durable.stands.sequence.run stands.records.records in
     let places_none : lsn_from mid.places ≡ 1 = ap (λ (x : LogState _). lsn_from x.places) added.is ∙ ap lsn_from stands.durable.places_are ∙ ap (λ (bs : List Block). lsn_from (places (L.told old.device).start bs)) none in
     first_left L limit mid new (first_kept_is mid stands_mid.numbered ∙ places_none) left least
-        (omega (arith, reached, left.durable, next_is L.told L.may_leave mid [] (first_log limit) stands_mid, ap (λ (x : LogState _). x.next) added.is, next))
+    (omega (arith, reached, left.durable, next_is L.told L.may_leave mid [] (first_log limit) stands_mid, ap (λ (x : LogState _). x.next) added.is, next))
 
 pub ok_map : {A B : Type 0} (r : Result A B) (P Q : A → Type 0) → ((a : A) → P a → Q a) → IfOk r P → IfOk r Q
 ok_map (Ok a) P Q f h = f a h

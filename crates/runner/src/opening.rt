@@ -73,11 +73,7 @@ pub fn make_log<L: Disk>(alloc: Global, disk: L, limit: u32) -> Result<L, NotOpe
 }
 
 /// Enters the first record and flushes it.
-fn enter_format<L: Disk>(
-    alloc: Global,
-    log: &mut LogManager<L>,
-    limit: u32,
-) -> Result<(), Status>
+fn enter_format<L: Disk>(alloc: Global, log: &mut LogManager<L>, limit: u32) -> Result<(), Status>
     requires limit { IsTrue (is_limit limit) }
     requires first { log.old.log.next ≡ 1 }
     requires goes { log.old.log.ended ≡ None }

@@ -107,12 +107,7 @@ fn format_lines(alloc: Global) -> Result<(Vec<u8>, Vec<u8>), Status>
 }
 
 /// Opens a life.
-fn opens<L: Disk>(
-    alloc: Global,
-    operators: &Operators,
-    disk: L,
-    line: u64,
-) -> Stepped<L, Life<L>>
+fn opens<L: Disk>(alloc: Global, operators: &Operators, disk: L, line: u64) -> Stepped<L, Life<L>>
     ensures turns { (v : View L.tells) (s : Stage) → Out (seen L.Disk v) disk s → Steps (seen L.Disk v) (λ life. In (seen L.Disk v) life.log.log life.standing) s commands.Open line result }
     ensures cause { SteppedCause L.Disk (λ life. life.log.log.device) disk result }
 {

@@ -1,7 +1,6 @@
 //! A whole run.
 ghost use Rattle.std.specs.Prelude.{◌≡◌, ◌≢◌, ◌≤◌, ◌↔◌, ℕ, List, Option, map, true, false, IfErr};
 ghost use Rattle.media.specs.Cause.{Rose};
-
 ghost use Rattle.wal_record.specs.declared.record.Record.{Record};
 ghost use Rattle.log_replay.specs.Standing.{DevicesStandFor};
 ghost use Rattle.runner.specs.Lines.{to_come, IsBounded};
@@ -110,8 +109,18 @@ fn run<S: Source, K: Sink, V: Vault, L: Disk>(
 {
     let mut disk = disk;
     for _ in 0..u64::MAX {
-        match turn(alloc, operators, input, source, sink, vault, At::Outside { disk }) {
-            Turned::Goes { at } => match run_from(alloc, operators, input, source, sink, vault, at) {
+        match turn(
+            alloc,
+            operators,
+            input,
+            source,
+            sink,
+            vault,
+            At::Outside { disk },
+        ) {
+            Turned::Goes { at } => match run_from(
+                alloc, operators, input, source, sink, vault, at,
+            ) {
                 Lived::Stopped { disk: left } => disk = left,
                 Lived::Ends { status, disk } => return (status, disk),
             },
@@ -168,7 +177,15 @@ fn run_life<S: Source, K: Sink, V: Vault, L: Disk>(
 {
     let mut life = life;
     for _ in 0..u64::MAX {
-        match turn(alloc, operators, input, source, sink, vault, At::Inside { life }) {
+        match turn(
+            alloc,
+            operators,
+            input,
+            source,
+            sink,
+            vault,
+            At::Inside { life },
+        ) {
             Turned::Goes { at } => match at {
                 At::Outside { disk } => return Lived::Stopped { disk },
                 At::Inside { life: left } => life = left,

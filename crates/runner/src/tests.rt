@@ -40,9 +40,18 @@ fn run_on(
         vault: MemVault::new(alloc),
     };
     let operators = Operators::new(
-        Box::new(alloc, |old: &Option<Value>, argument: &OpValue| add(old, argument))?,
-        Box::new(alloc, |old: &Option<Value>, argument: &OpValue| max(old, argument))?,
-        Box::new(alloc, |old: &Option<Value>, argument: &OpValue| join(old, argument))?,
+        Box::new(
+            alloc,
+            |old: &Option<Value>, argument: &OpValue| add(old, argument),
+        )?,
+        Box::new(
+            alloc,
+            |old: &Option<Value>, argument: &OpValue| max(old, argument),
+        )?,
+        Box::new(
+            alloc,
+            |old: &Option<Value>, argument: &OpValue| join(old, argument),
+        )?,
     );
     let (status, devices) = run_words(alloc, &[], &mut source, &mut sink, devices, &operators);
     Ok(Ran {
@@ -240,10 +249,13 @@ const FUSED: [(&[u8], &[u8]); 5] = [
 fn a_commit_that_a_fuse_refused_ends_the_life(rt: HostRuntime) -> Result<(), Fail> {
     let alloc = rt.alloc();
     for (script, printed) in FUSED {
-        let mut whole = b"format\nopen\nbegin A\nput A x 1\n".as_slice().to_vec(alloc)?;
+        let mut whole = b"format\nopen\nbegin A\nput A x 1\n"
+            .as_slice()
+            .to_vec(alloc)?;
         whole.extend_from_slice(script)?;
-        let mut expected =
-            b"format ok\nopen commits=0 losers=0\nA begin\nA put x was none\n".as_slice().to_vec(alloc)?;
+        let mut expected = b"format ok\nopen commits=0 losers=0\nA begin\nA put x was none\n"
+            .as_slice()
+            .to_vec(alloc)?;
         expected.extend_from_slice(printed)?;
         let ran = run(&rt, &whole)?;
         assert_eq!(rt; ran.printed.as_slice(), expected.as_slice());

@@ -16,4 +16,4 @@ pub returns-in-Ok-get_line-clause-ok : goal.returns-in-Ok-get_line-clause-ok
 returns-in-Ok-get_line-clause-ok g c = λ v s h.
     let named = is_named _ c.args.name.now c.requires in
     did_get (seen g.L.Disk v) s _ _ h c.args.name.now named.0 named.1 named.2 (sym c.ended.ensures ∙ c.in-None.is) c.args.key.now c.in-Ok-get_line.out.items
-        (c.in-Ok-get_line.ensures ∙ ap (λ (x : Option (List ℕ)). c.args.name.now ++ codes " get " ++ escaped c.args.key.now ++ shown x ++ codes "\n") c.live-found.ensures)
+    (c.in-Ok-get_line.ensures ∙ ap (λ (x : Option (List ℕ)). c.args.name.now ++ codes " get " ++ escaped c.args.key.now ++ shown x ++ codes "\n") c.live-found.ensures)

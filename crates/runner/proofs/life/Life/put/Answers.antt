@@ -20,8 +20,8 @@ returns-in-Ok-put_full-clause-ok g c = λ v s h.
     let named = is_named _ c.args.name.now c.requires in
     let puts = c.puts.ensures ∙ ap puts_of named.1 in
     did_full (seen g.L.Disk v) s _ _ h c.args.name.now named.0 named.1 named.2 (sym c.ended.ensures ∙ c.in-None.is) c.args.key.now c.args.value.now c.in-Ok-put_full.out.items
-        (subst (λ (x : Option Session). c.args.self.now.standing.limit < puts_of x + 3) named.1 (c.is_full.ensures.0 c.if-is_full.true))
-        (c.in-Ok-put_full.ensures ∙ ap (λ (n : ℕ). c.args.name.now ++ codes " put " ++ escaped c.args.key.now ++ (codes " full " ++ decimal 1 ++ codes " " ++ decimal n) ++ codes "\n") puts)
+    (subst (λ (x : Option Session). c.args.self.now.standing.limit < puts_of x + 3) named.1 (c.is_full.ensures.0 c.if-is_full.true))
+    (c.in-Ok-put_full.ensures ∙ ap (λ (n : ℕ). c.args.name.now ++ codes " put " ++ escaped c.args.key.now ++ (codes " full " ++ decimal 1 ++ codes " " ++ decimal n) ++ codes "\n") puts)
 
 pub returns-in-Err-put_full-clause-err : goal.returns-in-Err-put_full-clause-err
 returns-in-Err-put_full-clause-err g c = λ v s h. leaves_here (seen g.L.Disk v) s _ _ h

@@ -46,10 +46,10 @@ returns-in-Ok-append_group-clause-ok g c = λ v s h.
     let redone = subst (λ (b : Bool). Redone w 1 old.standing.page c.redo.new.self.page b) c.if-not-fits.false c.in-Ok-redo.ensures.done in
     let more = c.in-Ok-append_group.ensures in
     did_put (seen g.L.Disk v) s old.log.log old.standing h c.args.name.now named.0 named.1 named.2 c.requires.goes c.args.key.now c.args.value.now w writes c.append_group.new.self.log c.wrote.new.self c.redo.new.self.page c.in-Ok.out.items room (search rules) (search rules) redone c.wrote.ensures.same.0
-        (subst (λ (rs : List Record). HasMore rs old.log.log c.append_group.new.self.log) c.from_ref.ensures.value more.added.0)
-        (λ t stable waiting stands. subst (λ (rs : List Record). IsLogOf g.L.Disk.told g.L.Disk.may_leave c.append_group.new.self.log stable (waiting ++ rs)) c.from_ref.ensures.value (more.records (tells_of v t) stable waiting stands))
-        (c.wrote.ensures.head ∙ more.first)
-        (subst (λ (n : ℕ). HasPut n old.standing.session c.wrote.new.self.session) more.first (subst (λ (x : Option Session). HasPut c.in-Ok-append_group.lsn x c.wrote.new.self.session) c.redo.ensures.same.1 c.wrote.ensures.session))
-        (c.wrote.ensures.same.1 ∙ c.redo.ensures.same.2) (c.wrote.ensures.same.2 ∙ c.redo.ensures.same.3) (c.wrote.ensures.same.3 ∙ c.redo.ensures.same.4)
-        (omega (arith, c.if-last.false, c.last.ensures)) old.standing.number.1
-        (c.in-Ok.ensures ∙ ap (λ (x : Option (List ℕ)). c.args.name.now ++ codes " put " ++ escaped c.args.key.now ++ (codes " was" ++ shown x) ++ codes "\n") c.live-old.ensures)
+    (subst (λ (rs : List Record). HasMore rs old.log.log c.append_group.new.self.log) c.from_ref.ensures.value more.added.0)
+    (λ t stable waiting stands. subst (λ (rs : List Record). IsLogOf g.L.Disk.told g.L.Disk.may_leave c.append_group.new.self.log stable (waiting ++ rs)) c.from_ref.ensures.value (more.records (tells_of v t) stable waiting stands))
+    (c.wrote.ensures.head ∙ more.first)
+    (subst (λ (n : ℕ). HasPut n old.standing.session c.wrote.new.self.session) more.first (subst (λ (x : Option Session). HasPut c.in-Ok-append_group.lsn x c.wrote.new.self.session) c.redo.ensures.same.1 c.wrote.ensures.session))
+    (c.wrote.ensures.same.1 ∙ c.redo.ensures.same.2) (c.wrote.ensures.same.2 ∙ c.redo.ensures.same.3) (c.wrote.ensures.same.3 ∙ c.redo.ensures.same.4)
+    (omega (arith, c.if-last.false, c.last.ensures)) old.standing.number.1
+    (c.in-Ok.ensures ∙ ap (λ (x : Option (List ℕ)). c.args.name.now ++ codes " put " ++ escaped c.args.key.now ++ (codes " was" ++ shown x) ++ codes "\n") c.live-old.ensures)
