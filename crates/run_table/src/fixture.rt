@@ -4,7 +4,7 @@ use media::Devices;
 use media_mem::{MemDisk, MemPages, MemSink, MemSource, MemVault};
 use operators::{Operators, add, join, max};
 use runner::{Status, run_words};
-use std::alloc::Global;
+use std::alloc::{AllocError, Global};
 use std::test::Fail;
 use store_model::{OpValue, Value};
 
@@ -25,15 +25,9 @@ pub struct Ran {
     pub devices: Devices<MemDisk, MemPages, MemVault>,
 }
 
-/// Runs a script on these devices.
-pub fn run(
-    alloc: Global,
-    script: &str,
-    devices: Devices<MemDisk, MemPages, MemVault>,
-) -> Result<Ran, Fail> {
-    let mut source = MemSource::new(alloc, script.as_bytes().to_vec(alloc)?);
-    let mut sink = MemSink::new(alloc);
-    let operators = Operators::new(
+/// The operators of the store, as boxed closures.
+fn boxed(alloc: Global) -> Result<Operators, AllocError> {
+    Ok(Operators::new(
         Box::new(
             alloc,
             |old: &Option<Value>, argument: &OpValue| add(old, argument),
@@ -46,7 +40,18 @@ pub fn run(
             alloc,
             |old: &Option<Value>, argument: &OpValue| join(old, argument),
         )?,
-    );
+    ))
+}
+
+/// Runs a script on these devices.
+pub fn run(
+    alloc: Global,
+    script: &str,
+    devices: Devices<MemDisk, MemPages, MemVault>,
+) -> Result<Ran, Fail> {
+    let mut source = MemSource::new(alloc, script.as_bytes().to_vec(alloc)?);
+    let mut sink = MemSink::new(alloc);
+    let operators = boxed(alloc)?;
     let (status, devices) = run_words(alloc, &[], &mut source, &mut sink, devices, &operators);
     Ok(Ran {
         status,

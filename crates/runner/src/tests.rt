@@ -4,7 +4,7 @@ use super::*;
 use media::Devices;
 use media_mem::{MemDisk, MemPages, MemSink, MemSource, MemVault};
 use operators::{Operators, add, join, max};
-use std::alloc::Global;
+use std::alloc::{AllocError, Global};
 use std::collections::BTreeMap;
 use std::test::Fail;
 use store_model::{OpValue, Value};
@@ -23,6 +23,24 @@ struct Ran {
     kept: Vec<u8>,
 }
 
+/// The operators of the store, as boxed closures.
+fn boxed(alloc: Global) -> Result<Operators, AllocError> {
+    Ok(Operators::new(
+        Box::new(
+            alloc,
+            |old: &Option<Value>, argument: &OpValue| add(old, argument),
+        )?,
+        Box::new(
+            alloc,
+            |old: &Option<Value>, argument: &OpValue| max(old, argument),
+        )?,
+        Box::new(
+            alloc,
+            |old: &Option<Value>, argument: &OpValue| join(old, argument),
+        )?,
+    ))
+}
+
 /// Runs a script on a log disk, with streams of which the calls with these numbers fail.
 fn run_on(
     rt: &HostRuntime,
@@ -39,20 +57,7 @@ fn run_on(
         pages: MemPages::new(alloc),
         vault: MemVault::new(alloc),
     };
-    let operators = Operators::new(
-        Box::new(
-            alloc,
-            |old: &Option<Value>, argument: &OpValue| add(old, argument),
-        )?,
-        Box::new(
-            alloc,
-            |old: &Option<Value>, argument: &OpValue| max(old, argument),
-        )?,
-        Box::new(
-            alloc,
-            |old: &Option<Value>, argument: &OpValue| join(old, argument),
-        )?,
-    );
+    let operators = boxed(alloc)?;
     let (status, devices) = run_words(alloc, &[], &mut source, &mut sink, devices, &operators);
     Ok(Ran {
         status,
