@@ -4,6 +4,9 @@
 //! behind PLACE, says on standard error why the run ended where it isn't done, and ends with the status' code.
 #![tactic(auto)]
 
+ghost use Rattle.std.specs.Prelude.{◌≡◌};
+ghost use Rattle.operators.specs.Means.{made_by};
+
 mod streams;
 
 use media::Devices;
@@ -44,15 +47,21 @@ fn boxed(alloc: Global) -> Result<Operators, AllocError> {
     Ok(Operators::new(
         Box::new(
             alloc,
-            |old: &Option<Value>, argument: &OpValue| add(old, argument),
+            |old: &Option<Value>, argument: &OpValue|
+                ensures { result ≡ made_by 1 old.now argument.now }
+            { add(old, argument) },
         )?,
         Box::new(
             alloc,
-            |old: &Option<Value>, argument: &OpValue| max(old, argument),
+            |old: &Option<Value>, argument: &OpValue|
+                ensures { result ≡ made_by 2 old.now argument.now }
+            { max(old, argument) },
         )?,
         Box::new(
             alloc,
-            |old: &Option<Value>, argument: &OpValue| join(old, argument),
+            |old: &Option<Value>, argument: &OpValue|
+                ensures { result ≡ made_by 3 old.now argument.now }
+            { join(old, argument) },
         )?,
     ))
 }

@@ -1,4 +1,6 @@
 //! Runs of scripts.
+ghost use Rattle.std.specs.Prelude.{◌≡◌};
+ghost use Rattle.operators.specs.Means.{made_by};
 
 use media::Devices;
 use media_mem::{MemDisk, MemPages, MemSink, MemSource, MemVault};
@@ -30,15 +32,21 @@ fn boxed(alloc: Global) -> Result<Operators, AllocError> {
     Ok(Operators::new(
         Box::new(
             alloc,
-            |old: &Option<Value>, argument: &OpValue| add(old, argument),
+            |old: &Option<Value>, argument: &OpValue|
+                ensures { result ≡ made_by 1 old.now argument.now }
+            { add(old, argument) },
         )?,
         Box::new(
             alloc,
-            |old: &Option<Value>, argument: &OpValue| max(old, argument),
+            |old: &Option<Value>, argument: &OpValue|
+                ensures { result ≡ made_by 2 old.now argument.now }
+            { max(old, argument) },
         )?,
         Box::new(
             alloc,
-            |old: &Option<Value>, argument: &OpValue| join(old, argument),
+            |old: &Option<Value>, argument: &OpValue|
+                ensures { result ≡ made_by 3 old.now argument.now }
+            { join(old, argument) },
         )?,
     ))
 }

@@ -1,4 +1,5 @@
-ghost use Rattle.std.specs.Prelude.{◌<◌};
+ghost use Rattle.std.specs.Prelude.{◌≡◌, ◌<◌};
+ghost use Rattle.operators.specs.Means.{made_by};
 
 use super::*;
 use media::Devices;
@@ -28,15 +29,21 @@ fn boxed(alloc: Global) -> Result<Operators, AllocError> {
     Ok(Operators::new(
         Box::new(
             alloc,
-            |old: &Option<Value>, argument: &OpValue| add(old, argument),
+            |old: &Option<Value>, argument: &OpValue|
+                ensures { result ≡ made_by 1 old.now argument.now }
+            { add(old, argument) },
         )?,
         Box::new(
             alloc,
-            |old: &Option<Value>, argument: &OpValue| max(old, argument),
+            |old: &Option<Value>, argument: &OpValue|
+                ensures { result ≡ made_by 2 old.now argument.now }
+            { max(old, argument) },
         )?,
         Box::new(
             alloc,
-            |old: &Option<Value>, argument: &OpValue| join(old, argument),
+            |old: &Option<Value>, argument: &OpValue|
+                ensures { result ≡ made_by 3 old.now argument.now }
+            { join(old, argument) },
         )?,
     ))
 }
