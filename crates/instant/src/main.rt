@@ -33,7 +33,10 @@ fn run(rt: &HostRuntime, alloc: Global, words: &[String]) -> Status {
     match words {
         [place, rest @ ..] => {
             if place.as_str() == "mem" {
-                run_in_memory(rt, alloc, rest)
+                match run_in_memory(rt, alloc, rest) {
+                    Ok(status) => status,
+                    Err(_) => Status::Memory,
+                }
             } else {
                 Status::Usage
             }
@@ -42,9 +45,9 @@ fn run(rt: &HostRuntime, alloc: Global, words: &[String]) -> Status {
     }
 }
 
-/// The operators of the store, as boxed closures.
-fn boxed(alloc: Global) -> Result<Operators, AllocError> {
-    Ok(Operators::new(
+/// Runs the words on devices in memory, with the operators of the store.
+fn run_in_memory(rt: &HostRuntime, alloc: Global, words: &[String]) -> Result<Status, AllocError> {
+    let operators = Operators::new(
         Box::new(
             alloc,
             |old: &Option<Value>, argument: &OpValue|
@@ -63,14 +66,11 @@ fn boxed(alloc: Global) -> Result<Operators, AllocError> {
                 ensures { result ≡ made_by 3 old.now argument.now }
             { join(old, argument) },
         )?,
-    ))
+    );
+    Ok(run_with(rt, alloc, words, &operators))
 }
 
-fn run_in_memory(rt: &HostRuntime, alloc: Global, words: &[String]) -> Status {
-    let operators = match boxed(alloc) {
-        Ok(operators) => operators,
-        Err(_) => return Status::Memory,
-    };
+fn run_with(rt: &HostRuntime, alloc: Global, words: &[String], operators: &Operators) -> Status {
     let mut source = StreamSource {
         reader: rt.stdin(),
         faults: 0,
@@ -84,7 +84,7 @@ fn run_in_memory(rt: &HostRuntime, alloc: Global, words: &[String]) -> Status {
         pages: MemPages::new(alloc),
         vault: MemVault::new(alloc),
     };
-    let (status, _devices) = run_words(alloc, words, &mut source, &mut sink, devices, &operators);
+    let (status, _devices) = run_words(alloc, words, &mut source, &mut sink, devices, operators);
     status
 }
 
