@@ -33,6 +33,7 @@ use Rattle.wal_record.specs.declared.record.Record.TheVariants as kinds
 use Rattle.wal_record.specs.declared.entry.Entry.{Entry}
 use Rattle.wal_record.specs.declared.entry.Entry.TheVariants.{Rec, Lock, Said, Declined, Acked, Began}
 use Rattle.log_laws.specs.Beginnings.{is_commit}
+use Rattle.held_leaf.specs.Entries.{put_entries as told_put}
 use Rattle.life_laws.specs.Calm.{Opened, Calm, only_leaf}
 use Rattle.life_laws.specs.Commands.{begun, with_write, with_row, written, committing, get_entries, put_entries, full_entries, commit_entries}
 use Rattle.life_laws.proofs.CalmSteps.{calm_begin, calm_get, calm_put, calm_declined, calm_commit, calm_committed}
@@ -49,13 +50,13 @@ use Rattle.runner.specs.Active.{is_active, opened_by, Writes, Begins, HasPut, Is
 use Rattle.runner.specs.Leaf.{rows_of, page_live}
 use Rattle.runner.specs.LogDisk.{Keeps, HoldsOne, Leaves, lsn_from}
 use Rattle.runner.specs.Machine.{actives, IsFused, In, IsCalm, Runs, IsOver, LivesOn, Adds}
-use Rattle.runner.specs.Printing.{escaped, shown}
+use Rattle.transcript.specs.Printing.{escaped, shown}
 use Rattle.runner.specs.Refusals.{RefusesAt, CutAt, HasNoPlace, IsRequestNotBuilt}
 use Rattle.runner.specs.Session.{write_record}
 use Rattle.runner.specs.Turns.{Turn, Life, Active, Stage, Left, Done, LogFault, Ended, Commits, CutCommit, IsEnd, IsEndedAt, lives_of, last_of, without, IsAid, HasRoom, IsRightLife, turn, stage_step, longer, is_known, is_lawful, no_life, tx_of, log_of_life, Answers, EndedRow, IsNoStop}
 use Rattle.runner.specs.Text.{lines, head}
 use Rattle.runner.specs.declared.session.Session.{Session}
-use Rattle.runner.specs.declared.standing.Standing.{Standing}
+use Rattle.runner.specs.Standing.{Standing}
 use Rattle.runner.specs.declared.status.Status.{Status}
 use Rattle.runner.specs.declared.status.Status.TheVariants as statuses
 use Rattle.runner.proofs.Lists.{any_taken, commits_append, first_kept_is, next_is, take_drop}
@@ -221,8 +222,9 @@ module _ {D : Type 0} (L : Ghosts D) where
 
     -- a transaction begins
     pub did_begin : (none : log.ended ≡ None) (log' : LogState D) (standing' : Standing) (name out : List ℕ) → standing.session ≡ None → Begins name standing.next standing'.session → standing'.next ≡ standing.next + 1 → log' ≡ log
-        → standing'.page ≡ standing.page → standing'.head ≡ standing.head → standing'.commits ≡ standing.commits → standing'.limit ≡ standing.limit → out ≡ name ++ codes " begin\n" → Adds L.tells (In L log' standing') s (commands.Begin name) out
-    did_begin none log' standing' name out closed begins next same page head count limit is =
+        → standing'.page ≡ standing.page → standing'.head ≡ standing.head → standing'.commits ≡ standing.commits → standing'.limit ≡ standing.limit → standing'.history ≡ standing.history ++ Began standing.next standing.next ∷ [] → standing'.last ≡ standing.last
+        → out ≡ name ++ codes " begin\n" → Adds L.tells (In L log' standing') s (commands.Begin name) out
+    did_begin none log' standing' name out closed begins next same page head count limit told last is =
         let z = begins_some name standing.next standing'.session begins in
         let idle : s.active ≡ [] = h.active ∙ ap actives closed in
         let e : Entry = Began standing.next standing.next in
@@ -245,6 +247,8 @@ module _ {D : Type 0} (L : Ghosts D) where
                       calm = calm_as h.here.opening (h.here.history ++ e ∷ []) (rows_of standing.page) (rows_of standing'.page) standing.head standing'.head (Some (begun standing.next standing.next)) (opened_by standing'.session) (standing.next + 1) standing'.next standing.commits standing'.commits r.lsn r.lsn
                           (ap rows_of page) head opened next count refl
                           (calm_begin h.here.opening h.here.history (rows_of standing.page) standing.head standing.next standing.commits r.lsn (subst (λ (o : Option Session). Calm h.here.opening h.here.history (rows_of standing.page) standing.head (opened_by o) standing.next standing.commits r.lsn) closed c.calm));
+                      seen = told ∙ ap (λ (h : List Entry). h ++ e ∷ []) c.seen;
+                      last = last ∙ c.last;
                       place = c.place ∙ ap (λ (x : LogState D). x.next) (sym same);
                       limit = limit ∙ c.limit;
                       first = ap (λ (x : LogState D). lsn_from x.places) same ∙ c.first;
@@ -277,12 +281,12 @@ module _ {D : Type 0} (L : Ghosts D) where
       opened_here = ap opened_by has
 
       -- entries that leave the log and the transaction as they are
-      asked : (none : log.ended ≡ None) (c : Command) (es : List Entry) → log_of es ≡ [] → (s' : Stage) → s'.past ≡ s.past → s'.life ≡ longer s.life es → s'.active ≡ s.active → s'.ended ≡ s.ended → s'.cut ≡ s.cut → s'.armed ≡ s.armed
+      asked : (none : log.ended ≡ None) (c : Command) (es history : List Entry) → history ≡ standing.history ++ es → log_of es ≡ [] → (s' : Stage) → s'.past ≡ s.past → s'.life ≡ longer s.life es → s'.active ≡ s.active → s'.ended ≡ s.ended → s'.cut ≡ s.cut → s'.armed ≡ s.armed
           → ((lsn : ℕ) → standing.limit ≡ limit_of h.here.opening → Calm h.here.opening h.here.history (rows_of standing.page) standing.head (Some o) standing.next standing.commits lsn → Calm h.here.opening (h.here.history ++ es) (rows_of standing.page) standing.head (Some o) standing.next standing.commits lsn)
-          → In L log standing s'
-      asked none c es silent s' past life active ended cut armed calms =
+          → In L log (record standing { history = history }) s'
+      asked none c es history told silent s' past life active ended cut armed calms =
           let r = running none in
-          more none es log standing s' past life (active ∙ h.active) ended cut armed refl refl (record {
+          more none es log (record standing { history = history }) s' past life (active ∙ h.active) ended cut armed refl refl (record {
             count = same_count h.here.opening h.here.history es standing.commits (ap commits silent) r.count;
             lsn = r.lsn;
             calm = λ t.
@@ -291,6 +295,8 @@ module _ {D : Type 0} (L : Ghosts D) where
                   page = c.page;
                   calm = subst (λ (x : Option Opened). Calm h.here.opening (h.here.history ++ es) (rows_of standing.page) standing.head x standing.next standing.commits r.lsn) (sym opened_here)
                       (calms r.lsn c.limit (subst (λ (x : Option Opened). Calm h.here.opening h.here.history (rows_of standing.page) standing.head x standing.next standing.commits r.lsn) opened_here c.calm));
+                  seen = told ∙ ap (λ (x : List Entry). x ++ es) c.seen;
+                  last = c.last;
                   place = c.place;
                   limit = c.limit;
                   first = c.first;
@@ -302,8 +308,8 @@ module _ {D : Type 0} (L : Ghosts D) where
                 };
           })
 
-      pub did_get : (none : log.ended ≡ None) (key out : List ℕ) → out ≡ name ++ codes " get " ++ escaped key ++ shown (page_live standing.page key) ++ codes "\n" → Adds L.tells (In L log standing) s (commands.Ask name (requests.Get key)) out
-      did_get none key out is =
+      pub did_get : (none : log.ended ≡ None) (key out : List ℕ) (history : List Entry) → history ≡ standing.history ++ get_entries o (rows_of standing.page) key → out ≡ name ++ codes " get " ++ escaped key ++ shown (page_live standing.page key) ++ codes "\n" → Adds L.tells (In L log (record standing { history = history })) s (commands.Ask name (requests.Get key)) out
+      did_get none key out history told is =
           let es = get_entries o (rows_of standing.page) key in
           let lock : Entry = Lock z.tx (point key) Shared in
           let c : Command = commands.Ask name (requests.Get key) in
@@ -326,13 +332,13 @@ module _ {D : Type 0} (L : Ghosts D) where
                 ),
               );
             };
-            holds = asked none c es refl (stage_step s t) refl refl refl refl refl refl (λ lsn limit calm. calm_get h.here.opening h.here.history (rows_of standing.page) standing.head o standing.next standing.commits lsn calm key);
+            holds = asked none c es history told refl (stage_step s t) refl refl refl refl refl refl (λ lsn limit calm. calm_get h.here.opening h.here.history (rows_of standing.page) standing.head o standing.next standing.commits lsn calm key);
             lines = is;
           }
 
       -- a put that could not be undone
-      pub did_full : (none : log.ended ≡ None) (key value out : List ℕ) → standing.limit < z.puts + 3 → out ≡ name ++ codes " put " ++ escaped key ++ (codes " full " ++ decimal 1 ++ codes " " ++ decimal z.puts) ++ codes "\n" → Adds L.tells (In L log standing) s (commands.Ask name (requests.Put key value)) out
-      did_full none key value out over is =
+      pub did_full : (none : log.ended ≡ None) (key value out : List ℕ) (history : List Entry) → history ≡ standing.history ++ full_entries o key value → standing.limit < z.puts + 3 → out ≡ name ++ codes " put " ++ escaped key ++ (codes " full " ++ decimal 1 ++ codes " " ++ decimal z.puts) ++ codes "\n" → Adds L.tells (In L log (record standing { history = history })) s (commands.Ask name (requests.Put key value)) out
+      did_full none key value out history told over is =
           let es = full_entries o key value in
           let lock : Entry = Lock z.tx (point key) Exclusive in
           let c : Command = commands.Ask name (requests.Put key value) in
@@ -355,7 +361,7 @@ module _ {D : Type 0} (L : Ghosts D) where
                 ),
               );
             };
-            holds = asked none c es refl (stage_step s t) refl refl refl refl refl refl
+            holds = asked none c es history told refl (stage_step s t) refl refl refl refl refl refl
                 (λ lsn limit calm. calm_declined h.here.opening h.here.history (rows_of standing.page) standing.head o standing.next standing.commits lsn calm key value (omega (arith, over, limit)));
             lines = is;
           }
@@ -391,9 +397,9 @@ module _ {D : Type 0} (L : Ghosts D) where
 
         pub did_put : (log' : LogState D) (standing' : Standing) (page' : Option PageState) (out : List ℕ) → z.puts + 3 ≤ standing.limit → IsTrue (is_key key) → IsTrue (is_value value) → Redone w 1 standing.page page' true → standing'.page ≡ page'
             → HasMore (w ∷ []) log log' → (L.tells → (stable waiting : List Record) → IsLogOf L.told L.may_leave log stable waiting → IsLogOf L.told L.may_leave log' stable (waiting ++ w ∷ []))
-            → standing'.head ≡ log.next → HasPut log.next standing.session standing'.session → standing'.next ≡ standing.next → standing'.commits ≡ standing.commits → standing'.limit ≡ standing.limit → log.next < 2 ^ 62 → standing.next < 2 ^ 62
+            → standing'.head ≡ standing.last + 1 → standing'.last ≡ standing.last + 1 → standing'.history ≡ standing.history ++ told_put (standing.last + 1) w → HasPut log.next standing.session standing'.session → standing'.next ≡ standing.next → standing'.commits ≡ standing.commits → standing'.limit ≡ standing.limit → log.next < 2 ^ 62 → standing.next < 2 ^ 62
             → out ≡ name ++ codes " put " ++ escaped key ++ (codes " was" ++ shown (page_live standing.page key)) ++ codes "\n" → Adds L.tells (In L log' standing') s (commands.Ask name (requests.Put key value)) out
-        did_put log' standing' page' out room k v redone page added adds top put next count limit low low_next is =
+        did_put log' standing' page' out room k v redone page added adds top last told put next count limit low low_next is =
             let r = running none in
             let es = put_entries o standing.head (rows_of standing.page) r.lsn key value in
             let lock : Entry = Lock z.tx (point key) Exclusive in
@@ -430,8 +436,10 @@ module _ {D : Type 0} (L : Ghosts D) where
                     record {
                       page = page_is ∙ ap (λ (x : Option PageState). Some (only_leaf (rows_of x))) (sym page_is);
                       calm = calm_as h.here.opening (h.here.history ++ es) (with_row (rows_of standing.page) key value) (rows_of standing'.page) (r.lsn + 1) standing'.head (Some (with_write o (r.lsn + 1))) (opened_by standing'.session) standing.next standing'.next standing.commits standing'.commits (r.lsn + 1) (r.lsn + 1)
-                          (ap rows_of page_is) (top ∙ place) (z'.2 ∙ ap (λ (n : ℕ). Some (with_write o n)) place) next count refl
+                          (ap rows_of page_is) (top ∙ ap (λ (n : ℕ). n + 1) c.last) (z'.2 ∙ ap (λ (n : ℕ). Some (with_write o n)) place) next count refl
                           (calm_put h.here.opening h.here.history (rows_of standing.page) standing.head o standing.next standing.commits r.lsn (calm_here u) key value k v made.1 (omega (arith, room, c.limit)) (omega (arith, low, place)) (omega (arith, low_next)));
+                      seen = told ∙ (λ i. c.seen i ++ told_put (c.last i + 1) (w_is i));
+                      last = last ∙ ap (λ (n : ℕ). n + 1) c.last;
                       place = omega (arith, c.place) ∙ sym (ap (λ (x : LogState D). x.next) added.is);
                       limit = limit ∙ c.limit;
                       first = ap (λ (x : LogState D). lsn_from x.places) added.is ∙ c.first;
@@ -519,8 +527,8 @@ module _ {D : Type 0} (L : Ghosts D) where
               }
 
           -- a fuse refused a call of it
-          pub failed_commit : (n : ℕ) (out : List ℕ) → new.ended ≡ Some n → n ≡ durable_lsn new.places → s.armed ≡ true → IsFused L new.device s.armed → out ≡ name ++ codes " commit" ++ codes " log failed\n" → Adds L.tells (In L new standing) s (commands.Commit name) out
-          failed_commit n out ended number armed fused is =
+          pub failed_commit : (standing' : Standing) (n : ℕ) (out : List ℕ) → standing'.session ≡ standing.session → new.ended ≡ Some n → n ≡ durable_lsn new.places → s.armed ≡ true → IsFused L new.device s.armed → out ≡ name ++ codes " commit" ++ codes " log failed\n" → Adds L.tells (In L new standing') s (commands.Commit name) out
+          failed_commit standing' n out same ended number armed fused is =
               let t : Turn = turn (commands.Commit name) (e ∷ []) (LogFault n) in
               let here : Option Life = longer s.life (e ∷ []) in
               let life : ◌≡◌ {A = Option Life} here (Some after) = ap (λ (x : Option Life). longer x (e ∷ [])) h.life in
@@ -540,11 +548,11 @@ module _ {D : Type 0} (L : Ghosts D) where
                   past = h.past;
                   here = after;
                   life = life;
-                  active = h.active;
+                  active = h.active ∙ ap actives (sym same);
                   ended = sym ended;
                   goes = h.goes;
                   fused = fused;
-                  lives = subst (LivesOn L new standing after) (sym ended) over_then;
+                  lives = subst (LivesOn L new standing' after) (sym ended) over_then;
                 };
                 lines = is;
               }
@@ -563,9 +571,9 @@ module _ {D : Type 0} (L : Ghosts D) where
         -- it is acknowledged
         pub did_commit : (standing' : Standing) (out : List ℕ) → log.next ≤ durable_lsn new.places → new.ended ≡ None → new.next ≡ mid.next → first_kept new ≡ first_kept mid
             → (L.tells → (stable waiting : List Record) → IsLogOf L.told L.may_leave mid stable waiting → (new ≡ mid) ⊎ IsLogOf L.told L.may_leave new (stable ++ waiting) [])
-            → standing'.session ≡ None → standing'.commits ≡ standing.commits + 1 → standing'.page ≡ standing.page → standing'.head ≡ standing.head → standing'.next ≡ standing.next → standing'.limit ≡ standing.limit → IsFused L new.device s.armed
+            → standing'.session ≡ None → standing'.commits ≡ standing.commits + 1 → standing'.history ≡ (standing.history ++ Rec (standing.last + 1) (committing o) ∷ []) ++ Acked z.tx z.tx ∷ [] → standing'.last ≡ standing.last + 1 → standing'.page ≡ standing.page → standing'.head ≡ standing.head → standing'.next ≡ standing.next → standing'.limit ≡ standing.limit → IsFused L new.device s.armed
             → out ≡ name ++ codes " commit " ++ decimal (standing.commits + 1) ++ codes "\n" → Adds L.tells (In L new standing') s (commands.Commit name) out
-        did_commit standing' out reached live next first flushed closed count page head number limit fused is =
+        did_commit standing' out reached live next first flushed closed count told last page head number limit fused is =
             let es = commit_entries o r.lsn in
             let t : Turn = turn (commands.Commit name) es Done in
             let life : ◌≡◌ {A = Option Life} (longer s.life es) (Some (record { opening = h.here.opening; history = h.here.history ++ es })) = ap (λ (x : Option Life). longer x es) h.life in
@@ -597,6 +605,8 @@ module _ {D : Type 0} (L : Ghosts D) where
                         calm = calm_as h.here.opening (h.here.history ++ es) (rows_of standing.page) (rows_of standing'.page) standing.head standing'.head None (opened_by standing'.session) standing.next standing'.next (standing.commits + 1) standing'.commits (r.lsn + 1) (r.lsn + 1)
                             (ap rows_of page) head (ap opened_by closed) number count refl
                             (calm_commit h.here.opening h.here.history (rows_of standing.page) standing.head o standing.next standing.commits r.lsn (calm_now u) (omega (arith, low, c.place)) (omega (arith, low_next)));
+                        seen = told ∙ append_assoc standing.history (Rec (standing.last + 1) (committing o) ∷ []) (Acked z.tx z.tx ∷ []) ∙ (λ i. c.seen i ++ Rec (c.last i + 1) (committing o) ∷ Acked z.tx z.tx ∷ []);
+                        last = last ∙ ap (λ (n : ℕ). n + 1) c.last;
                         place = ap (λ (n : ℕ). n + 1) c.place ∙ sym (next ∙ ap (λ (x : LogState D). x.next) added.is);
                         limit = limit ∙ c.limit;
                         first = sym (first_kept_is new stands.numbered) ∙ first ∙ first_mid u;
@@ -630,7 +640,7 @@ module _ {D : Type 0} (L : Ghosts D) where
         lsn = runs.lsn;
         calm = λ t.
             let c = runs.calm t in
-            record { page = c.page; calm = c.calm; place = c.place; limit = c.limit; first = c.first; durable = c.durable; waiting = c.waiting; whole = c.whole; uncommitted = c.uncommitted; stands = still t (h.here.opening ++ c.durable) c.waiting c.stands };
+            record { page = c.page; calm = c.calm; seen = c.seen; last = c.last; place = c.place; limit = c.limit; first = c.first; durable = c.durable; waiting = c.waiting; whole = c.whole; uncommitted = c.uncommitted; stands = still t (h.here.opening ++ c.durable) c.waiting c.stands };
       }
       lives_still (Some n) over = λ t. record { right = (over t).right; keeps = keeps_same L (HoldsOne (Left h.here)) log.device new (same t) nomore (over t).keeps }
 

@@ -19,7 +19,7 @@ use Rattle.runner.specs.Leaf.{rows_of}
 use Rattle.runner.specs.LogDisk.{View, Whole, Form, IsWhole, StandsOn, Keeps, HoldsOne, lsn_from}
 use Rattle.runner.specs.Machine.{Out, In, Safe, IsCalm, IsOver, LivesOn}
 use Rattle.runner.specs.Turns.{Life, Stage, Last, Left, IsRightLife, lives_of, last_of}
-use Rattle.runner.specs.declared.standing.Standing.{Standing}
+use Rattle.runner.specs.Standing.{Standing}
 use Rattle.runner.proofs.Lists.{first_is}
 
 -- ---- views

@@ -32,7 +32,7 @@ use Rattle.runner.specs.Machine.{IsCalm}
 use Rattle.runner.specs.Openings.{IsMade, IsFirst, IsNotMade, IsNotBegun, IsBegun, IsFault, MadeStatus, ReadStatus, ReplayStatus}
 use Rattle.runner.specs.Refusals.{FindsLog, FindsUnbuilt}
 use Rattle.runner.specs.Turns.{Last, Left, Formatted, Unformatted, MayFind}
-use Rattle.runner.specs.declared.standing.Standing.{Standing}
+use Rattle.runner.specs.Standing.{Standing}
 use Rattle.runner.specs.declared.status.Status.{Status}
 use Rattle.runner.specs.declared.status.Status.TheVariants as statuses
 use Rattle.runner.proofs.Lists.{first_is, first_kept_is, next_is, next_of}

@@ -22,7 +22,7 @@ use Rattle.runner.specs.declared.at.At.TheVariants as places
 use Rattle.runner.specs.declared.at.Stepped.{Stepped}
 use Rattle.runner.specs.declared.at.Stepped.TheVariants as steps
 use Rattle.runner.specs.declared.session.Session.{Session}
-use Rattle.runner.specs.declared.standing.Standing.{Standing}
+use Rattle.runner.specs.Standing.{Standing}
 use Rattle.runner.specs.declared.status.Status.{Status}
 use Rattle.runner.specs.declared.status.Status.TheVariants as statuses
 use Rattle.runner.specs.Causes.{LifeCause, LogCause, SteppedCause, Shows, disk_at}

@@ -17,10 +17,10 @@ use Rattle.runner.specs.Text.{text}
 use Rattle.runner.specs.declared.status.Status.{Status}
 use Rattle.runner.specs.declared.status.Status.TheVariants as statuses
 use Rattle.runner.specs.declared.at.At.{At}
-use Rattle.runner.specs.declared.run.Turned.{Turned}
-use Rattle.runner.specs.declared.run.Turned.TheVariants as results
-use Rattle.runner.specs.declared.run.Lived.{Lived}
-use Rattle.runner.specs.declared.run.Lived.TheVariants as ways
+use Rattle.runner.specs.declared.turns.Turned.{Turned}
+use Rattle.runner.specs.declared.turns.Turned.TheVariants as results
+use Rattle.runner.specs.declared.living.Lived.{Lived}
+use Rattle.runner.specs.declared.living.Lived.TheVariants as ways
 use Rattle.runner.specs.LogDisk.{Leaves}
 use Rattle.runner.specs.Machine.{Out, IsAt}
 

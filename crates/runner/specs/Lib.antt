@@ -7,10 +7,9 @@ pub mod Lines
 pub mod LogDisk
 pub mod Machine
 pub mod Openings
-pub mod Printing
 pub mod Refusals
-pub mod Rules
 pub mod Session
+pub mod Standing
 pub mod Status
 pub mod Text
 pub mod Turns

@@ -1,8 +1,10 @@
 -- What the state of a run says of the turns so far, and what a command adds.
-use Rattle.std.specs.Prelude.{◌≡◌, ◌+◌, ◌<◌, ◌≤◌, ℕ, List, [], ◌∷◌, ◌++◌, Option, Some, None, Bool, false}
+use Rattle.std.specs.Prelude.{◌≡◌, ◌+◌, ◌<◌, ◌≤◌, ℕ, List, [], ◌∷◌, ◌++◌, length, Option, Some, None, Bool, false}
 use Rattle.std.specs.List.{All, list_any}
 use Rattle.media.specs.declared.disk.Disk.{Ghosts}
 use Rattle.log_blocks.specs.LogState.{LogState}
+use Rattle.held_leaf.specs.Leaf.{Leaf}
+use Rattle.log_manager.specs.Managed.{Managed}
 use Rattle.log_manager.specs.Records.{IsLogOf}
 use Rattle.wal_record.specs.Checkpoints.{limit_of, commits}
 use Rattle.wal_record.specs.History.{log_of, life_log}
@@ -17,7 +19,8 @@ use Rattle.runner.specs.declared.at.At.TheVariants.{Outside, Inside}
 use Rattle.runner.specs.declared.at.Stepped.{Stepped}
 use Rattle.runner.specs.declared.at.Stepped.TheVariants as steps
 use Rattle.runner.specs.declared.session.Session.{Session}
-use Rattle.runner.specs.declared.standing.Standing.{Standing}
+use Rattle.runner.specs.Standing.{Standing, Beginning, standing_with}
+use Rattle.runner.specs.declared.transactions.Transactions.{Transactions}
 use Rattle.runner.specs.declared.status.Status.{Status}
 use Rattle.runner.specs.declared.status.Status.TheVariants as statuses
 use Rattle.runner.specs.Active.{opened_by}
@@ -46,11 +49,13 @@ pub record Out {D : Type 0} (L : Ghosts D) (disk : D) (s : Stage) : Type 0 where
   pub fused : IsFused L disk s.armed
   pub keeps : L.tells → Keeps L (HoldsOne s.last) disk
 
--- A life that goes on, where the disk tells: it is calm, the first of its records are on the disk and the others wait,
--- and a commit doesn't wait.
+-- A life that goes on, where the disk tells: it is calm, the page's pass has seen its whole history, the first of its
+-- records are on the disk and the others wait, and a commit doesn't wait.
 pub record IsCalm {D : Type 0} (L : Ghosts D) (log : LogState D) (standing : Standing) (l : Life) (lsn : ℕ) : Type 0 where
   pub page : standing.page ≡ Some (only_leaf (rows_of standing.page))
   pub calm : Calm l.opening l.history (rows_of standing.page) standing.head (opened_by standing.session) standing.next standing.commits lsn
+  pub seen : standing.history ≡ l.history
+  pub last : standing.last ≡ lsn
   pub place : lsn + 1 ≡ log.next
   pub limit : standing.limit ≡ limit_of l.opening
   pub first : lsn_from log.places ≡ 1
@@ -59,6 +64,11 @@ pub record IsCalm {D : Type 0} (L : Ghosts D) (log : LogState D) (standing : Sta
   pub whole : log_of l.history ≡ durable ++ waiting
   pub uncommitted : list_any is_commit waiting ≡ false
   pub stands : IsLogOf L.told L.may_leave log (l.opening ++ durable) waiting
+
+-- A life may begin with this log, where the disk tells: the disk stands for it, and so it is calm with what was found.
+pub record BeginsOn {D : Type 0} (L : Ghosts D) (b : Beginning D) (opening : List Record) : Type 0 where
+  pub tells : L.tells
+  pub calm : IsCalm L b.log.log b.standing (record { opening = opening; history = [] }) (length opening)
 
 pub record Runs {D : Type 0} (L : Ghosts D) (log : LogState D) (standing : Standing) (l : Life) : Type 0 where
   pub count : commits (life_log l.opening l.history) ≡ standing.commits
@@ -84,6 +94,10 @@ pub record In {D : Type 0} (L : Ghosts D) (log : LogState D) (standing : Standin
   pub goes : s.cut ≡ false
   pub fused : IsFused L log.device s.armed
   pub lives : LivesOn L log standing here log.ended
+
+-- within a life that has this leaf in hand
+abbrev pub Within : {D : Type 0} → Ghosts D → Managed D → Leaf → Transactions → Stage → Type 0
+Within L log leaf t s = In L log.log (standing_with leaf t) s
 
 -- what holds at any place: each life is right, and the disk keeps a log that may be found
 pub record Safe {D : Type 0} (L : Ghosts D) (disk : D) (s : Stage) : Type 0 where

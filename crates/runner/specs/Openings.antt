@@ -11,7 +11,7 @@ use Rattle.store_model.specs.declared.fault.Fault.TheVariants as faults
 use Rattle.life_laws.specs.Calm.{first_log}
 use Rattle.wal_record.specs.declared.record.Record.{Record}
 use Rattle.runner.specs.declared.session.Session.{Session}
-use Rattle.runner.specs.declared.standing.Standing.{Standing}
+use Rattle.runner.specs.Standing.{Standing}
 use Rattle.runner.specs.declared.status.Status.{Status}
 use Rattle.runner.specs.declared.status.Status.TheVariants as statuses
 use Rattle.runner.specs.LogDisk.{Keeps, HoldsOne}

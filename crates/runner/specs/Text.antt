@@ -14,7 +14,7 @@ use Rattle.wal_record.specs.declared.entry.Entry.{Entry}
 use Rattle.wal_record.specs.declared.entry.Entry.TheVariants.{Said, Declined}
 use Rattle.script.specs.declared.command.Command.{Command}
 use Rattle.script.specs.declared.command.Command.TheVariants as commands
-use Rattle.runner.specs.Printing.{escaped, shown}
+use Rattle.transcript.specs.Printing.{escaped, shown}
 use Rattle.runner.specs.Turns.{Turn, End, Done, LogFault, Ended, Cut, Stage, stage, longer, log_of_life}
 
 abbrev pub reply_text : Reply → List ℕ

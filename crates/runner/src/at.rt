@@ -1,15 +1,17 @@
 //! Where a run is, and one step of it.
-ghost use Rattle.std.specs.Prelude.{◌≡◌, ◌≤◌};
+ghost use Rattle.std.specs.Prelude.{◌≡◌};
 ghost use Rattle.runner.specs.Causes.{SteppedCause, disk_at};
 ghost use Rattle.runner.specs.LogDisk.{View, seen};
 ghost use Rattle.runner.specs.Turns.{Stage};
-ghost use Rattle.runner.specs.Machine.{In, IsAt, Steps};
+ghost use Rattle.runner.specs.Machine.{Within, Steps};
 
-use crate::life::Life;
-use crate::outside;
+use crate::life::OpenLife;
+use crate::opened::Opened;
 use crate::status::Status;
+use crate::stop::stop;
 use media::Disk;
 use operators::Operators;
+use page_ops::Life;
 use script::Command;
 use std::alloc::Global;
 
@@ -27,37 +29,29 @@ pub enum Stepped<L, F> {
     Ends { status: Status, disk: L },
 }
 
-/// Carries a command out.
-pub fn step<L: Disk>(
-    alloc: Global,
-    operators: &Operators,
-    at: At<L, Life<L>>,
-    command: &Command,
-    line: u64,
-) -> Stepped<L, Life<L>>
-    ensures turns { (v : View L.tells) (s : Stage) → IsAt (seen L.Disk v) (λ life. In (seen L.Disk v) life.log.log life.standing) at s → Steps (seen L.Disk v) (λ life. In (seen L.Disk v) life.log.log life.standing) s command.now line result }
-    ensures cause { SteppedCause L.Disk (λ life. life.log.log.device) (disk_at (λ life. life.log.log.device) at) result }
-{
-    match at {
-        At::Outside { disk } => outside::step(alloc, operators, disk, command, line),
-        At::Inside { life } => step_inside(alloc, operators, life, command, line),
-    }
-}
-
 /// Carries a command out in a life, which a `stop` ends.
-fn step_inside<L: Disk>(
+pub fn step_inside<'a, N: Life, L: Disk>(
     alloc: Global,
     operators: &Operators,
-    life: Life<L>,
+    life: OpenLife<'a, N, L>,
     command: &Command,
     line: u64,
-) -> Stepped<L, Life<L>>
-    ensures turns { (v : View L.tells) (s : Stage) → In (seen L.Disk v) life.log.log life.standing s → Steps (seen L.Disk v) (λ life. In (seen L.Disk v) life.log.log life.standing) s command.now line result }
-    ensures cause { SteppedCause L.Disk (λ life. life.log.log.device) life.log.log.device result }
+) -> Stepped<L, OpenLife<'a, N, L>>
+    ensures turns { (v : View L.tells) (s : Stage) → Within (seen L.Disk v) life.entry.log life.entry.leaf life.entry.transactions s → Steps (seen L.Disk v) (λ life. Within (seen L.Disk v) life.log life.leaf life.transactions) s command.now line result }
+    ensures cause { SteppedCause L.Disk (λ life. life.log.log.device) life.entry.log.log.device result }
 {
     let mut life = life;
     match command {
-        Command::Stop { keep } => outside::stop(alloc, life.log.into_device(), *keep, line),
+        Command::Stop { keep } => match stop(alloc, life.log.into_device(), *keep) {
+            Ok((lines, disk)) => Stepped::Goes {
+                lines,
+                at: At::Outside { disk },
+            },
+            Err(disk) => Stepped::Ends {
+                status: Status::Memory,
+                disk,
+            },
+        },
         _ => match life.step(alloc, operators, command, line) {
             Ok(lines) => Stepped::Goes {
                 lines,
@@ -71,9 +65,19 @@ fn step_inside<L: Disk>(
     }
 }
 
-/// The log disk of a place, where the run ends.
-pub fn disk_of<L: Disk>(at: At<L, Life<L>>) -> L
+/// The log disk where a life may begin, where the run ends.
+pub fn disk_opened<L: Disk>(at: At<L, Opened<L>>) -> L
     ensures { result ≡ disk_at (λ life. life.log.log.device) at }
+{
+    match at {
+        At::Outside { disk } => disk,
+        At::Inside { life } => life.into_device(),
+    }
+}
+
+/// The log disk of a life, where the run ends.
+pub fn disk_inside<'a, N: Life, L: Disk>(at: At<L, OpenLife<'a, N, L>>) -> L
+    ensures { result ≡ disk_at (λ life. life.log.log.device) at.entry }
 {
     match at {
         At::Outside { disk } => disk,

@@ -1,22 +1,28 @@
 //! A life: what happens from an opening to its end.
-ghost use Rattle.std.specs.Prelude.{◌≡◌, ◌≢◌, ◌≤◌, ◌<◌, ◌+◌, ◌++◌, ◌^◌, ℕ, List, true, None, Some, IfErr, IfOk, codes};
+ghost use Rattle.std.specs.Prelude.{◌≡◌, ◌≢◌, ◌≤◌, ◌<◌, ◌+◌, ◌++◌, ◌^◌, ℕ, List, [], true, None, Some, IfErr, IfOk, codes};
 ghost use Rattle.std.specs.Fmt.{decimal};
 ghost use Rattle.runner.specs.Causes.{LifeCause};
+ghost use Rattle.wal_record.specs.declared.record.Record.{Record};
 ghost use Rattle.runner.specs.Active.{is_active, puts_of, HasCommitRoom};
+ghost use Rattle.runner.specs.Standing.{standing_with, HasNumbers};
 ghost use Rattle.runner.specs.Turns.{Stage, IsNoStop};
 ghost use Rattle.runner.specs.Refusals.{RefusesAt};
 ghost use Rattle.runner.specs.LogDisk.{View, IsWhole, seen};
-ghost use Rattle.runner.specs.Machine.{In, Adds};
+ghost use Rattle.runner.specs.Machine.{Within, BeginsOn, Adds};
 ghost use Rattle.script.specs.declared.command.Command.TheVariants as commands;
 ghost use Rattle.store_model.specs.declared.request.Request.TheVariants as requests;
 ghost use Rattle.runner.specs.declared.status.Status.{Status};
 
-use crate::print;
-use crate::standing::Standing;
+use crate::opened::Opened;
+use crate::row::page_live;
 use crate::status::Status;
+use crate::transactions::Transactions;
+use books::Books;
+use held_leaf::HeldLeaf;
 use log_manager::LogManager;
 use media::Disk;
 use operators::Operators;
+use page_ops::{Ground, Life, Tokens};
 use script::{Command, Device, Name};
 use std::alloc::Global;
 use std::slice;
@@ -27,14 +33,61 @@ const LIMIT: u64 = 1 << 62;
 
 /// An open life. It goes on when its log has ended: then it answers so.
 #[derive(Drop)]
-pub struct Life<L: Disk> {
+pub struct OpenLife<'a, N: Life, L: Disk> {
     pub log: LogManager<L>,
-    pub standing: Standing,
+    pub leaf: HeldLeaf<'a, N>,
+    pub transactions: Transactions,
 
-    ghost room: { HasCommitRoom standing.session log.log.ended log.spare },
+    ghost room: { HasCommitRoom transactions.session log.log.ended log.spare },
 }
 
-impl<L: Disk> Life<L> {
+impl<'a, N: Life, L: Disk> OpenLife<'a, N, L> {
+    /// A life that begins, with the tokens of its name.
+    pub fn new(ground: &'a Ground<N>, tokens: Tokens<N>, opened: Opened<L>) -> OpenLife<'a, N, L>
+        requires history { (tokens.front ≡ []) × (tokens.pass.log ≡ []) × (tokens.books.pages ≡ []) }
+        requires opens { (opening : List Record) → N.opens opening → BeginsOn L.Disk opened opening }
+        ensures log { result.log ≡ opened.log }
+        ensures standing { standing_with result.leaf result.transactions ≡ opened.standing }
+    {
+        let (log, found) = opened.into_parts();
+        let Tokens {
+            front,
+            pass,
+            books,
+            entries: _,
+            session_entries: _,
+            log_faults: _,
+            vault_faults: _,
+            data_faults: _,
+        } = tokens;
+        let Books {
+            pages,
+            sessions: _,
+            maint: _,
+        } = books;
+        let leaf = HeldLeaf::new(ground, front, pass, pages, found.page, found.head, log.last());
+        OpenLife {
+            log,
+            leaf,
+            transactions: Transactions {
+                session: None,
+                next: found.next,
+                commits: found.commits,
+                limit: found.limit,
+            },
+        }
+    }
+
+    /// Whether there are numbers for one command more.
+    fn has_numbers(&self) -> bool
+        ensures { result ≡ true → HasNumbers self.now.leaf self.now.log.log.next }
+    {
+        self.log.last() < LIMIT - 1
+            && self.leaf.last() < LIMIT
+            && self.leaf.head() < LIMIT
+            && self.leaf.entries() < LIMIT - 4
+    }
+
     /// Carries a command out, and gives the lines that answer it.
     pub fn step(
         &mut self,
@@ -44,8 +97,8 @@ impl<L: Disk> Life<L> {
         line: u64,
     ) -> Result<Vec<u8>, Status>
         requires { IsNoStop command.now }
-        ensures ok { IfOk result (λ lines. (v : View L.tells) (s : Stage) → In (seen L.Disk v) self.old.log.log self.old.standing s → Adds (IsWhole v) (In (seen L.Disk v) self.new.log.log self.new.standing) s command.now lines.items) }
-        ensures err { IfErr result (λ status. (v : View L.tells) (s : Stage) → In (seen L.Disk v) self.old.log.log self.old.standing s → RefusesAt (seen L.Disk v) self.new.log.log.device s command.now line status) }
+        ensures ok { IfOk result (λ lines. (v : View L.tells) (s : Stage) → Within (seen L.Disk v) self.old.log self.old.leaf self.old.transactions s → Adds (IsWhole v) (Within (seen L.Disk v) self.new.log self.new.leaf self.new.transactions) s command.now lines.items) }
+        ensures err { IfErr result (λ status. (v : View L.tells) (s : Stage) → Within (seen L.Disk v) self.old.log self.old.leaf self.old.transactions s → RefusesAt (seen L.Disk v) self.new.log.log.device s command.now line status) }
         ensures cause { IfErr result (LifeCause (L.own self.old.log.log.device) (L.own self.new.log.log.device)) }
         ensures later { L.own self.old.log.log.device ≤ L.own self.new.log.log.device }
     {
@@ -61,28 +114,28 @@ impl<L: Disk> Life<L> {
     }
 
     fn begin(&mut self, alloc: Global, name: &Name, line: u64) -> Result<Vec<u8>, Status>
-        ensures ok { IfOk result (λ lines. (v : View L.tells) (s : Stage) → In (seen L.Disk v) self.old.log.log self.old.standing s → Adds (IsWhole v) (In (seen L.Disk v) self.new.log.log self.new.standing) s (commands.Begin name.now) lines.items) }
-        ensures err { IfErr result (λ status. (v : View L.tells) (s : Stage) → In (seen L.Disk v) self.old.log.log self.old.standing s → RefusesAt (seen L.Disk v) self.new.log.log.device s (commands.Begin name.now) line status) }
+        ensures ok { IfOk result (λ lines. (v : View L.tells) (s : Stage) → Within (seen L.Disk v) self.old.log self.old.leaf self.old.transactions s → Adds (IsWhole v) (Within (seen L.Disk v) self.new.log self.new.leaf self.new.transactions) s (commands.Begin name.now) lines.items) }
+        ensures err { IfErr result (λ status. (v : View L.tells) (s : Stage) → Within (seen L.Disk v) self.old.log self.old.leaf self.old.transactions s → RefusesAt (seen L.Disk v) self.new.log.log.device s (commands.Begin name.now) line status) }
         ensures cause { IfErr result (LifeCause (L.own self.old.log.log.device) (L.own self.new.log.log.device)) }
         ensures later { L.own self.old.log.log.device ≤ L.own self.new.log.log.device }
     {
-        if self.standing.is_active(name) {
+        if self.transactions.is_active(name) {
             return Err(Status::Script { line });
         }
-        if self.standing.session.is_some() {
+        if self.transactions.session.is_some() {
             return Err(Status::NotBuilt { line });
         }
         match self.log.ended() {
-            Some(at) => return match print::begin_ended(alloc, name, at) {
+            Some(at) => return match transcript::begin_ended(alloc, name, at) {
                 Ok(out) => Ok(out),
                 Err(_) => Err(Status::Memory),
             },
             None => {}
         }
-        if self.standing.next >= LIMIT - 1 {
+        if self.transactions.next >= LIMIT - 1 || !self.has_numbers() {
             return Err(Status::Memory);
         }
-        let out = match print::begin_line(alloc, name) {
+        let out = match transcript::begin_line(alloc, name) {
             Ok(out) => out,
             Err(_) => return Err(Status::Memory),
         };
@@ -90,7 +143,8 @@ impl<L: Disk> Life<L> {
             Ok(()) => {}
             Err(_) => return Err(Status::Memory),
         }
-        self.standing.begin(name.copied());
+        self.leaf.begin(self.transactions.next);
+        self.transactions.begin(name.copied());
         Ok(out)
     }
 
@@ -102,12 +156,12 @@ impl<L: Disk> Life<L> {
         request: &Request,
         line: u64,
     ) -> Result<Vec<u8>, Status>
-        ensures ok { IfOk result (λ lines. (v : View L.tells) (s : Stage) → In (seen L.Disk v) self.old.log.log self.old.standing s → Adds (IsWhole v) (In (seen L.Disk v) self.new.log.log self.new.standing) s (commands.Ask name.now request.now) lines.items) }
-        ensures err { IfErr result (λ status. (v : View L.tells) (s : Stage) → In (seen L.Disk v) self.old.log.log self.old.standing s → RefusesAt (seen L.Disk v) self.new.log.log.device s (commands.Ask name.now request.now) line status) }
+        ensures ok { IfOk result (λ lines. (v : View L.tells) (s : Stage) → Within (seen L.Disk v) self.old.log self.old.leaf self.old.transactions s → Adds (IsWhole v) (Within (seen L.Disk v) self.new.log self.new.leaf self.new.transactions) s (commands.Ask name.now request.now) lines.items) }
+        ensures err { IfErr result (λ status. (v : View L.tells) (s : Stage) → Within (seen L.Disk v) self.old.log self.old.leaf self.old.transactions s → RefusesAt (seen L.Disk v) self.new.log.log.device s (commands.Ask name.now request.now) line status) }
         ensures cause { IfErr result (LifeCause (L.own self.old.log.log.device) (L.own self.new.log.log.device)) }
         ensures later { L.own self.old.log.log.device ≤ L.own self.new.log.log.device }
     {
-        if !self.standing.is_active(name) {
+        if !self.transactions.is_active(name) {
             return Err(Status::Script { line });
         }
         match request {
@@ -117,23 +171,30 @@ impl<L: Disk> Life<L> {
         }
     }
 
-    fn get(&self, alloc: Global, name: &Name, key: &Key) -> Result<Vec<u8>, Status>
-        requires { is_active self.now.standing.session name.now ≡ true }
-        ensures ok { IfOk result (λ lines. (v : View L.tells) (s : Stage) → In (seen L.Disk v) self.now.log.log self.now.standing s → Adds (IsWhole v) (In (seen L.Disk v) self.now.log.log self.now.standing) s (commands.Ask name.now (requests.Get key.now)) lines.items) }
+    fn get(&mut self, alloc: Global, name: &Name, key: &Key) -> Result<Vec<u8>, Status>
+        requires { is_active self.old.transactions.session name.now ≡ true }
+        ensures ok { IfOk result (λ lines. (v : View L.tells) (s : Stage) → Within (seen L.Disk v) self.old.log self.old.leaf self.old.transactions s → Adds (IsWhole v) (Within (seen L.Disk v) self.new.log self.new.leaf self.new.transactions) s (commands.Ask name.now (requests.Get key.now)) lines.items) }
         ensures memory { IfErr result (λ status. status ≡ Status.Memory) }
+        ensures same { self.new.log ≡ self.old.log }
     {
         match self.log.ended() {
-            Some(at) => return match print::get_ended(alloc, name, key, at) {
+            Some(at) => return match transcript::get_ended(alloc, name, key, at) {
                 Ok(out) => Ok(out),
                 Err(_) => Err(Status::Memory),
             },
             None => {}
         }
-        let found = self.standing.live(key);
-        match print::get_line(alloc, name, key, &found) {
-            Ok(out) => Ok(out),
-            Err(_) => Err(Status::Memory),
+        if !self.has_numbers() {
+            return Err(Status::Memory);
         }
+        let found = page_live(self.leaf.state(), key);
+        let out = match transcript::get_line(alloc, name, key, &found) {
+            Ok(out) => out,
+            Err(_) => return Err(Status::Memory),
+        };
+        let (tx, _) = self.transactions.open();
+        self.leaf.get(tx, key, &found);
+        Ok(out)
     }
 
     fn put(
@@ -145,26 +206,52 @@ impl<L: Disk> Life<L> {
         value: &Value,
         line: u64,
     ) -> Result<Vec<u8>, Status>
-        requires { is_active self.old.standing.session name.now ≡ true }
-        ensures ok { IfOk result (λ lines. (v : View L.tells) (s : Stage) → In (seen L.Disk v) self.old.log.log self.old.standing s → Adds (IsWhole v) (In (seen L.Disk v) self.new.log.log self.new.standing) s (commands.Ask name.now (requests.Put key.now value.now)) lines.items) }
-        ensures err { IfErr result (λ status. (v : View L.tells) (s : Stage) → In (seen L.Disk v) self.old.log.log self.old.standing s → RefusesAt (seen L.Disk v) self.new.log.log.device s (commands.Ask name.now (requests.Put key.now value.now)) line status) }
+        requires { is_active self.old.transactions.session name.now ≡ true }
+        ensures ok { IfOk result (λ lines. (v : View L.tells) (s : Stage) → Within (seen L.Disk v) self.old.log self.old.leaf self.old.transactions s → Adds (IsWhole v) (Within (seen L.Disk v) self.new.log self.new.leaf self.new.transactions) s (commands.Ask name.now (requests.Put key.now value.now)) lines.items) }
+        ensures err { IfErr result (λ status. (v : View L.tells) (s : Stage) → Within (seen L.Disk v) self.old.log self.old.leaf self.old.transactions s → RefusesAt (seen L.Disk v) self.new.log.log.device s (commands.Ask name.now (requests.Put key.now value.now)) line status) }
         ensures cause { IfErr result (LifeCause (L.own self.old.log.log.device) (L.own self.new.log.log.device)) }
         ensures later { L.own self.old.log.log.device ≤ L.own self.new.log.log.device }
     {
         match self.log.ended() {
-            Some(at) => return match print::put_ended(alloc, name, key, at) {
+            Some(at) => return match transcript::put_ended(alloc, name, key, at) {
                 Ok(out) => Ok(out),
                 Err(_) => Err(Status::Memory),
             },
             None => {}
         }
-        if self.standing.is_full() {
-            return match print::put_full(alloc, name, key, 1, self.standing.puts()) {
-                Ok(out) => Ok(out),
-                Err(_) => Err(Status::Memory),
-            };
+        if !self.has_numbers() {
+            return Err(Status::Memory);
+        }
+        if self.transactions.is_full() {
+            return self.put_full(alloc, name, key, value);
         }
         self.put_row(alloc, operators, name, key, value, line)
+    }
+
+    /// A put in a log that goes on, where there is no room to undo it.
+    fn put_full(
+        &mut self,
+        alloc: Global,
+        name: &Name,
+        key: &Key,
+        value: &Value,
+    ) -> Result<Vec<u8>, Status>
+        requires active { is_active self.old.transactions.session name.now ≡ true }
+        requires goes { self.old.log.log.ended ≡ None }
+        requires numbers { HasNumbers self.old.leaf self.old.log.log.next }
+        requires full { self.old.transactions.limit < puts_of self.old.transactions.session + 3 }
+        ensures ok { IfOk result (λ lines. (v : View L.tells) (s : Stage) → Within (seen L.Disk v) self.old.log self.old.leaf self.old.transactions s → Adds (IsWhole v) (Within (seen L.Disk v) self.new.log self.new.leaf self.new.transactions) s (commands.Ask name.now (requests.Put key.now value.now)) lines.items) }
+        ensures memory { IfErr result (λ status. status ≡ Status.Memory) }
+        ensures same { self.new.log ≡ self.old.log }
+    {
+        let puts = self.transactions.puts();
+        let out = match transcript::put_full(alloc, name, key, 1, puts) {
+            Ok(out) => out,
+            Err(_) => return Err(Status::Memory),
+        };
+        let (tx, _) = self.transactions.open();
+        self.leaf.full(tx, key, value, puts);
+        Ok(out)
     }
 
     /// A put in a log that goes on, where there is room to undo it.
@@ -177,24 +264,22 @@ impl<L: Disk> Life<L> {
         value: &Value,
         line: u64,
     ) -> Result<Vec<u8>, Status>
-        requires active { is_active self.old.standing.session name.now ≡ true }
+        requires active { is_active self.old.transactions.session name.now ≡ true }
         requires goes { self.old.log.log.ended ≡ None }
-        requires room { puts_of self.old.standing.session + 3 ≤ self.old.standing.limit }
-        ensures ok { IfOk result (λ lines. (v : View L.tells) (s : Stage) → In (seen L.Disk v) self.old.log.log self.old.standing s → Adds (IsWhole v) (In (seen L.Disk v) self.new.log.log self.new.standing) s (commands.Ask name.now (requests.Put key.now value.now)) lines.items) }
-        ensures err { IfErr result (λ status. (v : View L.tells) (s : Stage) → In (seen L.Disk v) self.old.log.log self.old.standing s → RefusesAt (seen L.Disk v) self.new.log.log.device s (commands.Ask name.now (requests.Put key.now value.now)) line status) }
+        requires numbers { HasNumbers self.old.leaf self.old.log.log.next }
+        requires room { puts_of self.old.transactions.session + 3 ≤ self.old.transactions.limit }
+        ensures ok { IfOk result (λ lines. (v : View L.tells) (s : Stage) → Within (seen L.Disk v) self.old.log self.old.leaf self.old.transactions s → Adds (IsWhole v) (Within (seen L.Disk v) self.new.log self.new.leaf self.new.transactions) s (commands.Ask name.now (requests.Put key.now value.now)) lines.items) }
+        ensures err { IfErr result (λ status. (v : View L.tells) (s : Stage) → Within (seen L.Disk v) self.old.log self.old.leaf self.old.transactions s → RefusesAt (seen L.Disk v) self.new.log.log.device s (commands.Ask name.now (requests.Put key.now value.now)) line status) }
         ensures cause { IfErr result (LifeCause (L.own self.old.log.log.device) (L.own self.new.log.log.device)) }
         ensures later { L.own self.old.log.log.device ≤ L.own self.new.log.log.device }
     {
-        if self.log.last() >= LIMIT - 1 {
-            return Err(Status::Memory);
-        }
-        let old = self.standing.live(key);
-        let out = match print::put_line(alloc, name, key, &old) {
+        let old = page_live(self.leaf.state(), key);
+        let out = match transcript::put_line(alloc, name, key, &old) {
             Ok(out) => out,
             Err(_) => return Err(Status::Memory),
         };
-        let write = self.standing.write(key, &old, value);
-        let fits = match self.standing.redo(alloc, operators, &write) {
+        let write = self.transactions.write(self.leaf.head(), key, &old, value);
+        let fits = match self.leaf.put(alloc, operators, &write) {
             Ok(fits) => fits,
             Err(_) => return Err(Status::Memory),
         };
@@ -203,7 +288,7 @@ impl<L: Disk> Life<L> {
         }
         match self.log.append_group(alloc, slice::from_ref(&write)) {
             Ok(lsn) => {
-                self.standing.wrote(lsn);
+                self.transactions.wrote(lsn);
                 Ok(out)
             }
             Err(_) => Err(Status::Memory),
@@ -211,30 +296,30 @@ impl<L: Disk> Life<L> {
     }
 
     fn commit(&mut self, alloc: Global, name: &Name, line: u64) -> Result<Vec<u8>, Status>
-        ensures ok { IfOk result (λ lines. (v : View L.tells) (s : Stage) → In (seen L.Disk v) self.old.log.log self.old.standing s → Adds (IsWhole v) (In (seen L.Disk v) self.new.log.log self.new.standing) s (commands.Commit name.now) lines.items) }
-        ensures err { IfErr result (λ status. (v : View L.tells) (s : Stage) → In (seen L.Disk v) self.old.log.log self.old.standing s → RefusesAt (seen L.Disk v) self.new.log.log.device s (commands.Commit name.now) line status) }
+        ensures ok { IfOk result (λ lines. (v : View L.tells) (s : Stage) → Within (seen L.Disk v) self.old.log self.old.leaf self.old.transactions s → Adds (IsWhole v) (Within (seen L.Disk v) self.new.log self.new.leaf self.new.transactions) s (commands.Commit name.now) lines.items) }
+        ensures err { IfErr result (λ status. (v : View L.tells) (s : Stage) → Within (seen L.Disk v) self.old.log self.old.leaf self.old.transactions s → RefusesAt (seen L.Disk v) self.new.log.log.device s (commands.Commit name.now) line status) }
         ensures cause { IfErr result (LifeCause (L.own self.old.log.log.device) (L.own self.new.log.log.device)) }
         ensures later { L.own self.old.log.log.device ≤ L.own self.new.log.log.device }
     {
-        if !self.standing.is_active(name) {
+        if !self.transactions.is_active(name) {
             return Err(Status::Script { line });
         }
         match self.log.ended() {
-            Some(at) => return match print::commit_ended(alloc, name, at) {
+            Some(at) => return match transcript::commit_ended(alloc, name, at) {
                 Ok(out) => Ok(out),
                 Err(_) => Err(Status::Memory),
             },
             None => {}
         }
         let refused = self.log.refused();
-        if self.standing.commits >= LIMIT || self.log.last() >= LIMIT - 1 || refused >= LIMIT {
+        if self.transactions.commits >= LIMIT || !self.has_numbers() || refused >= LIMIT {
             return Err(Status::Memory);
         }
-        let out = match print::commit_line(alloc, name, self.standing.commits + 1) {
+        let out = match transcript::commit_line(alloc, name, self.transactions.commits + 1) {
             Ok(out) => out,
             Err(_) => return Err(Status::Memory),
         };
-        let failed = match print::commit_failed(alloc, name) {
+        let failed = match transcript::commit_failed(alloc, name) {
             Ok(failed) => failed,
             Err(_) => return Err(Status::Memory),
         };
@@ -250,23 +335,26 @@ impl<L: Disk> Life<L> {
         failed: Vec<u8>,
         refused: u64,
     ) -> Result<Vec<u8>, Status>
-        requires active { is_active self.old.standing.session name.now ≡ true }
+        requires active { is_active self.old.transactions.session name.now ≡ true }
         requires goes { self.old.log.log.ended ≡ None }
-        requires numbers { (self.old.standing.commits < 2 ^ 62) × (self.old.log.log.next < 2 ^ 62) }
+        requires numbers { HasNumbers self.old.leaf self.old.log.log.next }
+        requires count { self.old.transactions.commits < 2 ^ 62 }
         requires before { (L.refused self.old.log.log.device ≡ refused) × (refused < 2 ^ 62) }
-        requires done { done.items ≡ name.now ++ codes " commit " ++ decimal (self.old.standing.commits + 1) ++ codes "\n" }
+        requires done { done.items ≡ name.now ++ codes " commit " ++ decimal (self.old.transactions.commits + 1) ++ codes "\n" }
         requires failed { failed.items ≡ name.now ++ codes " commit" ++ codes " log failed\n" }
-        ensures ok { IfOk result (λ lines. (v : View L.tells) (s : Stage) → In (seen L.Disk v) self.old.log.log self.old.standing s → Adds (IsWhole v) (In (seen L.Disk v) self.new.log.log self.new.standing) s (commands.Commit name.now) lines.items) }
-        ensures err { IfErr result (λ status. (v : View L.tells) (line : ℕ) (s : Stage) → In (seen L.Disk v) self.old.log.log self.old.standing s → RefusesAt (seen L.Disk v) self.new.log.log.device s (commands.Commit name.now) line status) }
+        ensures ok { IfOk result (λ lines. (v : View L.tells) (s : Stage) → Within (seen L.Disk v) self.old.log self.old.leaf self.old.transactions s → Adds (IsWhole v) (Within (seen L.Disk v) self.new.log self.new.leaf self.new.transactions) s (commands.Commit name.now) lines.items) }
+        ensures err { IfErr result (λ status. (v : View L.tells) (line : ℕ) (s : Stage) → Within (seen L.Disk v) self.old.log self.old.leaf self.old.transactions s → RefusesAt (seen L.Disk v) self.new.log.log.device s (commands.Commit name.now) line status) }
         ensures kind { IfErr result (λ status. status ≡ Status.LogFault) }
         ensures cause { IfErr result (LifeCause (L.own self.old.log.log.device) (L.own self.new.log.log.device)) }
         ensures later { L.own self.old.log.log.device ≤ L.own self.new.log.log.device }
     {
-        let (tx, last) = self.standing.open();
+        let (tx, last) = self.transactions.open();
         let lsn = self.log.append_commit(tx, last);
+        self.leaf.commit(tx, last);
         match self.log.flush_to(lsn) {
             Ok(()) => {
-                self.standing.committed();
+                self.leaf.acknowledge(tx);
+                self.transactions.committed();
                 Ok(done)
             }
             Err(Fault::LogFault) => {
@@ -287,15 +375,15 @@ impl<L: Disk> Life<L> {
         calls: u64,
         line: u64,
     ) -> Result<Vec<u8>, Status>
-        ensures ok { IfOk result (λ lines. (v : View L.tells) (s : Stage) → In (seen L.Disk v) self.old.log.log self.old.standing s → Adds (IsWhole v) (In (seen L.Disk v) self.new.log.log self.new.standing) s (commands.Fuse device calls) lines.items) }
-        ensures err { IfErr result (λ status. (v : View L.tells) (s : Stage) → In (seen L.Disk v) self.old.log.log self.old.standing s → RefusesAt (seen L.Disk v) self.new.log.log.device s (commands.Fuse device calls) line status) }
+        ensures ok { IfOk result (λ lines. (v : View L.tells) (s : Stage) → Within (seen L.Disk v) self.old.log self.old.leaf self.old.transactions s → Adds (IsWhole v) (Within (seen L.Disk v) self.new.log self.new.leaf self.new.transactions) s (commands.Fuse device calls) lines.items) }
+        ensures err { IfErr result (λ status. (v : View L.tells) (s : Stage) → Within (seen L.Disk v) self.old.log self.old.leaf self.old.transactions s → RefusesAt (seen L.Disk v) self.new.log.log.device s (commands.Fuse device calls) line status) }
         ensures cause { IfErr result (LifeCause (L.own self.old.log.log.device) (L.own self.new.log.log.device)) }
         ensures later { L.own self.old.log.log.device ≤ L.own self.new.log.log.device }
     {
         if device != Device::Log {
             return Err(Status::NotBuilt { line });
         }
-        let out = match print::fuse_line(alloc, calls) {
+        let out = match transcript::fuse_line(alloc, calls) {
             Ok(out) => out,
             Err(_) => return Err(Status::Memory),
         };
@@ -304,15 +392,15 @@ impl<L: Disk> Life<L> {
     }
 
     fn renew(&mut self, alloc: Global, device: Device, line: u64) -> Result<Vec<u8>, Status>
-        ensures ok { IfOk result (λ lines. (v : View L.tells) (s : Stage) → In (seen L.Disk v) self.old.log.log self.old.standing s → Adds (IsWhole v) (In (seen L.Disk v) self.new.log.log self.new.standing) s (commands.Renew device) lines.items) }
-        ensures err { IfErr result (λ status. (v : View L.tells) (s : Stage) → In (seen L.Disk v) self.old.log.log self.old.standing s → RefusesAt (seen L.Disk v) self.new.log.log.device s (commands.Renew device) line status) }
+        ensures ok { IfOk result (λ lines. (v : View L.tells) (s : Stage) → Within (seen L.Disk v) self.old.log self.old.leaf self.old.transactions s → Adds (IsWhole v) (Within (seen L.Disk v) self.new.log self.new.leaf self.new.transactions) s (commands.Renew device) lines.items) }
+        ensures err { IfErr result (λ status. (v : View L.tells) (s : Stage) → Within (seen L.Disk v) self.old.log self.old.leaf self.old.transactions s → RefusesAt (seen L.Disk v) self.new.log.log.device s (commands.Renew device) line status) }
         ensures cause { IfErr result (LifeCause (L.own self.old.log.log.device) (L.own self.new.log.log.device)) }
         ensures later { L.own self.old.log.log.device ≤ L.own self.new.log.log.device }
     {
         if device != Device::Log {
             return Err(Status::NotBuilt { line });
         }
-        let out = match print::renew_line(alloc) {
+        let out = match transcript::renew_line(alloc) {
             Ok(out) => out,
             Err(_) => return Err(Status::Memory),
         };

@@ -14,8 +14,7 @@ ghost use Rattle.runner.specs.Causes.{Shows};
 ghost use Rattle.runner.specs.Openings.{Makes, IsMade, IsFirst, IsFault, IsNotMade, IsBegun, IsNotBegun, MadeStatus, ReadStatus, ReplayStatus};
 ghost use Rattle.runner.specs.declared.status.Status.TheVariants as statuses;
 
-use crate::life::Life;
-use crate::standing::Standing;
+use crate::opened::Opened;
 use crate::status::Status;
 use log_blocks::{BlockLog, never_bad, one_log, open_log};
 use log_manager::LogManager;
@@ -112,7 +111,7 @@ pub fn open<L: Disk>(
     operators: &Operators,
     disk: L,
     line: u64,
-) -> Result<Life<L>, NotOpened<L>>
+) -> Result<Opened<L>, NotOpened<L>>
     ensures begun { IfOk result (λ life. (v : View L.tells) → Makes (seen L.Disk v) disk (IsBegun (seen L.Disk v) life.log.log life.standing)) }
     ensures first { IfOk result (λ life. (life.standing.session ≡ None) × (life.log.log.ended ≡ None)) }
     ensures not { IfErr result (λ r. (v : View L.tells) → IsNotBegun (seen L.Disk v) line disk r.disk r.status) }
@@ -138,7 +137,7 @@ pub fn open<L: Disk>(
 }
 
 /// A life on a log in which this was found, where its numbers aren't used up.
-fn begin<L: Disk>(alloc: Global, log: BlockLog<L>, found: Found) -> Result<Life<L>, NotOpened<L>>
+fn begin<L: Disk>(alloc: Global, log: BlockLog<L>, found: Found) -> Result<Opened<L>, NotOpened<L>>
     requires rules { KeepsState found.page }
     requires number { 1 ≤ found.next }
     requires fresh { log.pending ≡ [] }
@@ -153,17 +152,7 @@ fn begin<L: Disk>(alloc: Global, log: BlockLog<L>, found: Found) -> Result<Life<
             status: Status::Memory,
         });
     }
-    Ok(Life {
-        log: LogManager::start(alloc, log),
-        standing: Standing {
-            page: Some(found.page),
-            head: found.head,
-            session: None,
-            next: found.next,
-            commits: found.commits,
-            limit: found.limit,
-        },
-    })
+    Ok(Opened::new(LogManager::start(alloc, log), found))
 }
 
 /// The status of a log whose blocks can't be read.

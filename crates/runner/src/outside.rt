@@ -1,19 +1,18 @@
 //! Commands where no life is open.
-ghost use Rattle.std.specs.Prelude.{◌≡◌, ◌≤◌, ◌<◌, ◌^◌, ℕ, codes, None, IfOk, IfErr};
-ghost use Rattle.media.specs.Crash.{Only};
+ghost use Rattle.std.specs.Prelude.{◌≡◌, ◌≤◌, ◌<◌, ◌^◌, codes, IfOk, IfErr};
 ghost use Rattle.wal_record.specs.Rules.{is_limit};
 ghost use Rattle.runner.specs.Causes.{SteppedCause};
 ghost use Rattle.runner.specs.LogDisk.{View, seen};
 ghost use Rattle.runner.specs.Turns.{Stage};
 ghost use Rattle.runner.specs.declared.status.Status.{Status};
-ghost use Rattle.runner.specs.Machine.{Out, In, Safe, Steps, Refuses};
+ghost use Rattle.runner.specs.Machine.{Out, In, Steps, Refuses};
 ghost use Rattle.script.specs.declared.command.Command.TheVariants as commands;
 
 use crate::at::{At, Stepped};
-use crate::life::Life;
+use crate::opened::Opened;
 use crate::opening::{NotOpened, make_log, open};
-use crate::print;
 use crate::status::Status;
+use crate::stop::stop;
 use media::Disk;
 use operators::Operators;
 use script::{Command, Device};
@@ -32,7 +31,7 @@ pub fn step<L: Disk>(
     disk: L,
     command: &Command,
     line: u64,
-) -> Stepped<L, Life<L>>
+) -> Stepped<L, Opened<L>>
     ensures turns { (v : View L.tells) (s : Stage) → Out (seen L.Disk v) disk s → Steps (seen L.Disk v) (λ life. In (seen L.Disk v) life.log.log life.standing) s command.now line result }
     ensures cause { SteppedCause L.Disk (λ life. life.log.log.device) disk result }
 {
@@ -43,7 +42,16 @@ pub fn step<L: Disk>(
         },
         Command::Format { limit } => format(alloc, disk, *limit, line),
         Command::Open => opens(alloc, operators, disk, line),
-        Command::Stop { keep } => stop(alloc, disk, *keep, line),
+        Command::Stop { keep } => match stop(alloc, disk, *keep) {
+            Ok((lines, disk)) => Stepped::Goes {
+                lines,
+                at: At::Outside { disk },
+            },
+            Err(disk) => Stepped::Ends {
+                status: Status::Memory,
+                disk,
+            },
+        },
         Command::Fuse { device, calls } => fuse(alloc, disk, *device, *calls, line),
         Command::Renew { device } => renew(alloc, disk, *device, line),
         _ => Stepped::Ends {
@@ -54,7 +62,7 @@ pub fn step<L: Disk>(
 }
 
 /// Makes the log of a disk that has none.
-fn format<L: Disk>(alloc: Global, disk: L, limit: Option<u32>, line: u64) -> Stepped<L, Life<L>>
+fn format<L: Disk>(alloc: Global, disk: L, limit: Option<u32>, line: u64) -> Stepped<L, Opened<L>>
     ensures turns { (v : View L.tells) (s : Stage) → Out (seen L.Disk v) disk s → Steps (seen L.Disk v) (λ life. In (seen L.Disk v) life.log.log life.standing) s (commands.Format limit) line result }
     ensures cause { SteppedCause L.Disk (λ life. life.log.log.device) disk result }
 {
@@ -97,8 +105,8 @@ fn format_lines(alloc: Global) -> Result<(Vec<u8>, Vec<u8>), Status>
     ensures lines { IfOk result (λ r. (r.0.items ≡ codes "format ok\n") × (r.1.items ≡ codes "format log failed\n")) }
     ensures memory { IfErr result (λ status. status ≡ Status.Memory) }
 {
-    match print::format_line(alloc) {
-        Ok(lines) => match print::format_failed(alloc) {
+    match transcript::format_line(alloc) {
+        Ok(lines) => match transcript::format_failed(alloc) {
             Ok(failed) => Ok((lines, failed)),
             Err(_) => Err(Status::Memory),
         },
@@ -107,7 +115,7 @@ fn format_lines(alloc: Global) -> Result<(Vec<u8>, Vec<u8>), Status>
 }
 
 /// Opens a life.
-fn opens<L: Disk>(alloc: Global, operators: &Operators, disk: L, line: u64) -> Stepped<L, Life<L>>
+fn opens<L: Disk>(alloc: Global, operators: &Operators, disk: L, line: u64) -> Stepped<L, Opened<L>>
     ensures turns { (v : View L.tells) (s : Stage) → Out (seen L.Disk v) disk s → Steps (seen L.Disk v) (λ life. In (seen L.Disk v) life.log.log life.standing) s commands.Open line result }
     ensures cause { SteppedCause L.Disk (λ life. life.log.log.device) disk result }
 {
@@ -118,7 +126,7 @@ fn opens<L: Disk>(alloc: Global, operators: &Operators, disk: L, line: u64) -> S
             disk,
         };
     }
-    let failed = match print::open_failed(alloc) {
+    let failed = match transcript::open_failed(alloc) {
         Ok(failed) => failed,
         Err(_) => return Stepped::Ends {
             status: Status::Memory,
@@ -126,14 +134,14 @@ fn opens<L: Disk>(alloc: Global, operators: &Operators, disk: L, line: u64) -> S
         },
     };
     match open(alloc, operators, disk, line) {
-        Ok(life) => match print::open_line(alloc, life.standing.commits) {
+        Ok(life) => match transcript::open_line(alloc, life.commits()) {
             Ok(lines) => Stepped::Goes {
                 lines,
                 at: At::Inside { life },
             },
             Err(_) => Stepped::Ends {
                 status: Status::Memory,
-                disk: life.log.into_device(),
+                disk: life.into_device(),
             },
         },
         Err(not) => refuse(not, refused, failed),
@@ -142,7 +150,7 @@ fn opens<L: Disk>(alloc: Global, operators: &Operators, disk: L, line: u64) -> S
 
 /// A log that isn't made or opened: a line, where the disk's fuse refused a call, else the end of the run. So many calls
 /// had been refused before.
-fn refuse<L: Disk>(not: NotOpened<L>, before: u64, failed: Vec<u8>) -> Stepped<L, Life<L>>
+fn refuse<L: Disk>(not: NotOpened<L>, before: u64, failed: Vec<u8>) -> Stepped<L, Opened<L>>
     requires { before < 2 ^ 62 }
     ensures { Refuses L.Disk not.disk not.status before failed.items result }
 {
@@ -167,38 +175,6 @@ fn refuse<L: Disk>(not: NotOpened<L>, before: u64, failed: Vec<u8>) -> Stepped<L
     }
 }
 
-/// The machine stops, and the disk's fuse is renewed.
-pub fn stop<L: Disk>(alloc: Global, disk: L, keep: Option<u64>, line: u64) -> Stepped<L, Life<L>>
-    ensures turns { (v : View L.tells) (s : Stage) → Safe (seen L.Disk v) disk s → Steps (seen L.Disk v) (λ life. In (seen L.Disk v) life.log.log life.standing) s (commands.Stop keep) line result }
-    ensures cause { SteppedCause L.Disk (λ life. life.log.log.device) disk result }
-{
-    match print::stop_line(alloc) {
-        Ok(lines) => Stepped::Goes {
-            lines,
-            at: At::Outside {
-                disk: cycled(disk, keep.unwrap_or(0)),
-            },
-        },
-        Err(_) => Stepped::Ends {
-            status: Status::Memory,
-            disk,
-        },
-    }
-}
-
-/// The disk after a stop of the machine, with its fuse renewed.
-fn cycled<L: Disk>(disk: L, keep: u64) -> L
-    ensures left { L.tells → L.may_leave disk (L.told result) }
-    ensures durable { L.tells → Only (L.told result) (L.may_leave result) }
-    ensures fuse { L.fuses → L.passes result ≡ None }
-    ensures later { L.own disk ≤ L.own result }
-{
-    let mut disk = disk;
-    disk.power_cycle(keep);
-    disk.fuse(None);
-    disk
-}
-
 /// Arms the disk's fuse.
 fn fuse<L: Disk>(
     alloc: Global,
@@ -206,7 +182,7 @@ fn fuse<L: Disk>(
     device: Device,
     calls: u64,
     line: u64,
-) -> Stepped<L, Life<L>>
+) -> Stepped<L, Opened<L>>
     ensures turns { (v : View L.tells) (s : Stage) → Out (seen L.Disk v) disk s → Steps (seen L.Disk v) (λ life. In (seen L.Disk v) life.log.log life.standing) s (commands.Fuse device calls) line result }
     ensures cause { SteppedCause L.Disk (λ life. life.log.log.device) disk result }
 {
@@ -217,7 +193,7 @@ fn fuse<L: Disk>(
             disk,
         };
     }
-    match print::fuse_line(alloc, calls) {
+    match transcript::fuse_line(alloc, calls) {
         Ok(lines) => {
             disk.fuse(Some(calls));
             Stepped::Goes {
@@ -233,7 +209,7 @@ fn fuse<L: Disk>(
 }
 
 /// Renews the disk's fuse.
-fn renew<L: Disk>(alloc: Global, disk: L, device: Device, line: u64) -> Stepped<L, Life<L>>
+fn renew<L: Disk>(alloc: Global, disk: L, device: Device, line: u64) -> Stepped<L, Opened<L>>
     ensures turns { (v : View L.tells) (s : Stage) → Out (seen L.Disk v) disk s → Steps (seen L.Disk v) (λ life. In (seen L.Disk v) life.log.log life.standing) s (commands.Renew device) line result }
     ensures cause { SteppedCause L.Disk (λ life. life.log.log.device) disk result }
 {
@@ -244,7 +220,7 @@ fn renew<L: Disk>(alloc: Global, disk: L, device: Device, line: u64) -> Stepped<
             disk,
         };
     }
-    match print::renew_line(alloc) {
+    match transcript::renew_line(alloc) {
         Ok(lines) => {
             disk.fuse(None);
             Stepped::Goes {

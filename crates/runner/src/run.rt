@@ -1,26 +1,24 @@
 //! A whole run.
-ghost use Rattle.std.specs.Prelude.{◌≡◌, ◌≢◌, ◌≤◌, ◌↔◌, ℕ, List, Option, map, true, false, IfErr};
+ghost use Rattle.std.specs.Prelude.{◌≡◌, ◌≢◌, ◌≤◌, ◌↔◌, ℕ, List, map, true, false};
 ghost use Rattle.media.specs.Cause.{Rose};
 ghost use Rattle.wal_record.specs.declared.record.Record.{Record};
 ghost use Rattle.log_replay.specs.Standing.{DevicesStandFor};
 ghost use Rattle.runner.specs.Lines.{to_come, IsBounded};
 ghost use Rattle.runner.specs.LogDisk.{View, IsWhole, seen};
-ghost use Rattle.runner.specs.Turns.{Turn, begin_stage};
-ghost use Rattle.runner.specs.Machine.{Out, In, IsAt};
-ghost use Rattle.runner.specs.Clause.{Between, Headline, TakesCommand, TurnedTo, LivedTo};
-ghost use Rattle.runner.specs.Causes.{LineCause, RunCause, TurnedCause, LivedCause, Shows, IsAsked, IsCycled, disk_at};
+ghost use Rattle.runner.specs.Turns.{begin_stage};
+ghost use Rattle.runner.specs.Machine.{Out};
+ghost use Rattle.runner.specs.Clause.{Headline};
+ghost use Rattle.runner.specs.Causes.{RunCause, Shows, IsAsked, IsCycled};
 ghost use Rattle.runner.specs.Usage.{is_call};
 ghost use Rattle.runner.specs.declared.status.Status.TheVariants as statuses;
 
-use crate::at::{At, Stepped, disk_of, step};
-use crate::built::is_built;
-use crate::input::{Input, Next};
-use crate::life::Life;
+use crate::input::Input;
+use crate::living::{Lived, run_from};
 use crate::status::Status;
+use crate::turns::{Turned, turn_outside};
 use crate::words::is_call;
-use media::{Devices, Disk, Fuse, PageDevice, Sink, Source, Vault, write_all};
+use media::{Devices, Disk, Fuse, PageDevice, Sink, Source, Vault};
 use operators::Operators;
-use script::{Command, command_of};
 use std::alloc::Global;
 
 /// Runs the script that the source has, prints its transcript to the sink, and hands the devices back. The words are
@@ -109,15 +107,7 @@ fn run<S: Source, K: Sink, V: Vault, L: Disk>(
 {
     let mut disk = disk;
     for _ in 0..u64::MAX {
-        match turn(
-            alloc,
-            operators,
-            input,
-            source,
-            sink,
-            vault,
-            At::Outside { disk },
-        ) {
+        match turn_outside(alloc, operators, input, source, sink, vault, disk) {
             Turned::Goes { at } => match run_from(
                 alloc, operators, input, source, sink, vault, at,
             ) {
@@ -128,161 +118,4 @@ fn run<S: Source, K: Sink, V: Vault, L: Disk>(
         }
     }
     (Status::Memory, disk)
-}
-
-/// How a life ended: by a stop, or with the run.
-#[derive(Drop)]
-pub enum Lived<L> {
-    Stopped { disk: L },
-    Ends { status: Status, disk: L },
-}
-
-/// What a line has begun: nothing, or a life.
-fn run_from<S: Source, K: Sink, V: Vault, L: Disk>(
-    alloc: Global,
-    operators: &Operators,
-    input: &mut Input,
-    source: &mut S,
-    sink: &mut K,
-    vault: &mut V,
-    at: At<L, Life<L>>,
-) -> Lived<L>
-    ensures turns { (v : View L.tells) (log : List Record) (left told : Option (List ℕ)) (turns : List Turn) → Between (IsWhole v) log (IsAt (seen L.Disk v) (λ life. In (seen L.Disk v) life.log.log life.standing) at) left told input.old turns (S.left source.old) (K.told sink.old)
-        → LivedTo (seen L.Disk v) log left told input.new (S.left source.new) (K.told sink.new) result }
-    ensures later { (S.faults source.old ≤ S.faults source.new) × (K.faults sink.old ≤ K.faults sink.new) }
-    ensures cause { LivedCause L.Disk (disk_at (λ life. life.log.log.device) at) (S.faults source.old) (S.faults source.new) (K.faults sink.old) (K.faults sink.new) result }
-    ensures vault { IsCycled V.tells V.told V.faults vault.old vault.new }
-{
-    match at {
-        At::Outside { disk } => Lived::Stopped { disk },
-        At::Inside { life } => run_life(alloc, operators, input, source, sink, vault, life),
-    }
-}
-
-/// A life, from its opening to its stop or the end of the run.
-fn run_life<S: Source, K: Sink, V: Vault, L: Disk>(
-    alloc: Global,
-    operators: &Operators,
-    input: &mut Input,
-    source: &mut S,
-    sink: &mut K,
-    vault: &mut V,
-    life: Life<L>,
-) -> Lived<L>
-    ensures turns { (v : View L.tells) (log : List Record) (left told : Option (List ℕ)) (turns : List Turn) → Between (IsWhole v) log (In (seen L.Disk v) life.log.log life.standing) left told input.old turns (S.left source.old) (K.told sink.old)
-        → LivedTo (seen L.Disk v) log left told input.new (S.left source.new) (K.told sink.new) result }
-    ensures later { (S.faults source.old ≤ S.faults source.new) × (K.faults sink.old ≤ K.faults sink.new) }
-    ensures cause { LivedCause L.Disk life.log.log.device (S.faults source.old) (S.faults source.new) (K.faults sink.old) (K.faults sink.new) result }
-    ensures vault { IsCycled V.tells V.told V.faults vault.old vault.new }
-{
-    let mut life = life;
-    for _ in 0..u64::MAX {
-        match turn(
-            alloc,
-            operators,
-            input,
-            source,
-            sink,
-            vault,
-            At::Inside { life },
-        ) {
-            Turned::Goes { at } => match at {
-                At::Outside { disk } => return Lived::Stopped { disk },
-                At::Inside { life: left } => life = left,
-            },
-            Turned::Ends { status, disk } => return Lived::Ends { status, disk },
-        }
-    }
-    Lived::Ends {
-        status: Status::Memory,
-        disk: life.log.into_device(),
-    }
-}
-
-/// What a line did: where the run is then, or how it ended.
-#[derive(Drop)]
-pub enum Turned<L, F> {
-    Goes { at: At<L, F> },
-    Ends { status: Status, disk: L },
-}
-
-/// One line. The end of the input ends the run.
-fn turn<S: Source, K: Sink, V: Vault, L: Disk>(
-    alloc: Global,
-    operators: &Operators,
-    input: &mut Input,
-    source: &mut S,
-    sink: &mut K,
-    vault: &mut V,
-    at: At<L, Life<L>>,
-) -> Turned<L, Life<L>>
-    ensures turns { (v : View L.tells) (log : List Record) (left told : Option (List ℕ)) (turns : List Turn) → Between (IsWhole v) log (IsAt (seen L.Disk v) (λ life. In (seen L.Disk v) life.log.log life.standing) at) left told input.old turns (S.left source.old) (K.told sink.old)
-        → TurnedTo (seen L.Disk v) log (λ life. In (seen L.Disk v) life.log.log life.standing) left told input.new turns (S.left source.new) (K.told sink.new) result }
-    ensures later { (S.faults source.old ≤ S.faults source.new) × (K.faults sink.old ≤ K.faults sink.new) }
-    ensures cause { TurnedCause L.Disk (λ life. life.log.log.device) (disk_at (λ life. life.log.log.device) at) (S.faults source.old) (S.faults source.new) (K.faults sink.old) (K.faults sink.new) result }
-    ensures vault { IsCycled V.tells V.told V.faults vault.old vault.new }
-{
-    let next = match next_command(alloc, input, source) {
-        Ok(next) => next,
-        Err(status) => return Turned::Ends {
-            status,
-            disk: disk_of(at),
-        },
-    };
-    let (command, line) = match next {
-        Some(next) => next,
-        None => return Turned::Ends {
-            status: Status::Done,
-            disk: disk_of(at),
-        },
-    };
-    cycle(vault, &command);
-    match step(alloc, operators, at, &command, line) {
-        Stepped::Goes { lines, at } => match write_all(sink, &lines) {
-            Ok(()) => Turned::Goes { at },
-            Err(_) => Turned::Ends {
-                status: Status::SinkFault,
-                disk: disk_of(at),
-            },
-        },
-        Stepped::Ends { status, disk } => Turned::Ends { status, disk },
-    }
-}
-
-/// A stop is one of the vault too.
-fn cycle<V: Vault>(vault: &mut V, command: &Command)
-    ensures { IsCycled V.tells V.told V.faults vault.old vault.new }
-{
-    match command {
-        Command::Stop { keep: _ } => vault.power_cycle(),
-        _ => {}
-    }
-}
-
-/// The command of the next line, and that line's number; none at the end of the input.
-fn next_command<S: Source>(
-    alloc: Global,
-    input: &mut Input,
-    source: &mut S,
-) -> Result<Option<(Command, u64)>, Status>
-    ensures most { IsBounded input.new }
-    ensures command { TakesCommand input.old input.new (S.left source.old) (S.left source.new) result }
-    ensures later { S.faults source.old ≤ S.faults source.new }
-    ensures cause { IfErr result (LineCause (S.faults source.old) (S.faults source.new)) }
-{
-    let line = input.lines() + 1;
-    let text = match input.next_line(alloc, source) {
-        Ok(Next::Line(text)) => text,
-        Ok(Next::End) => return Ok(None),
-        Ok(Next::Bad) => return Err(Status::Script { line }),
-        Err(status) => return Err(status),
-    };
-    if !is_built(&text) {
-        return Err(Status::NotBuilt { line });
-    }
-    match command_of(alloc, &text) {
-        Ok(Some(command)) => Ok(Some((command, line))),
-        Ok(None) => Err(Status::Script { line }),
-        Err(_) => Err(Status::Memory),
-    }
 }

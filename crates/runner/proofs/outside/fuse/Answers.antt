@@ -1,5 +1,5 @@
 use Rattle.std.proofs.Common.{rules, refl, sym, ap, subst, ◌∙◌, arith, ◌≡◌}
-use Rattle.runner.specs.declared.life.Life.{Life}
+use Rattle.runner.specs.Standing.{Beginning}
 use Rattle.runner.specs.LogDisk.{seen}
 use Rattle.runner.specs.Machine.{In}
 use Rattle.runner.proofs.Lives.{tells_of}
@@ -7,4 +7,4 @@ use Rattle.runner.proofs.Without.{did_fuse}
 use Rattle.runner.proofs.outside.fuse.Goals as goal
 
 pub returns-in-Ok-clause-turns : goal.returns-in-Ok-clause-turns
-returns-in-Ok-clause-turns g c = λ v s h. did_fuse (seen g.L.Disk v) (λ (life : Life g.row.L.Denot g.L.Disk). In (seen g.L.Disk v) life.log.log life.standing) c.args.disk s h c.fuse.new.self (λ t. c.fuse.ensures.told (tells_of v t)) c.fuse.ensures.crash c.args.device c.args.calls c.in-Ok.lines.items (search rules) c.in-Ok.ensures
+returns-in-Ok-clause-turns g c = λ v s h. did_fuse (seen g.L.Disk v) (λ (life : Beginning g.row.L.Denot). In (seen g.L.Disk v) life.log.log life.standing) c.args.disk s h c.fuse.new.self (λ t. c.fuse.ensures.told (tells_of v t)) c.fuse.ensures.crash c.args.device c.args.calls c.in-Ok.lines.items (search rules) c.in-Ok.ensures

@@ -1,7 +1,5 @@
 use Rattle.std.proofs.Common.{arith, [], ◌∷◌, ◌++◌, ◌≤◌, List, ℕ, subst, sym}
 use Rattle.std.proofs.KnownBytes.{Consumes-nil}
-use Rattle.runner.specs.declared.at.At.{At}
-use Rattle.runner.specs.declared.life.Life.{Life}
 use Rattle.runner.specs.Causes.{disk_at}
 use Rattle.runner.specs.Clause.{Between}
 use Rattle.runner.specs.Lines.{to_come}

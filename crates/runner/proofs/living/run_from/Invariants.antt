@@ -1,0 +1,21 @@
+use Rattle.runner.specs.Machine.{BeginsOn}
+use Rattle.runner.proofs.living.run_from.Given as goal
+
+abbrev pub ghosts-run_named-N-Life : goal.ghosts-run_named-N-Life
+ghosts-run_named-N-Life g a = record {
+  opens = BeginsOn g.L.Disk a.opened;
+  entries = a.unnamed.entries;
+  session_entries = a.unnamed.session_entries;
+  log_faults = a.unnamed.log_faults;
+  vault_faults = a.unnamed.vault_faults;
+  data_faults = a.unnamed.data_faults;
+  log_faults_before = 0;
+  vault_faults_before = 0;
+  data_faults_before = 0;
+}
+
+abbrev pub ghosts-run_named-N-CountName : goal.ghosts-run_named-N-CountName
+ghosts-run_named-N-CountName g a = record { count = a.unnamed.count }
+
+abbrev pub ghosts-run_named-N-BookNames : goal.ghosts-run_named-N-BookNames
+ghosts-run_named-N-BookNames g a = record { pages = a.unnamed.pages; sessions = a.unnamed.sessions; maint = a.unnamed.maint }

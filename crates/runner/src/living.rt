@@ -1,0 +1,140 @@
+//! A life, line after line.
+ghost use Rattle.std.specs.Prelude.{◌≡◌, ◌≤◌, ◌↔◌, ℕ, List, [], Option};
+ghost use Rattle.page_ops.specs.Names.{life_names};
+ghost use Rattle.wal_record.specs.declared.record.Record.{Record};
+ghost use Rattle.runner.specs.LogDisk.{View, IsWhole, seen};
+ghost use Rattle.runner.specs.Turns.{Turn};
+ghost use Rattle.runner.specs.Machine.{In, IsAt, Within, BeginsOn};
+ghost use Rattle.runner.specs.Clause.{Between, LivedTo};
+ghost use Rattle.runner.specs.Causes.{LivedCause, IsCycled, disk_at};
+
+use crate::at::At;
+use crate::input::Input;
+use crate::life::OpenLife;
+use crate::opened::Opened;
+use crate::status::Status;
+use crate::turns::{Turned, turn_inside};
+use media::{Disk, Sink, Source, Vault};
+use operators::Operators;
+use page_ops::{Ground, Life, Tokens, Unnamed};
+use std::alloc::Global;
+use std::marker::Brand;
+
+/// How a life ended: by a stop, or with the run.
+#[derive(Drop)]
+pub enum Lived<L> {
+    Stopped { disk: L },
+    Ends { status: Status, disk: L },
+}
+
+/// What a line has begun: nothing, or a life.
+pub fn run_from<S: Source, K: Sink, V: Vault, L: Disk>(
+    alloc: Global,
+    operators: &Operators,
+    input: &mut Input,
+    source: &mut S,
+    sink: &mut K,
+    vault: &mut V,
+    at: At<L, Opened<L>>,
+) -> Lived<L>
+    ensures turns { (v : View L.tells) (log : List Record) (left told : Option (List ℕ)) (turns : List Turn) → Between (IsWhole v) log (IsAt (seen L.Disk v) (λ life. In (seen L.Disk v) life.log.log life.standing) at) left told input.old turns (S.left source.old) (K.told sink.old)
+        → LivedTo (seen L.Disk v) log left told input.new (S.left source.new) (K.told sink.new) result }
+    ensures later { (S.faults source.old ≤ S.faults source.new) × (K.faults sink.old ≤ K.faults sink.new) }
+    ensures cause { LivedCause L.Disk (disk_at (λ life. life.log.log.device) at) (S.faults source.old) (S.faults source.new) (K.faults sink.old) (K.faults sink.new) result }
+    ensures vault { IsCycled V.tells V.told V.faults vault.old vault.new }
+{
+    let opened = match at {
+        At::Outside { disk } => return Lived::Stopped { disk },
+        At::Inside { life } => life,
+    };
+    match Unnamed::new(alloc, 1) {
+        Ok(unnamed) => run_named::<Brand, S, K, V, L>(
+            alloc, operators, input, source, sink, vault, unnamed, opened,
+        ),
+        Err(_) => Lived::Ends {
+            status: Status::Memory,
+            disk: opened.into_device(),
+        },
+    }
+}
+
+/// A life with a name of its own. It may have begun with the logs for which its disk stands.
+fn run_named<N: Life, S: Source, K: Sink, V: Vault, L: Disk>(
+    alloc: Global,
+    operators: &Operators,
+    input: &mut Input,
+    source: &mut S,
+    sink: &mut K,
+    vault: &mut V,
+    unnamed: Unnamed,
+    opened: Opened<L>,
+) -> Lived<L>
+    requires named { unnamed ≡ life_names N.count N.pages N.sessions N.maint N.entries N.session_entries N.log_faults N.vault_faults N.data_faults }
+    requires opens { (opening : List Record) → (N.opens opening ↔ BeginsOn L.Disk opened opening) }
+    ensures turns { (v : View L.tells) (log : List Record) (left told : Option (List ℕ)) (turns : List Turn) → Between (IsWhole v) log (In (seen L.Disk v) opened.log.log opened.standing) left told input.old turns (S.left source.old) (K.told sink.old)
+        → LivedTo (seen L.Disk v) log left told input.new (S.left source.new) (K.told sink.new) result }
+    ensures later { (S.faults source.old ≤ S.faults source.new) × (K.faults sink.old ≤ K.faults sink.new) }
+    ensures cause { LivedCause L.Disk opened.log.log.device (S.faults source.old) (S.faults source.new) (K.faults sink.old) (K.faults sink.new) result }
+    ensures vault { IsCycled V.tells V.told V.faults vault.old vault.new }
+{
+    let (ground, tokens) = unnamed.split::<N>();
+    run_on(
+        alloc, operators, input, source, sink, vault, &ground, tokens, opened,
+    )
+}
+
+/// The same on what the life is made of.
+fn run_on<'a, N: Life, S: Source, K: Sink, V: Vault, L: Disk>(
+    alloc: Global,
+    operators: &Operators,
+    input: &mut Input,
+    source: &mut S,
+    sink: &mut K,
+    vault: &mut V,
+    ground: &'a Ground<N>,
+    tokens: Tokens<N>,
+    opened: Opened<L>,
+) -> Lived<L>
+    requires history { (tokens.front ≡ []) × (tokens.pass.log ≡ []) × (tokens.books.pages ≡ []) }
+    requires opens { (opening : List Record) → N.opens opening → BeginsOn L.Disk opened opening }
+    ensures turns { (v : View L.tells) (log : List Record) (left told : Option (List ℕ)) (turns : List Turn) → Between (IsWhole v) log (In (seen L.Disk v) opened.log.log opened.standing) left told input.old turns (S.left source.old) (K.told sink.old)
+        → LivedTo (seen L.Disk v) log left told input.new (S.left source.new) (K.told sink.new) result }
+    ensures later { (S.faults source.old ≤ S.faults source.new) × (K.faults sink.old ≤ K.faults sink.new) }
+    ensures cause { LivedCause L.Disk opened.log.log.device (S.faults source.old) (S.faults source.new) (K.faults sink.old) (K.faults sink.new) result }
+    ensures vault { IsCycled V.tells V.told V.faults vault.old vault.new }
+{
+    let life = OpenLife::new(ground, tokens, opened);
+    run_life(alloc, operators, input, source, sink, vault, life)
+}
+
+/// A life, from its opening to its stop or the end of the run.
+fn run_life<'a, N: Life, S: Source, K: Sink, V: Vault, L: Disk>(
+    alloc: Global,
+    operators: &Operators,
+    input: &mut Input,
+    source: &mut S,
+    sink: &mut K,
+    vault: &mut V,
+    life: OpenLife<'a, N, L>,
+) -> Lived<L>
+    ensures turns { (v : View L.tells) (log : List Record) (left told : Option (List ℕ)) (turns : List Turn) → Between (IsWhole v) log (Within (seen L.Disk v) life.entry.log life.entry.leaf life.entry.transactions) left told input.old turns (S.left source.old) (K.told sink.old)
+        → LivedTo (seen L.Disk v) log left told input.new (S.left source.new) (K.told sink.new) result }
+    ensures later { (S.faults source.old ≤ S.faults source.new) × (K.faults sink.old ≤ K.faults sink.new) }
+    ensures cause { LivedCause L.Disk life.entry.log.log.device (S.faults source.old) (S.faults source.new) (K.faults sink.old) (K.faults sink.new) result }
+    ensures vault { IsCycled V.tells V.told V.faults vault.old vault.new }
+{
+    let mut life = life;
+    for _ in 0..u64::MAX {
+        match turn_inside(alloc, operators, input, source, sink, vault, life) {
+            Turned::Goes { at } => match at {
+                At::Outside { disk } => return Lived::Stopped { disk },
+                At::Inside { life: left } => life = left,
+            },
+            Turned::Ends { status, disk } => return Lived::Ends { status, disk },
+        }
+    }
+    Lived::Ends {
+        status: Status::Memory,
+        disk: life.log.into_device(),
+    }
+}

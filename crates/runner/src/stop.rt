@@ -1,0 +1,36 @@
+//! A stop of the machine.
+ghost use Rattle.std.specs.Prelude.{◌≡◌, ◌≤◌, None, IfOk, IfErr};
+ghost use Rattle.media.specs.Crash.{Only};
+ghost use Rattle.runner.specs.LogDisk.{View, IsWhole, seen};
+ghost use Rattle.runner.specs.Turns.{Stage};
+ghost use Rattle.runner.specs.Machine.{Out, Safe, Adds};
+ghost use Rattle.script.specs.declared.command.Command.TheVariants as commands;
+
+use media::Disk;
+use std::alloc::Global;
+
+/// The machine stops, and the disk's fuse is renewed: the line that says so, and the disk. Without memory for the line the
+/// disk comes back as it was.
+pub fn stop<L: Disk>(alloc: Global, disk: L, keep: Option<u64>) -> Result<(Vec<u8>, L), L>
+    ensures turns { IfOk result (λ r. (v : View L.tells) (s : Stage) → Safe (seen L.Disk v) disk s → Adds (IsWhole v) (Out (seen L.Disk v) r.1) s (commands.Stop keep) r.0.items) }
+    ensures later { IfOk result (λ r. L.own disk ≤ L.own r.1) }
+    ensures memory { IfErr result (λ left. left ≡ disk) }
+{
+    match transcript::stop_line(alloc) {
+        Ok(lines) => Ok((lines, cycled(disk, keep.unwrap_or(0)))),
+        Err(_) => Err(disk),
+    }
+}
+
+/// The disk after a stop of the machine, with its fuse renewed.
+fn cycled<L: Disk>(disk: L, keep: u64) -> L
+    ensures left { L.tells → L.may_leave disk (L.told result) }
+    ensures durable { L.tells → Only (L.told result) (L.may_leave result) }
+    ensures fuse { L.fuses → L.passes result ≡ None }
+    ensures later { L.own disk ≤ L.own result }
+{
+    let mut disk = disk;
+    disk.power_cycle(keep);
+    disk.fuse(None);
+    disk
+}

@@ -1,0 +1,144 @@
+//! One line of a run.
+ghost use Rattle.std.specs.Prelude.{◌≡◌, ◌≤◌, ℕ, List, Option, IfErr};
+ghost use Rattle.wal_record.specs.declared.record.Record.{Record};
+ghost use Rattle.runner.specs.Lines.{IsBounded};
+ghost use Rattle.runner.specs.LogDisk.{View, IsWhole, seen};
+ghost use Rattle.runner.specs.Turns.{Turn};
+ghost use Rattle.runner.specs.Machine.{Out, In, Within};
+ghost use Rattle.runner.specs.Clause.{Between, TakesCommand, TurnedTo};
+ghost use Rattle.runner.specs.Causes.{LineCause, TurnedCause, IsCycled};
+
+use crate::at::{At, Stepped, disk_inside, disk_opened, step_inside};
+use crate::built::is_built;
+use crate::input::{Input, Next};
+use crate::life::OpenLife;
+use crate::opened::Opened;
+use crate::outside;
+use crate::status::Status;
+use media::{Disk, Sink, Source, Vault, write_all};
+use operators::Operators;
+use page_ops::Life;
+use script::{Command, command_of};
+use std::alloc::Global;
+
+/// What a line did: where the run is then, or how it ended.
+#[derive(Drop)]
+pub enum Turned<L, F> {
+    Goes { at: At<L, F> },
+    Ends { status: Status, disk: L },
+}
+
+/// One line where no life is open. The end of the input ends the run.
+pub fn turn_outside<S: Source, K: Sink, V: Vault, L: Disk>(
+    alloc: Global,
+    operators: &Operators,
+    input: &mut Input,
+    source: &mut S,
+    sink: &mut K,
+    vault: &mut V,
+    disk: L,
+) -> Turned<L, Opened<L>>
+    ensures turns { (v : View L.tells) (log : List Record) (left told : Option (List ℕ)) (turns : List Turn) → Between (IsWhole v) log (Out (seen L.Disk v) disk) left told input.old turns (S.left source.old) (K.told sink.old)
+        → TurnedTo (seen L.Disk v) log (λ life. In (seen L.Disk v) life.log.log life.standing) left told input.new turns (S.left source.new) (K.told sink.new) result }
+    ensures later { (S.faults source.old ≤ S.faults source.new) × (K.faults sink.old ≤ K.faults sink.new) }
+    ensures cause { TurnedCause L.Disk (λ life. life.log.log.device) disk (S.faults source.old) (S.faults source.new) (K.faults sink.old) (K.faults sink.new) result }
+    ensures vault { IsCycled V.tells V.told V.faults vault.old vault.new }
+{
+    let (command, line) = match next_command(alloc, input, source) {
+        Ok(Some(next)) => next,
+        Ok(None) => return Turned::Ends {
+            status: Status::Done,
+            disk,
+        },
+        Err(status) => return Turned::Ends { status, disk },
+    };
+    cycle(vault, &command);
+    match outside::step(alloc, operators, disk, &command, line) {
+        Stepped::Goes { lines, at } => match write_all(sink, &lines) {
+            Ok(()) => Turned::Goes { at },
+            Err(_) => Turned::Ends {
+                status: Status::SinkFault,
+                disk: disk_opened(at),
+            },
+        },
+        Stepped::Ends { status, disk } => Turned::Ends { status, disk },
+    }
+}
+
+/// One line within a life. The end of the input ends the run.
+pub fn turn_inside<'a, N: Life, S: Source, K: Sink, V: Vault, L: Disk>(
+    alloc: Global,
+    operators: &Operators,
+    input: &mut Input,
+    source: &mut S,
+    sink: &mut K,
+    vault: &mut V,
+    life: OpenLife<'a, N, L>,
+) -> Turned<L, OpenLife<'a, N, L>>
+    ensures turns { (v : View L.tells) (log : List Record) (left told : Option (List ℕ)) (turns : List Turn) → Between (IsWhole v) log (Within (seen L.Disk v) life.entry.log life.entry.leaf life.entry.transactions) left told input.old turns (S.left source.old) (K.told sink.old)
+        → TurnedTo (seen L.Disk v) log (λ life. Within (seen L.Disk v) life.log life.leaf life.transactions) left told input.new turns (S.left source.new) (K.told sink.new) result }
+    ensures later { (S.faults source.old ≤ S.faults source.new) × (K.faults sink.old ≤ K.faults sink.new) }
+    ensures cause { TurnedCause L.Disk (λ life. life.log.log.device) life.entry.log.log.device (S.faults source.old) (S.faults source.new) (K.faults sink.old) (K.faults sink.new) result }
+    ensures vault { IsCycled V.tells V.told V.faults vault.old vault.new }
+{
+    let (command, line) = match next_command(alloc, input, source) {
+        Ok(Some(next)) => next,
+        Ok(None) => return Turned::Ends {
+            status: Status::Done,
+            disk: life.log.into_device(),
+        },
+        Err(status) => return Turned::Ends {
+            status,
+            disk: life.log.into_device(),
+        },
+    };
+    cycle(vault, &command);
+    match step_inside(alloc, operators, life, &command, line) {
+        Stepped::Goes { lines, at } => match write_all(sink, &lines) {
+            Ok(()) => Turned::Goes { at },
+            Err(_) => Turned::Ends {
+                status: Status::SinkFault,
+                disk: disk_inside(at),
+            },
+        },
+        Stepped::Ends { status, disk } => Turned::Ends { status, disk },
+    }
+}
+
+/// A stop is one of the vault too.
+fn cycle<V: Vault>(vault: &mut V, command: &Command)
+    ensures { IsCycled V.tells V.told V.faults vault.old vault.new }
+{
+    match command {
+        Command::Stop { keep: _ } => vault.power_cycle(),
+        _ => {}
+    }
+}
+
+/// The command of the next line, and that line's number; none at the end of the input.
+fn next_command<S: Source>(
+    alloc: Global,
+    input: &mut Input,
+    source: &mut S,
+) -> Result<Option<(Command, u64)>, Status>
+    ensures most { IsBounded input.new }
+    ensures command { TakesCommand input.old input.new (S.left source.old) (S.left source.new) result }
+    ensures later { S.faults source.old ≤ S.faults source.new }
+    ensures cause { IfErr result (LineCause (S.faults source.old) (S.faults source.new)) }
+{
+    let line = input.lines() + 1;
+    let text = match input.next_line(alloc, source) {
+        Ok(Next::Line(text)) => text,
+        Ok(Next::End) => return Ok(None),
+        Ok(Next::Bad) => return Err(Status::Script { line }),
+        Err(status) => return Err(status),
+    };
+    if !is_built(&text) {
+        return Err(Status::NotBuilt { line });
+    }
+    match command_of(alloc, &text) {
+        Ok(Some(command)) => Ok(Some((command, line))),
+        Ok(None) => Err(Status::Script { line }),
+        Err(_) => Err(Status::Memory),
+    }
+}
