@@ -65,7 +65,15 @@ impl<'a, N: Life, L: Disk> OpenLife<'a, N, L> {
             sessions: _,
             maint: _,
         } = books;
-        let leaf = HeldLeaf::new(ground, front, pass, pages, found.page, found.head, log.last());
+        let leaf = HeldLeaf::new(
+            ground,
+            front,
+            pass,
+            pages,
+            found.page,
+            found.head,
+            log.last(),
+        );
         OpenLife {
             log,
             leaf,
