@@ -1,13 +1,12 @@
 //! A store that one thread owns.
 ghost use Rattle.std.specs.Prelude.{◌≡◌};
 
-use crate::counts::Counts;
 use crate::frames::Frames;
-use crate::history::History;
 use crate::seeing::see_page;
 use books::PageRight;
 use front::Pass;
 use page_ops::{Entered, Entering, Found, Ground, Group, Held, Life, Pages, Rights, Taken};
+use small_journal::{Counts, History};
 use std::alloc::Global;
 use std::sync::Wait;
 use store_model::{Fault, Lsn, PageNo, Pos};

@@ -8,6 +8,7 @@ use super::*;
 use books::{Book, Books, PageBook, PageRight};
 use front::Pass;
 use page_ops::{Entered, Entering, Ground, Group, Held, Life, Pages, Rights, Tokens, Unnamed};
+use small_journal::{Counts, History};
 use std::alloc::Global;
 use std::marker::Brand;
 use std::sync::Wait;

@@ -14,7 +14,7 @@ ghost use Rattle.page_ops.specs.Outcomes.{EntersGroup, IsFilledIn, OnEntered};
 ghost use Rattle.page_ops.specs.Seeing.{Enters, HasTotals, IsConsistent, IsMoment, Looks, known};
 ghost use Rattle.page_ops.specs.declared.outcome.Entered.TheVariants as entered;
 ghost use Rattle.store_model.specs.declared.fault.Fault.TheVariants as faults;
-ghost use Rattle.small_stores.specs.History.{AreKept, AsksPurge, EntersPurge, Opens, purge_entry};
+ghost use Rattle.small_journal.specs.History.{AreKept, AsksPurge, EntersPurge, Opens, purge_entry};
 
 use crate::counts::Counts;
 use books::{Books, MaintRight, PageRight, SessionRight};
@@ -44,7 +44,7 @@ pub struct History<'a, N: Life> {
 impl<'a, N: Life> Model for History<'a, N> {
     ghost use Rattle.std.specs.Prelude.{List};
     ghost use Rattle.wal_record.specs.declared.entry.Entry.{Entry};
-    ghost use Rattle.small_stores.specs.History.{IsKept};
+    ghost use Rattle.small_journal.specs.History.{IsKept};
 
     ghost Value = { List Entry };
 

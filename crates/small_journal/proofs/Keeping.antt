@@ -24,7 +24,7 @@ use Rattle.store_model.specs.Along as Along
 use Rattle.log_laws.proofs.Pending.{pending_change}
 use Rattle.life_laws.proofs.Start.{nothing_told, nothing_legal}
 use Rattle.page_ops.specs.Seeing.{IsConsistent, is_of_session, of_sessions}
-use Rattle.small_stores.specs.History.{Numbers, BooksOf, AreKept, IsKept, Opens, purge_entry}
+use Rattle.small_journal.specs.History.{Numbers, BooksOf, AreKept, IsKept, Opens, purge_entry}
 
 some_is : {A : Type 0} (a b : A) → Some a ≡ Some b → a ≡ b
 some_is a b e = cc e

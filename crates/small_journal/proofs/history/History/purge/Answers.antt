@@ -1,6 +1,6 @@
 use Rattle.std.proofs.Common.{sym, ◌∙◌}
-use Rattle.small_stores.proofs.Keeping.{kept_entered, ask_at, if_some}
-use Rattle.small_stores.proofs.history.History.purge.Goals as goal
+use Rattle.small_journal.proofs.Keeping.{kept_entered, ask_at, if_some}
+use Rattle.small_journal.proofs.history.History.purge.Goals as goal
 
 pub invariant_of-self : goal.invariant_of-self
 invariant_of-self g c =

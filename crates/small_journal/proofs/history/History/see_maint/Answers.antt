@@ -1,6 +1,6 @@
 use Rattle.std.proofs.Common.{ap, sym, ◌∙◌}
-use Rattle.small_stores.proofs.Keeping.{kept_maint}
-use Rattle.small_stores.proofs.history.History.see_maint.Goals as goal
+use Rattle.small_journal.proofs.Keeping.{kept_maint}
+use Rattle.small_journal.proofs.history.History.see_maint.Goals as goal
 
 pub invariant_of-self-in-Some-2 : goal.invariant_of-self-in-Some-2
 invariant_of-self-in-Some-2 g c =

@@ -1,6 +1,6 @@
 use Rattle.std.proofs.Common.{sym, ap, ◌∙◌}
-use Rattle.small_stores.proofs.Entering.{may_purge, at_moment, head_by, entered_group, on_entered, err_logs}
-use Rattle.small_stores.proofs.history.History.enter.Goals as goal
+use Rattle.small_journal.proofs.Entering.{may_purge, at_moment, head_by, entered_group, on_entered, err_logs}
+use Rattle.small_journal.proofs.history.History.enter.Goals as goal
 
 pub enter_purge-requires-clause-legal : goal.enter_purge-requires-clause-legal
 enter_purge-requires-clause-legal g c =
