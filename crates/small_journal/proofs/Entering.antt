@@ -61,7 +61,7 @@ at_moment opens entries sessions a a' s s' h x x' e claims log = subst (λ (y : 
 pub head_by : (opens : List Record → Type 0) (s h : List Entry) (x : Claims) (page prev : ℕ) → IsMoment opens s x h → x.a ≡ Some (record { page = page; lsn = prev }) → (opening : List Record) → opens opening → prev ≡ head (life_log opening h) page
 head_by opens s h x page prev m is = if_some (PageAgrees opens h) x.a (record { page = page; lsn = prev }) is m.rights.a
 
-same_end : (x : Option ℕ) → IfSome x (λ at. x ≡ Some at)
+pub same_end : (x : Option ℕ) → IfSome x (λ at. x ≡ Some at)
 same_end None = tt
 same_end (Some at) = refl
 

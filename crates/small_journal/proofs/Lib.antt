@@ -1,2 +1,7 @@
+pub mod Beginnings
+pub mod Commits
+pub mod Sessions
 pub mod Keeping
+pub mod Own
+pub mod Entries
 pub mod Entering

@@ -17,85 +17,83 @@ ghost use Rattle.store_model.specs.declared.fault.Fault.TheVariants as faults;
 ghost use Rattle.small_journal.specs.History.{AreKept, AsksPurge, EntersPurge, Opens, purge_entry};
 
 use crate::counts::Counts;
+use crate::stand::{Stand, add};
 use books::{Books, MaintRight, PageRight, SessionRight};
-use front::{Added, Board, Front, Pass};
+use front::{Front, Pass};
 use page_ops::{Entered, Entries, Ground, Group, Life, Rights, SessionEntries};
 use std::marker::{Brand, Model};
 use std::sync::ledger;
-use store_model::{Fault, Lsn, PageNo};
+use store_model::{Fault, Lsn, PageNo, TxId};
 use wal_record::{Entry, Purge, Record};
 
-const MOST: u64 = 1 << 62;
+// The bound of the counters, from which on nothing is begun.
+pub(crate) const MOST: u64 = 1 << 62;
 
 /// A journal that keeps nothing but numbers and books. Contracts see it as its history.
 #[derive(Drop)]
 pub struct History<'a, N: Life> {
-    last: Lsn,
-    count: u64,
-    pages: u32,
-    pending: u32,
-    ground: &'a Ground<N>,
-    front: Front<Entry, N>,
-    books: Books<N>,
-    entries: ledger::Book<Entries<N>>,
-    session_entries: ledger::Book<SessionEntries<N>>,
+    pub(crate) last: Lsn,
+    pub(crate) count: u64,
+    pub(crate) pages: u32,
+    pub(crate) pending: u32,
+    pub(crate) commits: u64,
+    pub(crate) next_session: u32,
+    pub(crate) next_tx: TxId,
+    pub(crate) live: u32,
+    pub(crate) stand: Stand<'a, N>,
 }
 
 impl<'a, N: Life> Model for History<'a, N> {
-    ghost use Rattle.std.specs.Prelude.{List};
+    ghost use Rattle.std.specs.Prelude.{List, IsSome};
     ghost use Rattle.wal_record.specs.declared.entry.Entry.{Entry};
     ghost use Rattle.small_journal.specs.History.{IsKept};
 
     ghost Value = { List Entry };
 
-    ghost view = { λ h. h.front };
+    ghost view = { λ h. h.stand.front };
 
-    ghost invariant = { λ h. IsKept N.opens h.front (record { last = h.last; entries = h.count; pages = h.pages; pending = h.pending }) (record { pages = h.books.pages; sessions = h.books.sessions; maint = h.books.maint }) h.entries.total h.session_entries.total };
-}
-
-// The front adds this purge of a page.
-fn add<N: Life, A: Added<Entry>>(
-    board: &Board<Entry, N>,
-    front: &mut Front<Entry, N>,
-    lsn: Lsn,
-    page: PageNo,
-    prev: Lsn,
-)
-    requires entry { A.entries ≡ purge_entry lsn page prev ∷ [] }
-    requires fits { length front.old + 1 < 2 ^ 64 }
-    ensures { front.new ≡ front.old ++ purge_entry lsn page prev ∷ [] }
-{
-    front.advance::<A>(board, 1);
+    ghost invariant = { λ h. IsSome h.stand.spare × IsKept N.opens h.stand.front (record { last = h.last; entries = h.count; pages = h.pages; pending = h.pending; commits = h.commits; session = h.next_session; tx = h.next_tx; live = h.live }) (record { pages = h.stand.books.pages; sessions = h.stand.books.sessions; maint = h.stand.books.maint }) h.stand.entries.total h.stand.session_entries.total };
 }
 
 impl<'a, N: Life> History<'a, N> {
-    /// The journal of an empty history, of a life that began with a log with these numbers of records, pages and pending
-    /// writes. The books have the rights to the pages.
+    /// The journal of an empty history, of a life that began with a log with these numbers of records, pages, pending
+    /// writes and commits, and with this number above all its transactions. The books have the rights to the pages, and no session.
     pub fn new(
         ground: &'a Ground<N>,
         front: Front<Entry, N>,
-        books: Books<N>,
+        mut books: Books<N>,
         entries: ledger::Book<Entries<N>>,
         session_entries: ledger::Book<SessionEntries<N>>,
         last: Lsn,
         pages: u32,
         pending: u32,
+        commits: u64,
+        next_tx: TxId,
     ) -> History<'a, N>
         requires empty { (front ≡ []) × (entries.total ≡ 0) × (session_entries.total ≡ 0) }
         requires books { AreKept N.opens [] (record { pages = books.pages; sessions = books.sessions; maint = books.maint }) }
-        requires opening { (opening : List Record) → N.opens opening → Opens opening last pages pending }
+        requires sessions { books.sessions ≡ [] }
+        requires opening { (opening : List Record) → N.opens opening → Opens opening last pages pending commits next_tx }
         ensures { result ≡ [] }
     {
+        let spare = SessionRight::of(books.sessions.open(&ground.tables.sessions, 0));
         History {
             last,
             count: 0,
             pages,
             pending,
-            ground,
-            front,
-            books,
-            entries,
-            session_entries,
+            commits,
+            next_session: 1,
+            next_tx,
+            live: 0,
+            stand: Stand {
+                ground,
+                front,
+                books,
+                spare: Some(spare),
+                entries,
+                session_entries,
+            },
         }
     }
 
@@ -104,7 +102,7 @@ impl<'a, N: Life> History<'a, N> {
         ensures length { result ≡ length self.old }
         ensures whole { counts.old.entries.parts ≡ N.entries.parts → result ≡ counts.old.entries.amount }
     {
-        self.entries.audit(&mut counts.entries);
+        self.stand.entries.audit(&mut counts.entries);
         self.count
     }
 
@@ -115,11 +113,12 @@ impl<'a, N: Life> History<'a, N> {
         ensures agrees { IfSome right.old (PageAgrees N.opens self.old) }
     {
         if let Some(old) = right.take() {
-            let lsn = old.lsn();
+            let (lsn, ground) = (old.lsn(), self.stand.ground);
             let same = self
+                .stand
                 .books
                 .pages
-                .set(&self.ground.tables.pages, old.into_right(), lsn, 0);
+                .set(&ground.tables.pages, old.into_right(), lsn, 0);
             *right = Some(PageRight::of(same));
         }
     }
@@ -131,9 +130,9 @@ impl<'a, N: Life> History<'a, N> {
         ensures agrees { IfSome right.old (SessionAgrees self.old) }
     {
         if let Some(old) = right.take() {
-            let (entries, tx) = (old.entries(), old.tx());
-            let same = self.books.sessions.set(
-                &self.ground.tables.sessions,
+            let (entries, tx, ground) = (old.entries(), old.tx(), self.stand.ground);
+            let same = self.stand.books.sessions.set(
+                &ground.tables.sessions,
                 old.into_right(),
                 entries,
                 tx,
@@ -149,17 +148,18 @@ impl<'a, N: Life> History<'a, N> {
         ensures agrees { IfSome right.old (MaintAgrees self.old) }
     {
         if let Some(old) = right.take() {
-            let lsn = old.lsn();
+            let (lsn, ground) = (old.lsn(), self.stand.ground);
             let same = self
+                .stand
                 .books
                 .maint
-                .set(&self.ground.tables.maint, old.into_right(), lsn, 0);
+                .set(&ground.tables.maint, old.into_right(), lsn, 0);
             *right = Some(MaintRight::of(same));
         }
     }
 
     // Shows the pass the whole history. The shares count what they counted.
-    fn look(&mut self, pass: &mut Pass<Entry, N>, counts: &mut Counts<N>)
+    pub(crate) fn look(&mut self, pass: &mut Pass<Entry, N>, counts: &mut Counts<N>)
         ensures same { self.new ≡ self.old }
         ensures counts { counts.new ≡ counts.old }
         ensures pass { pass.new.log ≡ self.old }
@@ -168,9 +168,10 @@ impl<'a, N: Life> History<'a, N> {
         ensures totals { HasTotals N.entries N.session_entries counts.old self.old }
         ensures fresh { IsOpen counts.old }
     {
-        self.front.meet(&self.ground.board, pass);
-        self.entries.audit(&mut counts.entries);
-        self.session_entries.audit(&mut counts.session_entries);
+        let ground = self.stand.ground;
+        self.stand.front.meet(&ground.board, pass);
+        self.stand.entries.audit(&mut counts.entries);
+        self.stand.session_entries.audit(&mut counts.session_entries);
     }
 
     /// As `Entering::see`.
@@ -208,20 +209,28 @@ impl<'a, N: Life> History<'a, N> {
         let Some(old) = right.take() else {
             unreachable!()
         };
-        if self.last >= MOST {
+        if self.last >= MOST || self.count >= MOST {
             *right = Some(old);
             return None;
         }
-        let (lsn, prev) = (self.last + 1, old.lsn());
+        let (lsn, prev, ground) = (self.last + 1, old.lsn(), self.stand.ground);
+        let entry = Entry::Rec {
+            lsn,
+            rec: Record::Purge(Purge {
+                page,
+                page_prev: prev,
+            }),
+        };
         let raised = self
+            .stand
             .books
             .pages
-            .set(&self.ground.tables.pages, old.into_right(), lsn, 0);
+            .set(&ground.tables.pages, old.into_right(), lsn, 0);
         *right = Some(PageRight::of(raised));
-        add::<N, Brand>(&self.ground.board, &mut self.front, lsn, page, prev);
+        add::<N, Brand>(&ground.board, &mut self.stand.front, &entry);
         self.last = lsn;
         self.count += 1;
-        self.entries.add(&mut counts.entries, 1);
+        self.stand.entries.add(&mut counts.entries, 1);
         Some(lsn)
     }
 
@@ -287,7 +296,7 @@ impl<'a, N: Life> History<'a, N> {
 
     /// What the threads of the life share.
     pub fn ground(&self) -> &Ground<N> {
-        self.ground
+        self.stand.ground
     }
 
     /// Shows the pass the history, and says nothing of it: what is asked for is kept nowhere.

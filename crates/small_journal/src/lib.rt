@@ -13,6 +13,8 @@
 
 mod counts;
 mod history;
+mod journaling;
+mod stand;
 
 pub use counts::Counts;
 pub use history::History;

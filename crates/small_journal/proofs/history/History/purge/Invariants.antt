@@ -1,6 +1,5 @@
 use Rattle.std.proofs.Common.{[], ◌∷◌}
-use Rattle.small_journal.specs.History.{purge_entry}
 use Rattle.small_journal.proofs.history.History.purge.Given as goal
 
 abbrev pub ghosts-add : goal.ghosts-add
-ghosts-add g a = record { entries = purge_entry a.lsn a.page a.prev ∷ [] }
+ghosts-add g a = record { entries = a.entry.now ∷ [] }
