@@ -5,7 +5,7 @@ ghost use Rattle.wal_record.specs.History.{life_log};
 ghost use Rattle.wal_record.specs.Legal.{MayDecline};
 ghost use Rattle.wal_record.specs.declared.record.Record.{Record};
 ghost use Rattle.wal_record.specs.declared.entry.Entry.{Entry};
-ghost use Rattle.page_ops.specs.Causes.{FailsToEnter, IsOpen, NoOther, OrTooMany};
+ghost use Rattle.page_ops.specs.Causes.{Ends, FailsToEnter, IsOpen, NoOther, OrTooMany};
 ghost use Rattle.page_ops.specs.Claims.{SessionAgrees, session_alone};
 ghost use Rattle.page_ops.specs.Outcomes.{Commits, IsCrowd, begun, recycle_point, refused};
 ghost use Rattle.page_ops.specs.Seeing.{Enters, IsMoment, Looks, known};
@@ -75,7 +75,7 @@ impl<'a, N: Life> History<'a, N> {
         ensures same { OnErr result (s.new ≡ s.old) }
         ensures crowd { IfErr result (IsCrowd pass.new.log) }
         ensures refused { IfErr result (FailsToEnter OrTooMany) }
-        ensures fresh { IsOpen counts.old × (counts.new.ended ≡ None) }
+        ensures ends { Ends N.opens N.log_faults counts.old counts.new pass.new.log result }
     {
         self.watch_session(s, pass, counts);
         if self.live == MOST_LIVE {
@@ -110,7 +110,7 @@ impl<'a, N: Life> History<'a, N> {
         ensures right { s.new ≡ record { session = s.old.session; entries = s.old.entries + length (refused s.old.session s.old.tx request result); tx = s.old.tx } }
         ensures place { IfOk result (λ pos. pos ≡ length pass.new.log) }
         ensures refused { IfErr result (FailsToEnter NoOther) }
-        ensures fresh { IsOpen counts.old × (counts.new.ended ≡ None) }
+        ensures ends { Ends N.opens N.log_faults counts.old counts.new pass.new.log result }
     {
         self.watch_session(s, pass, counts);
         if self.count >= MOST {

@@ -27,4 +27,6 @@ pub use seeing::{see_image, see_page};
 pub use shared::{JournalDesk, PageDesk, Store};
 
 #[cfg(test)]
+mod commit_tests;
+#[cfg(test)]
 mod tests;

@@ -171,15 +171,15 @@ fn page_with<N: Life>(
 
 // What a run begins with: a history, the pages, all shares, and a first pass. Page 1 is in its frame, the others are put away.
 #[derive(Drop)]
-struct Begun<'a, N: Life> {
-    history: History<'a, N>,
-    frames: Frames<N>,
-    counts: Counts<N>,
-    pass: Pass<Entry, N>,
+pub(crate) struct Begun<'a, N: Life> {
+    pub(crate) history: History<'a, N>,
+    pub(crate) frames: Frames<N>,
+    pub(crate) counts: Counts<N>,
+    pub(crate) pass: Pass<Entry, N>,
     ghost whole: { (counts.entries.parts ≡ 3) × (counts.session_entries.parts ≡ 3) × (counts.log_faults.parts ≡ 3) × (counts.vault_faults.parts ≡ 3) },
 }
 
-fn begin<'a, N: Life>(
+pub(crate) fn begin<'a, N: Life>(
     alloc: Global,
     ground: &'a Ground<N>,
     tokens: Tokens<N>,
@@ -219,7 +219,7 @@ fn begin<'a, N: Life>(
     let (_, log_faults) = log_faults.open();
     let (_, vault_faults) = vault_faults.open();
     Ok(Begun {
-        history: History::new(ground, front, books, entries_book, session_book, 0, 3, 0),
+        history: History::new(ground, front, books, entries_book, session_book, 0, 3, 0, 0, 1),
         frames: Frames::new(frames, away),
         counts: Counts {
             entries,
