@@ -5,3 +5,4 @@ pub mod Keeping
 pub mod Own
 pub mod Entries
 pub mod Entering
+pub mod Recycling

@@ -162,7 +162,8 @@ impl<'a, N: Life> History<'a, N> {
         }
     }
 
-    /// As `Journaling::recycle`. There is nothing to forget, so the log keeps what it has from its first record on.
+    /// As `Journaling::recycle`. Nothing is kept, and so nothing is forgotten: the log goes on from its first LSN.
+    #[tactic(auto, using(crate::proofs::Recycling::keeps_first))]
     pub fn recycle(&mut self, pass: &mut Pass<Entry, N>, counts: &mut Counts<N>) -> Lsn
         ensures seen { Looks N.opens N.entries N.session_entries counts.old pass.old.log counts.new pass.new.log }
         ensures kept { (opening : List Record) → N.opens opening → result ≤ recycle_point (life_log opening pass.new.log) }
@@ -170,7 +171,7 @@ impl<'a, N: Life> History<'a, N> {
         ensures fresh { IsOpen counts.old × (counts.new.ended ≡ None) }
     {
         self.flush(pass, counts);
-        0
+        1
     }
 
     /// As `Journaling::length`.
