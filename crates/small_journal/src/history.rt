@@ -131,12 +131,11 @@ impl<'a, N: Life> History<'a, N> {
     {
         if let Some(old) = right.take() {
             let (entries, tx, ground) = (old.entries(), old.tx(), self.stand.ground);
-            let same = self.stand.books.sessions.set(
-                &ground.tables.sessions,
-                old.into_right(),
-                entries,
-                tx,
-            );
+            let same = self
+                .stand
+                .books
+                .sessions
+                .set(&ground.tables.sessions, old.into_right(), entries, tx);
             *right = Some(SessionRight::of(same));
         }
     }
@@ -171,7 +170,9 @@ impl<'a, N: Life> History<'a, N> {
         let ground = self.stand.ground;
         self.stand.front.meet(&ground.board, pass);
         self.stand.entries.audit(&mut counts.entries);
-        self.stand.session_entries.audit(&mut counts.session_entries);
+        self.stand
+            .session_entries
+            .audit(&mut counts.session_entries);
     }
 
     /// As `Entering::see`.

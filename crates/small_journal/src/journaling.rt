@@ -58,7 +58,11 @@ impl<'a, N: Life> History<'a, N> {
         }
         let (number, ground) = (self.next_session, self.stand.ground);
         self.next_session += 1;
-        let right = self.stand.books.sessions.open(&ground.tables.sessions, number);
+        let right = self
+            .stand
+            .books
+            .sessions
+            .open(&ground.tables.sessions, number);
         Ok(SessionRight::of(right))
     }
 
@@ -149,7 +153,8 @@ impl<'a, N: Life> History<'a, N> {
         };
         let ground = self.stand.ground;
         self.stand.enter(&commit, s, tx, counts);
-        self.stand.enter(&Entry::Acked { session, tx }, s, 0, counts);
+        self.stand
+            .enter(&Entry::Acked { session, tx }, s, 0, counts);
         self.last = lsn;
         self.count += 2;
         self.commits += 1;

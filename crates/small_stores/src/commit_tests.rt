@@ -1,4 +1,4 @@
-//! Transactions begun and committed through either journal, by one thread and by two.
+//! Transactions begun and committed through either journal.
 ghost use Rattle.std.specs.Prelude.{◌≡◌, ◌<◌, List, []};
 ghost use Rattle.page_ops.specs.Names.{life_names};
 ghost use Rattle.wal_record.specs.declared.record.Record.{Record};
@@ -11,15 +11,13 @@ use std::alloc::Global;
 use std::marker::Brand;
 use std::sync::Wait;
 use std::test::*;
-use std::thread;
-use std::thread::Threads;
 use store_model::Fault;
 use wal_record::Entry;
 
 const TRIES: u32 = 100;
 
 // Begins two transactions of a session, one after the other's commit. The numbers of the commits.
-fn commit_twice<N: Life, J: Journaling<N>, R: Wait>(
+pub(crate) fn commit_twice<N: Life, J: Journaling<N>, R: Wait>(
     rt: &R,
     alloc: Global,
     journal: &mut J,
@@ -101,94 +99,5 @@ fn one_thread_commits(rt: HostRuntime) -> Result<(), Fail> {
     let (done, begun) = own_life::<Brand, HostRuntime>(&rt, rt.alloc(), unnamed)?;
     assert_eq!(rt; done, [1, 2, 6]);
     assert_eq!(rt; begun, 64);
-    Ok(())
-}
-
-// A thread of a shared store, and the numbers of its commits.
-#[derive(Drop)]
-struct Worker<'s, 'a, N: Life> {
-    journal: JournalDesk<'s, 'a, N>,
-    pass: Pass<Entry, N>,
-    numbers: [u64; 2],
-}
-
-fn commit_on<'s, 'a, N: Life>(rt: &impl Wait, alloc: Global, worker: &mut Worker<'s, 'a, N>) {
-    let Worker {
-        journal,
-        pass,
-        numbers,
-    } = worker;
-    if let Ok(done) = commit_twice(rt, alloc, journal, pass) {
-        *numbers = done;
-    }
-}
-
-// Two threads commit by one store. The sum of the numbers of their commits, and the length of the history.
-fn shared_run<N: Life + Send + Sync, R: Threads + Wait + Sync>(
-    rt: &R,
-    alloc: Global,
-    ground: &Ground<N>,
-    tokens: Tokens<N>,
-) -> Result<[u64; 2], Fault>
-    requires untold { (opening : List Record) → N.opens opening → ⊥ }
-    requires parts { (N.entries.parts ≡ 3) × (N.session_entries.parts ≡ 3) × (N.log_faults.parts ≡ 3) × (N.vault_faults.parts ≡ 3) }
-    requires front { tokens.front ≡ [] }
-    requires pages { tokens.books.pages ≡ [] }
-    requires sessions { tokens.books.sessions ≡ [] }
-    requires maint { tokens.books.maint ≡ [] }
-{
-    let Begun {
-        history,
-        frames,
-        mut counts,
-        mut pass,
-    } = begin(alloc, ground, tokens)?;
-    let (one, other) = (counts.split(), counts.split());
-    let store = Store::new(ground, history, frames);
-    let mut workers = vec![in alloc;
-        Worker {
-            journal: JournalDesk::new(&store, one),
-            pass: pass.copy(&ground.board),
-            numbers: [0, 0],
-        },
-        Worker {
-            journal: JournalDesk::new(&store, other),
-            pass: pass.copy(&ground.board),
-            numbers: [0, 0],
-        },
-    ]?;
-    thread::for_each_mut(
-        rt,
-        workers.as_mut_slice(),
-        2,
-        &|_, worker| commit_on(rt, alloc, worker),
-    );
-    let mut sum: u64 = 0;
-    for worker in workers {
-        let [first, second] = worker.numbers;
-        sum = sum.saturating_add(first).saturating_add(second);
-        counts.join(worker.journal.into_counts());
-    }
-    Ok([sum, store.into_history().total(&mut counts)])
-}
-
-fn shared_life<N: Life + Send + Sync, R: Threads + Wait + Sync>(
-    rt: &R,
-    alloc: Global,
-    unnamed: Unnamed,
-) -> Result<[u64; 2], Fault>
-    requires untold { (opening : List Record) → N.opens opening → ⊥ }
-    requires named { unnamed ≡ life_names N.count N.pages N.sessions N.maint N.entries N.session_entries N.log_faults N.vault_faults N.data_faults }
-    requires parts { (N.entries.parts ≡ 3) × (N.session_entries.parts ≡ 3) × (N.log_faults.parts ≡ 3) × (N.vault_faults.parts ≡ 3) }
-{
-    let (ground, tokens) = unnamed.split::<N>();
-    shared_run(rt, alloc, &ground, tokens)
-}
-
-#[test]
-fn two_threads_commit_by_one_store(rt: HostRuntime) -> Result<(), Fail> {
-    let unnamed = Unnamed::new(rt.alloc(), 3)?;
-    let done = shared_life::<Brand, HostRuntime>(&rt, rt.alloc(), unnamed)?;
-    assert_eq!(rt; done, [1 + 2 + 3 + 4, 12]);
     Ok(())
 }

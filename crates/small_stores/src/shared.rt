@@ -6,8 +6,8 @@ use crate::seeing::see_page;
 use books::{PageRight, SessionRight};
 use front::Pass;
 use page_ops::{
-    Committed, Entered, Entering, Found, Grant, Ground, Group, Held, Journaling, Life, Pages, Rights,
-    Survey, Taken,
+    Committed, Entered, Entering, Found, Grant, Ground, Group, Held, Journaling, Life, Pages,
+    Rights, Survey, Taken,
 };
 use small_journal::{Counts, History};
 use std::alloc::Global;

@@ -1,4 +1,4 @@
-use Rattle.small_stores.proofs.tests.two_threads_purge_the_pages_of_one_store.Given as goal
+use Rattle.small_stores.proofs.tests.two_threads_purge_and_commit_by_one_store.Given as goal
 
 abbrev pub ghosts-shared_life-N-Life : goal.ghosts-shared_life-N-Life
 ghosts-shared_life-N-Life g a =
