@@ -1,5 +1,5 @@
 //! Transactions begun and committed through either journal.
-ghost use Rattle.std.specs.Prelude.{◌≡◌, ◌<◌, List, []};
+ghost use Rattle.std.specs.Prelude.{◌≡◌, List, []};
 ghost use Rattle.page_ops.specs.Names.{life_names};
 ghost use Rattle.wal_record.specs.declared.record.Record.{Record};
 
@@ -53,7 +53,8 @@ fn begin_all<N: Life, J: Journaling<N>, R: Wait>(
     Ok(TRIES)
 }
 
-// One thread commits by its own journal. The numbers of the commits, the entries after them, and how many transactions then begin.
+// One thread commits by its own journal. The numbers of the commits, the entries after them, and how many transactions
+// then begin.
 fn own_run<N: Life, R: Wait>(
     rt: &R,
     alloc: Global,

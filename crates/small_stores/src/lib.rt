@@ -6,7 +6,7 @@
 //!
 //! - [`Frames`] is a table of pages: each is in its frame, put away, or in somebody's hand.
 //! - [`OwnJournal`] and [`OwnPages`] belong to one thread. A [`Store`] is shared, by a [`JournalDesk`] and a [`PageDesk`]
-//!   for each thread.
+//!   for each thread. Both journals meet `Entering` and `Journaling`, each call of the desk by one hold of the lock.
 //! - [`take`] takes a page from any pool: it waits for who holds it, brings it where it is in no frame, and tries again.
 //! - [`find_leaf`] goes from page 1 through branch rows and foster children to the leaf of a key. It lets a page go once the
 //!   next one is in hand, or to start again.
