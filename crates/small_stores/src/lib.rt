@@ -1,39 +1,32 @@
 //! Two small stores in memory behind the traits of `page_ops`, and a taking of pages and a descent that are generic
-//! over both.
+//! over both. Their journal is that of `small_journal`.
 //!
 //! They are no part of the product. They show that the contracts of the traits can be met, by one thread that owns all
 //! and by threads that share it under locks, and that they suffice for who works through them.
 //!
-//! - [`History`] is a journal that keeps numbers, books and the front, and no record: its history is what contracts see.
-//!   It enters the purges of pages by their rights; where it is asked for more it says that it wants memory.
 //! - [`Frames`] is a table of pages: each is in its frame, put away, or in somebody's hand.
 //! - [`OwnJournal`] and [`OwnPages`] belong to one thread. A [`Store`] is shared, by a [`JournalDesk`] and a [`PageDesk`]
-//!   for each thread.
+//!   for each thread. Both journals meet `Entering` and `Journaling`, each call of the desk by one hold of the lock.
 //! - [`take`] takes a page from any pool: it waits for who holds it, brings it where it is in no frame, and tries again.
 //! - [`find_leaf`] goes from page 1 through branch rows and foster children to the leaf of a key. It lets a page go once the
 //!   next one is in hand, or to start again.
-//!
-//! What holds of the journal behind its lock is `specs/History`: the history is consistent for every log with which the
-//! life may have begun, the books are those of the history, and the ledgers count its entries.
 #![tactic(auto)]
 
-mod counts;
 mod descent;
 mod frames;
-mod history;
 mod leaf;
 mod own;
 mod seeing;
 mod shared;
 
-pub use counts::Counts;
 pub use descent::take;
 pub use frames::Frames;
-pub use history::History;
 pub use leaf::{Way, find_leaf, way_from};
 pub use own::{OwnJournal, OwnPages};
 pub use seeing::{see_image, see_page};
 pub use shared::{JournalDesk, PageDesk, Store};
 
+#[cfg(test)]
+mod commit_tests;
 #[cfg(test)]
 mod tests;

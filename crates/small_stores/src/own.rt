@@ -1,17 +1,19 @@
 //! A store that one thread owns.
 ghost use Rattle.std.specs.Prelude.{◌≡◌};
 
-use crate::counts::Counts;
 use crate::frames::Frames;
-use crate::history::History;
 use crate::seeing::see_page;
-use books::PageRight;
+use books::{PageRight, SessionRight};
 use front::Pass;
-use page_ops::{Entered, Entering, Found, Ground, Group, Held, Life, Pages, Rights, Taken};
+use page_ops::{
+    Committed, Entered, Entering, Found, Grant, Ground, Group, Held, Journaling, Life, Pages,
+    Rights, Survey, Taken,
+};
+use small_journal::{Counts, History};
 use std::alloc::Global;
 use std::sync::Wait;
-use store_model::{Fault, Lsn, PageNo, Pos};
-use wal_record::Entry;
+use store_model::{Fault, KeyRange, Lsn, Mode, PageNo, Pos, Request, TxId};
+use wal_record::{Entry, Record};
 
 /// A journal that one thread owns.
 #[derive(Drop)]
@@ -97,6 +99,109 @@ impl<'a, N: Life> Entering<N> for OwnJournal<'a, N> {
     fn pending<R: Wait>(&mut self, _rt: &R, pass: &mut Pass<Entry, N>) -> u32 {
         let OwnJournal { history, counts } = self;
         history.pending(pass, counts)
+    }
+}
+
+impl<'a, N: Life> Journaling<N> for OwnJournal<'a, N> {
+    fn session<R: Wait>(
+        &mut self,
+        _rt: &R,
+        _alloc: Global,
+        pass: &mut Pass<Entry, N>,
+    ) -> Result<SessionRight<N>, Fault> {
+        let OwnJournal { history, counts } = self;
+        history.session(pass, counts)
+    }
+
+    fn begin<R: Wait>(
+        &mut self,
+        _rt: &R,
+        _alloc: Global,
+        s: &mut SessionRight<N>,
+        pass: &mut Pass<Entry, N>,
+    ) -> Result<TxId, Fault> {
+        let OwnJournal { history, counts } = self;
+        history.begin(s, pass, counts)
+    }
+
+    fn lock<R: Wait>(
+        &mut self,
+        _rt: &R,
+        _alloc: Global,
+        s: &mut SessionRight<N>,
+        _range: &KeyRange,
+        _mode: Mode,
+        pass: &mut Pass<Entry, N>,
+    ) -> Result<Grant, Fault> {
+        let OwnJournal { history, counts } = self;
+        history.watch_session(s, pass, counts);
+        Err(Fault::Memory)
+    }
+
+    fn last_open<R: Wait>(
+        &mut self,
+        _rt: &R,
+        _alloc: Global,
+        _tx: TxId,
+        pass: &mut Pass<Entry, N>,
+    ) -> Result<Option<Record>, Fault> {
+        let OwnJournal { history, counts } = self;
+        history.watch(pass, counts);
+        Err(Fault::Memory)
+    }
+
+    fn refuse<R: Wait>(
+        &mut self,
+        _rt: &R,
+        _alloc: Global,
+        s: &mut SessionRight<N>,
+        request: Request,
+        pass: &mut Pass<Entry, N>,
+    ) -> Result<Pos, Fault> {
+        let OwnJournal { history, counts } = self;
+        history.refuse(s, request, pass, counts)
+    }
+
+    fn commit<R: Wait>(
+        &mut self,
+        _rt: &R,
+        s: &mut SessionRight<N>,
+        pass: &mut Pass<Entry, N>,
+    ) -> Result<Committed, Fault> {
+        let OwnJournal { history, counts } = self;
+        Ok(history.commit(s, pass, counts))
+    }
+
+    fn survey<R: Wait>(
+        &mut self,
+        _rt: &R,
+        _alloc: Global,
+        pass: &mut Pass<Entry, N>,
+    ) -> Result<Survey, Fault> {
+        let OwnJournal { history, counts } = self;
+        history.watch(pass, counts);
+        Err(Fault::Memory)
+    }
+
+    fn recycle<R: Wait>(&mut self, _rt: &R, pass: &mut Pass<Entry, N>) -> Result<Lsn, Fault> {
+        let OwnJournal { history, counts } = self;
+        Ok(history.recycle(pass, counts))
+    }
+
+    fn length<R: Wait>(&mut self, _rt: &R, pass: &mut Pass<Entry, N>) -> Pos {
+        let OwnJournal { history, counts } = self;
+        history.length(pass, counts)
+    }
+
+    fn ended<R: Wait>(&mut self, _rt: &R) -> Option<Lsn> {
+        let _ = &self.counts.durable;
+        None
+    }
+
+    fn desk<R: Wait>(&mut self, _rt: &R, pass: &mut Pass<Entry, N>) -> Result<(), Fault> {
+        let OwnJournal { history, counts } = self;
+        history.watch(pass, counts);
+        Ok(())
     }
 }
 

@@ -1,17 +1,19 @@
 //! A store that threads share: the history behind one lock, the frames behind another.
 ghost use Rattle.std.specs.Prelude.{◌≡◌};
 
-use crate::counts::Counts;
 use crate::frames::Frames;
-use crate::history::History;
 use crate::seeing::see_page;
-use books::PageRight;
+use books::{PageRight, SessionRight};
 use front::Pass;
-use page_ops::{Entered, Entering, Found, Ground, Group, Held, Life, Pages, Rights, Taken};
+use page_ops::{
+    Committed, Entered, Entering, Found, Grant, Ground, Group, Held, Journaling, Life, Pages,
+    Rights, Survey, Taken,
+};
+use small_journal::{Counts, History};
 use std::alloc::Global;
 use std::sync::{Condvar, Mutex, Wait};
-use store_model::{Fault, Lsn, PageNo, Pos};
-use wal_record::Entry;
+use store_model::{Fault, KeyRange, Lsn, Mode, PageNo, Pos, Request, TxId};
+use wal_record::{Entry, Record};
 
 /// What the threads of a life share. Neither lock is held while the other is taken.
 #[derive(Drop)]
@@ -136,6 +138,109 @@ impl<'s, 'a, N: Life> Entering<N> for JournalDesk<'s, 'a, N> {
     fn pending<R: Wait>(&mut self, rt: &R, pass: &mut Pass<Entry, N>) -> u32 {
         let JournalDesk { store, counts } = self;
         store.history.lock(rt).pending(pass, counts)
+    }
+}
+
+impl<'s, 'a, N: Life> Journaling<N> for JournalDesk<'s, 'a, N> {
+    fn session<R: Wait>(
+        &mut self,
+        rt: &R,
+        _alloc: Global,
+        pass: &mut Pass<Entry, N>,
+    ) -> Result<SessionRight<N>, Fault> {
+        let JournalDesk { store, counts } = self;
+        store.history.lock(rt).session(pass, counts)
+    }
+
+    fn begin<R: Wait>(
+        &mut self,
+        rt: &R,
+        _alloc: Global,
+        s: &mut SessionRight<N>,
+        pass: &mut Pass<Entry, N>,
+    ) -> Result<TxId, Fault> {
+        let JournalDesk { store, counts } = self;
+        store.history.lock(rt).begin(s, pass, counts)
+    }
+
+    fn lock<R: Wait>(
+        &mut self,
+        rt: &R,
+        _alloc: Global,
+        s: &mut SessionRight<N>,
+        _range: &KeyRange,
+        _mode: Mode,
+        pass: &mut Pass<Entry, N>,
+    ) -> Result<Grant, Fault> {
+        let JournalDesk { store, counts } = self;
+        store.history.lock(rt).watch_session(s, pass, counts);
+        Err(Fault::Memory)
+    }
+
+    fn last_open<R: Wait>(
+        &mut self,
+        rt: &R,
+        _alloc: Global,
+        _tx: TxId,
+        pass: &mut Pass<Entry, N>,
+    ) -> Result<Option<Record>, Fault> {
+        let JournalDesk { store, counts } = self;
+        store.history.lock(rt).watch(pass, counts);
+        Err(Fault::Memory)
+    }
+
+    fn refuse<R: Wait>(
+        &mut self,
+        rt: &R,
+        _alloc: Global,
+        s: &mut SessionRight<N>,
+        request: Request,
+        pass: &mut Pass<Entry, N>,
+    ) -> Result<Pos, Fault> {
+        let JournalDesk { store, counts } = self;
+        store.history.lock(rt).refuse(s, request, pass, counts)
+    }
+
+    fn commit<R: Wait>(
+        &mut self,
+        rt: &R,
+        s: &mut SessionRight<N>,
+        pass: &mut Pass<Entry, N>,
+    ) -> Result<Committed, Fault> {
+        let JournalDesk { store, counts } = self;
+        Ok(store.history.lock(rt).commit(s, pass, counts))
+    }
+
+    fn survey<R: Wait>(
+        &mut self,
+        rt: &R,
+        _alloc: Global,
+        pass: &mut Pass<Entry, N>,
+    ) -> Result<Survey, Fault> {
+        let JournalDesk { store, counts } = self;
+        store.history.lock(rt).watch(pass, counts);
+        Err(Fault::Memory)
+    }
+
+    fn recycle<R: Wait>(&mut self, rt: &R, pass: &mut Pass<Entry, N>) -> Result<Lsn, Fault> {
+        let JournalDesk { store, counts } = self;
+        Ok(store.history.lock(rt).recycle(pass, counts))
+    }
+
+    fn length<R: Wait>(&mut self, rt: &R, pass: &mut Pass<Entry, N>) -> Pos {
+        let JournalDesk { store, counts } = self;
+        store.history.lock(rt).length(pass, counts)
+    }
+
+    fn ended<R: Wait>(&mut self, _rt: &R) -> Option<Lsn> {
+        let _ = &self.counts.durable;
+        None
+    }
+
+    fn desk<R: Wait>(&mut self, rt: &R, pass: &mut Pass<Entry, N>) -> Result<(), Fault> {
+        let JournalDesk { store, counts } = self;
+        store.history.lock(rt).watch(pass, counts);
+        Ok(())
     }
 }
 

@@ -1,13 +1,15 @@
-//! Pages taken, purged and put back through either store, by one thread and by two.
+//! Pages taken, purged and put back through either store, by one thread and by two. The two also commit.
 ghost use Rattle.std.specs.Prelude.{◌≡◌, ◌<◌, ◌≤◌, List, [], Some, None, vec_len, length, IfOk, IfSome};
 ghost use Rattle.page_ops.specs.Names.{life_names};
 ghost use Rattle.wal_record.specs.State.{KeepsState};
 ghost use Rattle.wal_record.specs.declared.record.Record.{Record};
 
 use super::*;
+use crate::commit_tests::commit_twice;
 use books::{Book, Books, PageBook, PageRight};
 use front::Pass;
 use page_ops::{Entered, Entering, Ground, Group, Held, Life, Pages, Rights, Tokens, Unnamed};
+use small_journal::{Counts, History};
 use std::alloc::Global;
 use std::marker::Brand;
 use std::sync::Wait;
@@ -170,15 +172,15 @@ fn page_with<N: Life>(
 
 // What a run begins with: a history, the pages, all shares, and a first pass. Page 1 is in its frame, the others are put away.
 #[derive(Drop)]
-struct Begun<'a, N: Life> {
-    history: History<'a, N>,
-    frames: Frames<N>,
-    counts: Counts<N>,
-    pass: Pass<Entry, N>,
+pub(crate) struct Begun<'a, N: Life> {
+    pub(crate) history: History<'a, N>,
+    pub(crate) frames: Frames<N>,
+    pub(crate) counts: Counts<N>,
+    pub(crate) pass: Pass<Entry, N>,
     ghost whole: { (counts.entries.parts ≡ 3) × (counts.session_entries.parts ≡ 3) × (counts.log_faults.parts ≡ 3) × (counts.vault_faults.parts ≡ 3) },
 }
 
-fn begin<'a, N: Life>(
+pub(crate) fn begin<'a, N: Life>(
     alloc: Global,
     ground: &'a Ground<N>,
     tokens: Tokens<N>,
@@ -218,7 +220,18 @@ fn begin<'a, N: Life>(
     let (_, log_faults) = log_faults.open();
     let (_, vault_faults) = vault_faults.open();
     Ok(Begun {
-        history: History::new(ground, front, books, entries_book, session_book, 0, 3, 0),
+        history: History::new(
+            ground,
+            front,
+            books,
+            entries_book,
+            session_book,
+            0,
+            3,
+            0,
+            0,
+            1,
+        ),
         frames: Frames::new(frames, away),
         counts: Counts {
             entries,
@@ -278,13 +291,14 @@ fn one_thread_purges_its_pages(rt: HostRuntime) -> Result<(), Fail> {
     Ok(())
 }
 
-// A thread of a shared store.
+// A thread of a shared store, how many purges it entered, and the sum of the numbers of its commits.
 #[derive(Drop)]
 struct Worker<'s, 'a, N: Life> {
     journal: JournalDesk<'s, 'a, N>,
     pages: PageDesk<'s, 'a, N>,
     pass: Pass<Entry, N>,
     entered: u64,
+    numbers: u64,
 }
 
 fn work_on<'s, 'a, N: Life>(rt: &impl Wait, alloc: Global, worker: &mut Worker<'s, 'a, N>)
@@ -295,6 +309,7 @@ fn work_on<'s, 'a, N: Life>(rt: &impl Wait, alloc: Global, worker: &mut Worker<'
         pages,
         pass,
         entered,
+        numbers,
     } = worker;
     if Pages::<N, JournalDesk<'s, 'a, N>>::out(pages) > 0 {
         return;
@@ -302,15 +317,19 @@ fn work_on<'s, 'a, N: Life>(rt: &impl Wait, alloc: Global, worker: &mut Worker<'
     if let Ok(done) = work(rt, alloc, pages, journal, pass) {
         *entered = done;
     }
+    if let Ok(done) = commit_twice(rt, alloc, journal, pass) {
+        *numbers = done[0].saturating_add(done[1]);
+    }
 }
 
-// Two threads work on one store. What they entered, and the length of the history.
+// Two threads work on one store. How many purges they entered, the sum of the numbers of their commits, and the length
+// of the history.
 fn shared_run<N: Life + Send + Sync, R: Threads + Wait + Sync>(
     rt: &R,
     alloc: Global,
     ground: &Ground<N>,
     tokens: Tokens<N>,
-) -> Result<[u64; 2], Fault>
+) -> Result<[u64; 3], Fault>
     requires untold { (opening : List Record) → N.opens opening → ⊥ }
     requires parts { (N.entries.parts ≡ 3) × (N.session_entries.parts ≡ 3) × (N.log_faults.parts ≡ 3) × (N.vault_faults.parts ≡ 3) }
     requires front { tokens.front ≡ [] }
@@ -332,12 +351,14 @@ fn shared_run<N: Life + Send + Sync, R: Threads + Wait + Sync>(
             pages: PageDesk::new(&store),
             pass: pass.copy(&ground.board),
             entered: 0,
+            numbers: 0,
         },
         Worker {
             journal: JournalDesk::new(&store, other),
             pages: PageDesk::new(&store),
             pass: pass.copy(&ground.board),
             entered: 0,
+            numbers: 0,
         },
     ]?;
     thread::for_each_mut(
@@ -348,19 +369,20 @@ fn shared_run<N: Life + Send + Sync, R: Threads + Wait + Sync>(
             requires { (opening : List Record) → N.opens opening → ⊥ }
         { work_on(rt, alloc, worker) },
     );
-    let mut entered: u64 = 0;
+    let (mut entered, mut numbers): (u64, u64) = (0, 0);
     for worker in workers {
         entered = entered.saturating_add(worker.entered);
+        numbers = numbers.saturating_add(worker.numbers);
         counts.join(worker.journal.into_counts());
     }
-    Ok([entered, store.into_history().total(&mut counts)])
+    Ok([entered, numbers, store.into_history().total(&mut counts)])
 }
 
 fn shared_life<N: Life + Send + Sync, R: Threads + Wait + Sync>(
     rt: &R,
     alloc: Global,
     unnamed: Unnamed,
-) -> Result<[u64; 2], Fault>
+) -> Result<[u64; 3], Fault>
     requires untold { (opening : List Record) → N.opens opening → ⊥ }
     requires named { unnamed ≡ life_names N.count N.pages N.sessions N.maint N.entries N.session_entries N.log_faults N.vault_faults N.data_faults }
     requires parts { (N.entries.parts ≡ 3) × (N.session_entries.parts ≡ 3) × (N.log_faults.parts ≡ 3) × (N.vault_faults.parts ≡ 3) }
@@ -370,9 +392,9 @@ fn shared_life<N: Life + Send + Sync, R: Threads + Wait + Sync>(
 }
 
 #[test]
-fn two_threads_purge_the_pages_of_one_store(rt: HostRuntime) -> Result<(), Fail> {
+fn two_threads_purge_and_commit_by_one_store(rt: HostRuntime) -> Result<(), Fail> {
     let unnamed = Unnamed::new(rt.alloc(), 3)?;
     let done = shared_life::<Brand, HostRuntime>(&rt, rt.alloc(), unnamed)?;
-    assert_eq!(rt; done, [200, 200]);
+    assert_eq!(rt; done, [200, 1 + 2 + 3 + 4, 212]);
     Ok(())
 }

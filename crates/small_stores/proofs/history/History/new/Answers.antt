@@ -1,5 +1,0 @@
-use Rattle.small_stores.proofs.Keeping.{kept_new}
-use Rattle.small_stores.proofs.history.History.new.Goals as goal
-
-pub invariant_of-result : goal.invariant_of-result
-invariant_of-result g c = rw (c.requires.empty.0, c.requires.empty.1, c.requires.empty.2) (kept_new _ _ _ _ _ c.requires.books c.requires.opening)

@@ -1,6 +1,0 @@
-use Rattle.std.proofs.Common.{[], ◌∷◌}
-use Rattle.small_stores.specs.History.{purge_entry}
-use Rattle.small_stores.proofs.history.History.purge.Given as goal
-
-abbrev pub ghosts-add : goal.ghosts-add
-ghosts-add g a = record { entries = purge_entry a.lsn a.page a.prev ∷ [] }
