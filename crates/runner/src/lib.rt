@@ -1,10 +1,10 @@
 //! Runs a script of commands over a store, and prints its transcript.
 //!
-//! The way of a line: `input` reads it, `script` says which command it spells, `at` carries it out, in `outside` or in
-//! `life`, `print` has the lines that answer it, and `run` writes them before it reads on. A run is a row of lives, each
-//! from an `open` to a `stop` or to the end of the run; a life is a value that owns what it needs, with the log disk, and
-//! between two lives there is the log disk alone. The log disk is in a fuse, which lines arm and renew, and which a stop
-//! renews.
+//! The way of a line: `input` reads it, `script` says which command it spells, `turns` has it carried out, in `outside` or
+//! in `life`, and writes the lines that answer it before it reads on. A run is a row of lives, each from an `open` to a
+//! `stop` or to the end of the run. A life is a value that owns what it needs: the log with its disk, and the page in hand
+//! over the history of the life, under a name that `living` picks. Between two lives there is the log disk alone. It is in
+//! a fuse, which lines arm and renew, and which a stop renews.
 //!
 //! The layer's promise is the clause `headline` of [`run_words`]. There are turns (`specs/Turns`), each a command with the
 //! entries that it adds to the history of its life. Their commands are those of the lines read, each fits behind those
@@ -17,8 +17,8 @@
 //! What a disk tells is said twice: of disks that tell, with what they hold, and of all, with the form of the transcript
 //! alone. Each clause is universal over these views (`View` in `specs/LogDisk`).
 //!
-//! Only the loops in `run` speak of turns; the commands in `outside` and `life` are universal over the `Stage` that turns
-//! leave (`specs/Machine`), and see neither source nor sink.
+//! Only `run`, `living` and `turns` speak of turns; the commands in `outside` and `life` are universal over the `Stage` that
+//! turns leave (`specs/Machine`), and see neither source nor sink.
 #![tactic(auto)]
 
 mod at;
