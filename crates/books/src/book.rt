@@ -1,3 +1,4 @@
+//! A book: a list of entries, with one right to each.
 ghost use Rattle.std.specs.Prelude.{◌≡◌, [], ◌∷◌, ◌++◌, Some, None};
 ghost use Rattle.books.specs.Booking.{entry, entry_of, replaced, keeper};
 
@@ -91,7 +92,7 @@ impl<B: BookName> Book<B> {
     }
 }
 
-// Adds the entry, to which the book's seat then has the right.
+/// Adds the entry, to which the book's seat then has the right.
 fn add<B: BookName, W: Written>(table: &BookTable<B>, seat: &mut Place, entry: BookEntry)
     requires written { W.entry ≡ entry }
     requires named { seat.old.table_id ≡ B.book }
@@ -103,7 +104,7 @@ fn add<B: BookName, W: Written>(table: &BookTable<B>, seat: &mut Place, entry: B
     table.table.shared.load::<Add<W>>(seat, 0);
 }
 
-// The entry to which the book's seat has the right is the book's, and its values become these.
+/// The entry to which the book's seat has the right is the book's, and its values become these.
 fn change<B: BookName, W: Written>(
     table: &BookTable<B>,
     seat: &mut Place,
@@ -127,7 +128,7 @@ fn change<B: BookName, W: Written>(
     }
 }
 
-// The right to the entry, which the book's seat had.
+/// The right to the entry, which the book's seat had.
 fn give_out<B: BookName>(table: &BookTable<B>, seat: &mut Place, entry: BookEntry) -> Right<B>
     requires named { seat.old.table_id ≡ B.book }
     requires keeps { seat.old.me ≡ (keeper seat.old.me.0.entries (Some entry), []) }

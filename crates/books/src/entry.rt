@@ -1,3 +1,5 @@
+//! What a book holds.
+
 /// An entry of a book: a number and two values.
 #[derive(Clone, Copy)]
 pub struct BookEntry {

@@ -1,3 +1,4 @@
+//! The right to an entry of a book.
 ghost use Rattle.std.specs.Prelude.{◌≡◌};
 
 use crate::book::BookName;

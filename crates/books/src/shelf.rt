@@ -1,3 +1,4 @@
+//! The three books of a life, and how they get their names.
 ghost use Rattle.std.specs.Prelude.{◌≡◌, []};
 
 use crate::book::{Book, BookName, BookTable};

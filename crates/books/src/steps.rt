@@ -17,7 +17,7 @@ impl TableRule<u8, View, ()> for Booking {
     ghost first = { λ _. keeper [] None };
 }
 
-// No slot is used, so the type of a slot's value is any.
+/// No slot is used, so the type of a slot's value is any.
 pub(crate) type Place = Seat<u8, View>;
 
 /// The entry that one step writes. The call that makes the step picks it.
@@ -33,7 +33,7 @@ impl Written for Brand {
     ghost entry = { entry 0 0 0 };
 }
 
-// The entry of W is added, and the book's seat has the right to it.
+/// The entry of W is added, and the book's seat has the right to it.
 pub(crate) struct Add<W> {
     written: PhantomData<W>,
 }
@@ -44,7 +44,7 @@ impl<W: Written> Play<u8, View> for Add<W> {
     ghost then = { Adds W.entry };
 }
 
-// The entry to which the book's seat has the right is the book's, and becomes the entry of W.
+/// The entry to which the book's seat has the right is the book's, and becomes the entry of W.
 pub(crate) struct Change<W> {
     written: PhantomData<W>,
 }
@@ -55,7 +55,7 @@ impl<W: Written> Play<u8, View> for Change<W> {
     ghost then = { Changes W.entry };
 }
 
-// A right goes out of the book's seat, and comes back into it.
+/// A right goes out of the book's seat, and comes back into it.
 pub(crate) struct Claim;
 
 impl Split<View> for Claim {

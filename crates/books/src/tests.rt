@@ -1,3 +1,4 @@
+//! Rights handed from thread to thread.
 ghost use Rattle.std.specs.Prelude.{◌≡◌};
 
 use super::*;
@@ -10,7 +11,7 @@ fn a_new_shelf(rt: HostRuntime) -> Result<(), Fail> {
     Ok(())
 }
 
-// A page's right, after each of three changes of its entry, between entries of other pages.
+/// A page's right, after each of three changes of its entry, between entries of other pages.
 fn three_changes<N: BookNames>(shelf: Shelf) -> [(u32, u64); 3]
     requires pages { shelf.pages ≡ N.pages }
     requires sessions { shelf.sessions ≡ N.sessions }

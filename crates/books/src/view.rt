@@ -1,3 +1,4 @@
+//! What is known of a book's word.
 use crate::entry::BookEntry;
 use std::collections::LinkedList;
 

@@ -1,8 +1,10 @@
+//! A count with the list of what was counted, and how it gets its name.
 ghost use Rattle.std.specs.Prelude.{◌≡◌, []};
 
 use crate::front::Front;
+use crate::mark::Mark;
 use crate::pass::Pass;
-use crate::steps::{Counting, Halve, Place};
+use crate::steps::{Counting, Halve, Part, Place};
 use crate::view::View;
 use atomic_table::Table;
 use std::alloc::Global;
@@ -32,13 +34,13 @@ pub struct Count<E> {
 impl<E> Model for Count<E> {
     ghost use Rattle.std.specs.Prelude.{◌≡◌, []};
     ghost use Rattle.atomic_table.specs.Seated.{TableId};
-    ghost use Rattle.front.specs.Counting.{leader};
+    ghost use Rattle.front.specs.Counting.{beginner};
 
     ghost Value = { TableId };
 
     ghost view = { λ c. c.table.shared.table_id };
 
-    ghost invariant = { λ c. (c.table.shared.table_id.words ≡ 1) × (c.seat.table_id ≡ c.table.shared.table_id) × (c.seat.me ≡ (leader [] [], [])) };
+    ghost invariant = { λ c. (c.table.shared.table_id.words ≡ 2) × (c.seat.table_id ≡ c.table.shared.table_id) × (c.seat.me ≡ (beginner, [])) };
 }
 
 /// The word of the count that N names, which threads share.
@@ -55,30 +57,32 @@ impl<E, N: CountName> Model for Board<E, N> {
 
     ghost view = { λ _. tt };
 
-    ghost invariant = { λ b. (b.table.shared.table_id ≡ N.count) × (b.table.shared.table_id.words ≡ 1) };
+    ghost invariant = { λ b. (b.table.shared.table_id ≡ N.count) × (b.table.shared.table_id.words ≡ 2) };
 }
 
 impl<E> Count<E> {
     /// A count of 0.
     pub fn new(alloc: Global) -> Result<Count<E>, Memory> {
-        match Table::of_words(alloc, &[0], &()) {
+        match Table::of_words(alloc, &[0, 0], &()) {
             Ok((table, seat)) => Ok(Count { table, seat }),
             Err(_) => Err(Memory),
         }
     }
 
-    /// The word to share, the one front, and a first pass. The list is empty.
-    pub fn split<N: CountName>(self) -> (Board<E, N>, Front<E, N>, Pass<E, N>)
+    /// The words to share, the one front, the one mark, and a first pass. The list is empty, and the durable number 0.
+    pub fn split<N: CountName>(self) -> (Board<E, N>, Front<E, N>, Mark<E, N>, Pass<E, N>)
         requires named { self ≡ N.count }
         ensures front { result.1 ≡ [] }
-        ensures pass { result.2.log ≡ [] }
+        ensures mark { result.2 ≡ 0 }
+        ensures pass { result.3 ≡ record { log = []; durable = 0 } }
     {
         let Count { table, mut seat } = self;
+        let mark = Mark::at(table.shared.split_seat::<Part>(&mut seat));
         let pass = Pass::at(table.shared.split_seat::<Halve>(&mut seat));
         let board = Board {
             table,
             name: PhantomData,
         };
-        (board, Front::at(seat), pass)
+        (board, Front::at(seat), mark, pass)
     }
 }

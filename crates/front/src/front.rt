@@ -1,4 +1,5 @@
-ghost use Rattle.std.specs.Prelude.{◌≡◌, ◌+◌, ◌^◌, ◌<◌, List, [], ◌++◌, length};
+//! Who adds to the list.
+ghost use Rattle.std.specs.Prelude.{◌≡◌, ◌+◌, ◌^◌, ◌<◌, ◌≤◌, List, [], ◌++◌, length};
 ghost use mathlib.Core.List.{IsPrefix};
 ghost use Rattle.front.specs.Counting.{leader};
 
@@ -31,13 +32,13 @@ impl<E, N: CountName> Model for Front<E, N> {
 
     ghost view = { λ f. f.seat.me.0.seen };
 
-    ghost invariant = { λ f. (f.seat.table_id ≡ N.count) × (f.seat.me ≡ (leader f.seat.me.0.seen [], [])) };
+    ghost invariant = { λ f. (f.seat.table_id ≡ N.count) × (f.seat.me ≡ (leader f.seat.me.0.seen [] f.seat.me.0.durable 0, [])) };
 }
 
 impl<E, N: CountName> Front<E, N> {
     pub(crate) fn at(seat: Place<E>) -> Front<E, N>
         requires named { seat.table_id ≡ N.count }
-        requires leads { seat.me ≡ (leader seat.me.0.seen [], []) }
+        requires leads { seat.me ≡ (leader seat.me.0.seen [] seat.me.0.durable 0, []) }
         ensures { result ≡ seat.me.0.seen }
     {
         Front {
@@ -58,18 +59,20 @@ impl<E, N: CountName> Front<E, N> {
             .fetch_add::<Advance<A>>(&mut self.seat, 0, n);
     }
 
-    /// The pass has then seen exactly the whole list, which begins with all that it had seen before.
+    /// The pass has then seen exactly the whole list, which begins with all that it had seen before. The durable number that
+    /// it has seen doesn't fall.
     pub fn meet(&mut self, board: &Board<E, N>, pass: &mut Pass<E, N>)
         ensures list { self.new ≡ self.old }
         ensures seen { pass.new.log ≡ self.old }
         ensures before { IsPrefix pass.old.log self.old }
+        ensures durable { pass.old.durable ≤ pass.new.durable }
     {
         self.check(board, pass.copy(board));
         let known = Pass::at(board.table.shared.split_seat::<Halve>(&mut self.seat));
         pass.learn(board, known);
     }
 
-    // The list begins with all that the pass had seen.
+    /// The list begins with all that the pass had seen.
     fn check(&mut self, board: &Board<E, N>, pass: Pass<E, N>)
         ensures list { self.new ≡ self.old }
         ensures before { IsPrefix pass.log self.old }

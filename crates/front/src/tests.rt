@@ -1,4 +1,5 @@
-ghost use Rattle.std.specs.Prelude.{◌≡◌, ◌+◌, ◌^◌, ◌<◌, [], ◌∷◌, length, vec_len};
+//! A list that grows beside a thread that looks at it.
+ghost use Rattle.std.specs.Prelude.{◌≡◌, ◌+◌, ◌^◌, ◌<◌, ◌≤◌, [], ◌∷◌, length, vec_len};
 
 use super::*;
 use std::alloc::{AllocError, Global};
@@ -20,6 +21,7 @@ fn a_new_count(rt: HostRuntime) -> Result<(), Fail> {
 #[test]
 fn tokens_take_no_bytes(rt: HostRuntime) {
     assert_eq!(rt; size_of::<Front<u8, Brand>>(), 0);
+    assert_eq!(rt; size_of::<Mark<u8, Brand>>(), 0);
     assert_eq!(rt; size_of::<Pass<u8, Brand>>(), 0);
 }
 
@@ -30,7 +32,7 @@ fn add<N: CountName, A: Added<u8>>(board: &Board<u8, N>, front: &mut Front<u8, N
     front.advance::<A>(board, 1);
 }
 
-// Adds an entry in each round, and looks.
+/// Adds an entry in each round, and looks.
 fn work<N: CountName>(
     rt: &impl Wait,
     board: &Board<u8, N>,
@@ -46,7 +48,7 @@ fn work<N: CountName>(
     }
 }
 
-// Two threads add to one list. What each of their passes sees once they met, and once it met the front.
+/// Two threads add to one list. What each of their passes sees once they met, and once it met the front.
 fn on_board<'a, N: CountName + Send + Sync, R: Threads + Wait + Sync>(
     rt: &R,
     alloc: Global,
@@ -81,7 +83,7 @@ fn two_threads<N: CountName + Send + Sync, R: Threads + Wait + Sync>(
 ) -> Result<[u64; 2], AllocError>
     requires named { count ≡ N.count }
 {
-    let (board, front, pass) = count.split::<N>();
+    let (board, front, _, pass) = count.split::<N>();
     on_board(rt, alloc, &board, front, pass)
 }
 
@@ -90,5 +92,33 @@ fn two_threads_end_with_the_whole_list(rt: HostRuntime) -> Result<(), Fail> {
     let count = Count::new(rt.alloc())?;
     let seen = two_threads::<Brand, HostRuntime>(&rt, rt.alloc(), count)?;
     assert_eq!(rt; seen, [2 * ROUNDS, 2 * ROUNDS]);
+    Ok(())
+}
+
+/// The number that a pass has seen once 7 is stored, and the one that a second pass has seen once it met the mark.
+fn on_mark<'a, N: CountName>(
+    board: &'a Board<u8, N>,
+    mut mark: Mark<u8, N>,
+    mut pass: Pass<u8, N>,
+) -> [u64; 2]
+    requires low { mark ≤ 7 }
+{
+    let mut late = pass.copy(board);
+    mark.store(board, 7, &mut pass);
+    mark.meet(board, &mut late);
+    [pass.durable(board), late.durable(board)]
+}
+
+fn one_mark<N: CountName>(count: Count<u8>) -> [u64; 2]
+    requires named { count ≡ N.count }
+{
+    let (board, _, mark, pass) = count.split::<N>();
+    on_mark(&board, mark, pass)
+}
+
+#[test]
+fn a_stored_number_is_seen(rt: HostRuntime) -> Result<(), Fail> {
+    let count = Count::new(rt.alloc())?;
+    assert_eq!(rt; one_mark::<Brand>(count), [7, 7]);
     Ok(())
 }

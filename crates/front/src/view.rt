@@ -1,3 +1,4 @@
+//! What is known of the count's word.
 use std::collections::LinkedList;
 
 /// What a seat at the count knows. It stands in contracts and proofs alone: no value of it is made.
@@ -8,4 +9,10 @@ pub struct View<E> {
     pub seen: LinkedList<E>,
     /// What a seat that joined it had seen, until the next load.
     pub told: LinkedList<E>,
+    /// Whether it stores the durable number.
+    pub marks: bool,
+    /// A durable number that there was.
+    pub durable: u64,
+    /// The one that a seat that joined it had seen, until the next load.
+    pub heard: u64,
 }

@@ -1,5 +1,6 @@
 -- What the entries of each call leave of the page in hand and of the counts.
-use Rattle.std.proofs.Common.{◌≡◌, ℕ, ◌+◌, Bool, true, false, cond, List, [], ◌∷◌, ◌++◌, length, Option, Some, refl, sym, ap, subst, ◌∙◌, arith, append-nil, length-append}
+use Rattle.std.proofs.Common.{◌≡◌, ℕ, ◌+◌, ◌≤◌, ◌<◌, ◌^◌, Bool, true, false, cond, List, [], ◌∷◌, ◌++◌, length, Option, Some, refl, sym, ap, subst, ◌∙◌, arith, append-nil, length-append}
+use Rattle.std.proofs.lemmas.Bool.Decides.{nat_tests}
 use Rattle.books.specs.Booking.{entry}
 use Rattle.books.specs.Rights.{PageClaim, page_claim, page_entry}
 use Rattle.books.specs.declared.entry.BookEntry.{BookEntry}
@@ -10,6 +11,7 @@ use Rattle.page_rows.specs.Redo.{IsRedoable, Redone}
 use Rattle.wal_record.specs.Chains.{names, head}
 use Rattle.wal_record.specs.History.{log_of, life_log}
 use Rattle.wal_record.specs.Images.{applied, image}
+use Rattle.wal_record.specs.Rules.{is_number}
 use Rattle.wal_record.specs.State.{KeepsState}
 use Rattle.wal_record.specs.declared.page.PageState.{PageState}
 use Rattle.wal_record.specs.declared.record.Record.{Record}
@@ -18,6 +20,9 @@ use Rattle.wal_record.specs.declared.entry.Entry.{Entry}
 use Rattle.wal_record.proofs.Pushes.{head_push, image_push}
 use Rattle.held_leaf.specs.Entries.{put_entries}
 use Rattle.held_leaf.specs.Leaf.{IsKept}
+
+number_is : (n : ℕ) → 1 ≤ n → n < 2 ^ 63 → is_number n ≡ true
+number_is n least most = grind (arith, nat_tests, least, most)
 
 pub put_log : (lsn : ℕ) (r : Record) → log_of (put_entries lsn r) ≡ r ∷ []
 put_log lsn (kinds.Write w) = refl
@@ -54,6 +59,8 @@ module _ (opens : List Record → Type 0) (h es : List Entry) where
           head = λ opening stands. hand.head opening stands ∙ ap (λ l. head l page) (same opening);
           image = λ opening stands. ap (λ l. image l page) (sym (same opening)) ∙ hand.image opening stands;
           keeps = hand.keeps;
+          number = hand.number;
+          place = hand.place;
         }
 
     -- so does a record that doesn't name it
@@ -68,14 +75,16 @@ module _ (opens : List Record → Type 0) (h es : List Entry) where
           ap (λ l. image l page) (log_after (r ∷ []) one opening) ∙ image_push (life_log opening pass.log) r page
           ∙ ap (λ b. cond b (applied r page (image (life_log opening pass.log) page)) (image (life_log opening pass.log) page)) apart ∙ hand.image opening stands;
       keeps = hand.keeps;
+      number = hand.number;
+      place = hand.place;
     }
 
     -- a record that was redone on it is its last one, and the state is what the record makes of it
     pub in_hand_put : (r : Record) (page lsn top : ℕ) (state state' : PageState) (dirty dirty' done : Bool) (right right' : Option PageClaim) → log_of es ≡ r ∷ [] → page ≡ 1 → Redone r 1 (Some state) (Some state') done → done ≡ true
         → IsInHand opens (record { page = page; lsn = lsn; state = state; dirty = dirty; right = right; pass = pass })
-        → ((opening : List Record) → opens opening → length (life_log opening h) ≡ top) → right' ≡ Some (record { page = page; lsn = top + 1 }) → KeepsState state'
+        → ((opening : List Record) → opens opening → length (life_log opening h) ≡ top) → right' ≡ Some (record { page = page; lsn = top + 1 }) → KeepsState state' → top < 2 ^ 62
         → IsInHand opens (record { page = page; lsn = top + 1; state = state'; dirty = dirty'; right = right'; pass = pass' })
-    in_hand_put r page lsn top state state' dirty dirty' done right right' one first redone is_done hand size raised keeps =
+    in_hand_put r page lsn top state state' dirty dirty' done right right' one first redone is_done hand size raised keeps low =
         let made = subst (λ p. IsRedoable r p (Some state) × (Some state' ≡ applied r p (Some state))) (sym first) (subst (Redone r 1 (Some state) (Some state')) is_done redone) in
         record {
           right = raised;
@@ -88,6 +97,8 @@ module _ (opens : List Record → Type 0) (h es : List Entry) where
               ∙ ap (λ b. cond b (applied r page (image (life_log opening pass.log) page)) (image (life_log opening pass.log) page)) made.0.names
               ∙ ap (applied r page) (hand.image opening stands) ∙ sym made.1;
           keeps = keeps;
+          number = hand.number;
+          place = number_is (top + 1) (omega arith) (omega (arith, low));
         }
 
 -- the right to the page in hand, raised to an LSN

@@ -7,7 +7,7 @@ use page_ops::Life;
 use store_model::{Key, Lsn, TxId, Value};
 use wal_record::{Entry, Record};
 
-// The list grows by the n entries of A, and the pass sees it whole.
+/// The list grows by the n entries of A, and the pass sees it whole.
 fn add<N: Life, A: Added<Entry>>(
     board: &Board<Entry, N>,
     front: &mut Front<Entry, N>,
@@ -23,7 +23,7 @@ fn add<N: Life, A: Added<Entry>>(
     front.meet(board, pass);
 }
 
-// The transaction begins.
+/// The transaction begins.
 pub(crate) fn began<N: Life, A: Added<Entry>>(
     board: &Board<Entry, N>,
     front: &mut Front<Entry, N>,
@@ -38,7 +38,7 @@ pub(crate) fn began<N: Life, A: Added<Entry>>(
     add::<N, A>(board, front, pass, 1);
 }
 
-// The transaction is told the key's value.
+/// The transaction is told the key's value.
 pub(crate) fn got<N: Life, A: Added<Entry>>(
     board: &Board<Entry, N>,
     front: &mut Front<Entry, N>,
@@ -55,7 +55,7 @@ pub(crate) fn got<N: Life, A: Added<Entry>>(
     add::<N, A>(board, front, pass, 2);
 }
 
-// A put is declined for want of room.
+/// A put is declined for want of room.
 pub(crate) fn declined<N: Life, A: Added<Entry>>(
     board: &Board<Entry, N>,
     front: &mut Front<Entry, N>,
@@ -73,7 +73,7 @@ pub(crate) fn declined<N: Life, A: Added<Entry>>(
     add::<N, A>(board, front, pass, 2);
 }
 
-// The record is entered at this LSN. How many entries that makes.
+/// The record is entered at this LSN. How many entries that makes.
 pub(crate) fn put<N: Life, A: Added<Entry>>(
     board: &Board<Entry, N>,
     front: &mut Front<Entry, N>,
@@ -96,7 +96,7 @@ pub(crate) fn put<N: Life, A: Added<Entry>>(
     n
 }
 
-// The transaction commits.
+/// The transaction commits.
 pub(crate) fn committed<N: Life, A: Added<Entry>>(
     board: &Board<Entry, N>,
     front: &mut Front<Entry, N>,
@@ -113,7 +113,7 @@ pub(crate) fn committed<N: Life, A: Added<Entry>>(
     add::<N, A>(board, front, pass, 1);
 }
 
-// The transaction's commit is acknowledged.
+/// The transaction's commit is acknowledged.
 pub(crate) fn acknowledged<N: Life, A: Added<Entry>>(
     board: &Board<Entry, N>,
     front: &mut Front<Entry, N>,

@@ -1,7 +1,8 @@
-ghost use Rattle.std.specs.Prelude.{◌≡◌, ◌+◌, ◌<◌, ◌^◌, List, [], ◌++◌, length, IfOk, OnErr};
+//! The page in hand, and the commands of a life of one transaction at a time.
+ghost use Rattle.std.specs.Prelude.{◌≡◌, ◌+◌, ◌<◌, ◌^◌, List, [], ◌++◌, length, IfOk, IsTrue, OnErr};
 ghost use Rattle.held_leaf.specs.Entries.{acknowledge_entries, begin_entries, commit_entries, full_entries, get_entries};
 ghost use Rattle.held_leaf.specs.Leaf.{IsOnly, IsPut};
-ghost use Rattle.wal_record.specs.Rules.{HasSpelling};
+ghost use Rattle.wal_record.specs.Rules.{HasSpelling, is_number};
 ghost use Rattle.wal_record.specs.State.{KeepsState};
 ghost use Rattle.wal_record.specs.declared.record.Record.{Record};
 
@@ -54,6 +55,7 @@ impl<'a, N: Life> HeldLeaf<'a, N> {
         requires pass { pass.log ≡ [] }
         requires book { book ≡ [] }
         requires rules { KeepsState state }
+        requires head { IsTrue (is_number head) }
         requires opens { (opening : List Record) → N.opens opening → IsOnly opening state head last }
         ensures { result ≡ record { history = []; state = state; head = head; last = last } }
     {

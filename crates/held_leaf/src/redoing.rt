@@ -1,3 +1,4 @@
+//! A record redone on the page in hand.
 ghost use Rattle.std.specs.Prelude.{◌≡◌, Some, IfOk, OnErr};
 ghost use Rattle.page_rows.specs.Redo.{Redone};
 ghost use Rattle.wal_record.specs.Rules.{HasSpelling};
@@ -9,7 +10,7 @@ use std::mem;
 use store_model::{Bound, List, Memory};
 use wal_record::{PageState, Record, Rows};
 
-// Redoes a record on page 1, as `page_rows::redo` of a page that has an image.
+/// Redoes a record on page 1, as `page_rows::redo` of a page that has an image.
 pub(crate) fn redo(
     alloc: Global,
     state: &mut PageState,
@@ -29,7 +30,7 @@ pub(crate) fn redo(
     done
 }
 
-// A state without rows, which stands where the page's state is lent out.
+/// A state without rows, which stands where the page's state is lent out.
 fn stand_in(alloc: Global) -> PageState {
     PageState {
         level: 0,

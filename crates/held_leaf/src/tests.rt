@@ -18,7 +18,7 @@ use wal_record::{PageState, Record, Rows, Write};
 
 const MOST: u64 = 1 << 62;
 
-// The operators of the store, as boxed closures.
+/// The operators of the store, as boxed closures.
 fn boxed(alloc: Global) -> Result<Operators, AllocError> {
     Ok(Operators::new(
         Box::new(
@@ -42,7 +42,7 @@ fn boxed(alloc: Global) -> Result<Operators, AllocError> {
     ))
 }
 
-// An empty leaf with all keys.
+/// An empty leaf with all keys.
 fn first_state(alloc: Global) -> Option<PageState>
     ensures { IfSome result KeepsState }
 {
@@ -55,7 +55,7 @@ fn first_state(alloc: Global) -> Option<PageState>
     })
 }
 
-// The write of a key that has no value, by transaction 1.
+/// The write of a key that has no value, by transaction 1.
 fn write(head: Lsn, key: &Key, value: &Value) -> Record
     requires place { head < 2 ^ 62 }
     ensures { HasSpelling result }
@@ -71,7 +71,7 @@ fn write(head: Lsn, key: &Key, value: &Value) -> Record
     })
 }
 
-// Whether the numbers are far from their end.
+/// Whether the numbers are far from their end.
 fn has_room<'a, N: Life>(leaf: &HeldLeaf<'a, N>) -> bool
     ensures few { result ≡ true → length leaf.now.history < 2 ^ 62 }
     ensures place { result ≡ true → leaf.now.last < 2 ^ 62 }
@@ -80,12 +80,12 @@ fn has_room<'a, N: Life>(leaf: &HeldLeaf<'a, N>) -> bool
     leaf.entries() < MOST && leaf.last() < MOST && leaf.head() < MOST
 }
 
-// How many entries there are, and the LSNs of the last records of the page and of the log.
+/// How many entries there are, and the LSNs of the last records of the page and of the log.
 fn numbers<'a, N: Life>(leaf: &HeldLeaf<'a, N>) -> [u64; 3] {
     [leaf.entries(), leaf.head(), leaf.last()]
 }
 
-// Puts a key that has no value.
+/// Puts a key that has no value.
 fn put<'a, N: Life>(
     alloc: Global,
     leaf: &mut HeldLeaf<'a, N>,
@@ -100,7 +100,7 @@ fn put<'a, N: Life>(
     leaf.put(alloc, operators, &entry).ok()
 }
 
-// The transaction begins, and is told that the key has no value.
+/// The transaction begins, and is told that the key has no value.
 fn start<'a, N: Life>(leaf: &mut HeldLeaf<'a, N>, key: &Key) -> Option<[u64; 3]> {
     if !has_room(leaf) {
         return None;
@@ -113,7 +113,7 @@ fn start<'a, N: Life>(leaf: &mut HeldLeaf<'a, N>, key: &Key) -> Option<[u64; 3]>
     Some(numbers(leaf))
 }
 
-// The transaction is declined a put, commits and is told so.
+/// The transaction is declined a put, commits and is told so.
 fn end<'a, N: Life>(leaf: &mut HeldLeaf<'a, N>, key: &Key, value: &Value) -> Option<[u64; 3]> {
     if !has_room(leaf) {
         return None;
@@ -130,7 +130,7 @@ fn end<'a, N: Life>(leaf: &mut HeldLeaf<'a, N>, key: &Key, value: &Value) -> Opt
     Some(numbers(leaf))
 }
 
-// The numbers after the start, after each of two puts of one key, and after the end, and how many rows the page then has.
+/// The numbers after the start, after each of two puts of one key, and after the end, and how many rows the page then has.
 fn on_ground<'a, N: Life>(
     alloc: Global,
     ground: &'a Ground<N>,
@@ -144,6 +144,7 @@ fn on_ground<'a, N: Life>(
 {
     let Tokens {
         front,
+        mark: _,
         pass,
         books,
         entries: _,
@@ -151,6 +152,7 @@ fn on_ground<'a, N: Life>(
         log_faults: _,
         vault_faults: _,
         data_faults: _,
+        made: _,
     } = tokens;
     let Books {
         pages,
@@ -183,7 +185,7 @@ fn life<N: Life>(
     operators: &Operators,
 ) -> Option<([[u64; 3]; 4], [bool; 2], usize)>
     requires untold { (opening : List Record) → N.opens opening → ⊥ }
-    requires named { unnamed ≡ life_names N.count N.pages N.sessions N.maint N.entries N.session_entries N.log_faults N.vault_faults N.data_faults }
+    requires named { unnamed ≡ life_names N.count N.pages N.sessions N.maint N.entries N.session_entries N.log_faults N.vault_faults N.data_faults N.made }
 {
     let (ground, tokens) = unnamed.split::<N>();
     on_ground(alloc, &ground, tokens, operators)

@@ -1,23 +1,26 @@
 //! The program: a script on standard input, its transcript on standard output.
 //!
-//! `instant PLACE [run]` keeps its log at PLACE, which is `mem`. It makes the devices and the operators, runs the words
-//! behind PLACE, says on standard error why the run ended where it isn't done, and ends with the status' code.
+//! `instant PLACE [run]` keeps its log at PLACE: `mem`, or a folder that is there. It makes the devices and the
+//! operators, runs the words behind PLACE, says on standard error why the run ended where it isn't done, and ends with
+//! the status' code.
 #![tactic(auto)]
 
 ghost use Rattle.std.specs.Prelude.{◌≡◌};
 ghost use Rattle.operators.specs.Means.{made_by};
 
-mod streams;
+mod ended;
 
-use media::Devices;
+use ended::Ended;
+use media::{Devices, Disk, PageDevice, Vault};
+use media_file::{FileDisk, FilePages, FileVault, Folder, StreamSink, StreamSource};
 use media_mem::{MemDisk, MemPages, MemVault};
 use operators::{Operators, add, join, max};
 use runner::{Status, run_words};
 use std::alloc::{AllocError, Global};
+use std::fs::{File, TryLockError};
 use std::process::ExitCode;
-use std::{env, io};
+use std::{env, fs, io};
 use store_model::{OpValue, Value};
-use streams::{StreamSink, StreamSource};
 
 /// The words of the call behind the program's name.
 fn words(rt: &HostRuntime, alloc: Global) -> io::Result<Vec<String>> {
@@ -29,24 +32,99 @@ fn words(rt: &HostRuntime, alloc: Global) -> io::Result<Vec<String>> {
 }
 
 /// Runs the words on devices at their place.
-fn run(rt: &HostRuntime, alloc: Global, words: &[String]) -> Status {
+fn run(rt: &HostRuntime, alloc: Global, words: &[String]) -> Ended {
     match words {
         [place, rest @ ..] => {
             if place.as_str() == "mem" {
-                match run_in_memory(rt, alloc, rest) {
-                    Ok(status) => status,
-                    Err(_) => Status::Memory,
-                }
+                run_in_memory(rt, alloc, rest)
+            } else if is_folder(rt, place.as_str()) {
+                run_in_folder(rt, alloc, place.as_str(), rest)
             } else {
-                Status::Usage
+                Ended::Ran(Status::Usage)
             }
         }
-        [] => Status::Usage,
+        [] => Ended::Ran(Status::Usage),
     }
 }
 
-/// Runs the words on devices in memory, with the operators of the store.
-fn run_in_memory(rt: &HostRuntime, alloc: Global, words: &[String]) -> Result<Status, AllocError> {
+/// Whether a folder stands at the path.
+fn is_folder(rt: &HostRuntime, path: &str) -> bool {
+    match fs::metadata(rt, path) {
+        Ok(metadata) => metadata.is_dir(),
+        Err(_) => false,
+    }
+}
+
+/// Runs the words on devices in memory, blank at each start.
+fn run_in_memory(rt: &HostRuntime, alloc: Global, words: &[String]) -> Ended {
+    let devices = Devices {
+        log: MemDisk::new(alloc),
+        pages: MemPages::new(alloc),
+        vault: MemVault::new(alloc),
+    };
+    run_on(rt, alloc, words, devices)
+}
+
+/// Runs the words on the devices in the files of a folder, which no other process has meanwhile.
+fn run_in_folder(rt: &HostRuntime, alloc: Global, path: &str, words: &[String]) -> Ended {
+    let lock = match locked(rt, path) {
+        Ok(lock) => lock,
+        Err(TryLockError::WouldBlock) => return Ended::InUse,
+        Err(TryLockError::Error(_)) => return Ended::Unopened,
+    };
+    let ended = match opened(rt, alloc, path) {
+        Ok(devices) => run_on(rt, alloc, words, devices),
+        Err(_) => Ended::Unopened,
+    };
+    drop(lock);
+    ended
+}
+
+/// The folder itself, locked until it is dropped.
+fn locked(rt: &HostRuntime, path: &str) -> Result<File, TryLockError> {
+    let folder = match fs::open(rt, path) {
+        Ok(folder) => folder,
+        Err(error) => return Err(TryLockError::Error(error)),
+    };
+    folder.try_lock()?;
+    Ok(folder)
+}
+
+/// The devices in a folder.
+fn opened<'a>(
+    rt: &'a HostRuntime,
+    alloc: Global,
+    path: &str,
+) -> io::Result<Devices<FileDisk<'a, HostRuntime>, FilePages<File>, FileVault<'a, HostRuntime>>> {
+    let folder = Folder::new(rt, alloc, path)?;
+    let pages = FilePages::open(&folder)?;
+    let vault = FileVault::open(&folder)?;
+    Ok(Devices {
+        log: FileDisk::open(folder)?,
+        pages,
+        vault,
+    })
+}
+
+/// Runs the words on these devices, with the operators of the store.
+fn run_on<L: Disk + Drop, P: PageDevice + Drop, V: Vault + Drop>(
+    rt: &HostRuntime,
+    alloc: Global,
+    words: &[String],
+    devices: Devices<L, P, V>,
+) -> Ended {
+    match run_with(rt, alloc, words, devices) {
+        Ok(status) => Ended::Ran(status),
+        Err(_) => Ended::Ran(Status::Memory),
+    }
+}
+
+fn run_with<L: Disk + Drop, P: PageDevice + Drop, V: Vault + Drop>(
+    rt: &HostRuntime,
+    alloc: Global,
+    words: &[String],
+    devices: Devices<L, P, V>,
+) -> Result<Status, AllocError> {
     let operators = Operators::new(
         Box::new(
             alloc,
@@ -67,10 +145,6 @@ fn run_in_memory(rt: &HostRuntime, alloc: Global, words: &[String]) -> Result<St
             { join(old, argument) },
         )?,
     );
-    Ok(run_with(rt, alloc, words, &operators))
-}
-
-fn run_with(rt: &HostRuntime, alloc: Global, words: &[String], operators: &Operators) -> Status {
     let mut source = StreamSource {
         reader: rt.stdin(),
         faults: 0,
@@ -79,32 +153,27 @@ fn run_with(rt: &HostRuntime, alloc: Global, words: &[String], operators: &Opera
         writer: rt.stdout(),
         faults: 0,
     };
-    let devices = Devices {
-        log: MemDisk::new(alloc),
-        pages: MemPages::new(alloc),
-        vault: MemVault::new(alloc),
-    };
-    let (status, _devices) = run_words(alloc, words, &mut source, &mut sink, devices, operators);
-    status
+    let (status, _devices) = run_words(alloc, words, &mut source, &mut sink, devices, &operators);
+    Ok(status)
 }
 
-/// The status of words that can't be had: memory ran out, or they are no text.
-fn status_of(error: &io::Error) -> Status {
-    if error.kind() == io::ErrorKind::OutOfMemory {
+/// Why there are no words: memory ran out, or they are no text.
+fn without_words(error: &io::Error) -> Ended {
+    Ended::Ran(if error.kind() == io::ErrorKind::OutOfMemory {
         Status::Memory
     } else {
         Status::Usage
-    }
+    })
 }
 
 fn main(rt: HostRuntime) -> ExitCode {
     let alloc = rt.alloc();
-    let status = match words(&rt, alloc) {
+    let ended = match words(&rt, alloc) {
         Ok(words) => run(&rt, alloc, &words),
-        Err(error) => status_of(&error),
+        Err(error) => without_words(&error),
     };
-    if status != Status::Done {
-        let _ = eprintln!(&rt; "instant: {status}");
+    if !ended.is_done() {
+        let _ = eprintln!(&rt; "instant: {ended}");
     }
-    ExitCode::from(status.code())
+    ExitCode::from(ended.code())
 }

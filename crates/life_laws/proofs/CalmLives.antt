@@ -13,7 +13,7 @@ use Rattle.wal_record.specs.declared.page.LeafRow.{LeafRow}
 use Rattle.wal_record.specs.declared.record.Record.{Record}
 use Rattle.wal_record.specs.declared.entry.Entry.{Entry}
 use Rattle.wal_record.specs.Legal.{IsLegal}
-use Rattle.wal_record.specs.Sound.{IsLawful, AreLawful}
+use Rattle.wal_record.specs.Sound.{IsLawful, AreLawful, HasRoom}
 use Rattle.std.proofs.lemmas.List.Folds.{list_any-append}
 use Rattle.store_model.specs.Along.{AllAlong}
 use Rattle.wal_record.proofs.Along.{AllAlong_more}
@@ -21,23 +21,23 @@ use Rattle.log_laws.proofs.Beginnings.{history_beginning}
 use Rattle.log_laws.proofs.LeftLaws.{left_law}
 use Rattle.log_laws.proofs.Serial.{serial_all, sound_after, central_of_lives}
 use Rattle.life_laws.specs.Calm.{Opened, is_open, splits_page, first_log, Calm}
-use Rattle.life_laws.specs.Commands.{Command, Begin, Get, Put, Commit, Standing, fresh, entries_in, standing_in, MayIn, entries_from, standing_from, ArePossible}
+use Rattle.life_laws.specs.Commands.{Command, Begin, Get, Put, Commit, CalmStanding, fresh, entries_in, standing_in, MayIn, entries_from, standing_from, ArePossible}
 use Rattle.life_laws.specs.CalmLaw.{IsRight, HasRows, CalmLaw}
 use Rattle.life_laws.proofs.CalmLog.{live_is}
 use Rattle.life_laws.proofs.CalmSteps.{calm_begin, calm_get, calm_put, calm_commit}
-use Rattle.life_laws.proofs.Leaving.{either_false, log_of_append, left_beginning, left_behind}
+use Rattle.life_laws.proofs.Leaving.{either_false, has_room, log_of_append, left_with_room, left_behind}
 use Rattle.life_laws.proofs.Start.{calm_start}
 
 -- ---- what a calm life promises
 
--- what a legal life without splits promises
-pub right_of : (opening : List Record) → AreLawful opening → (h : List Entry) → IsLegal opening h → list_any splits_page (life_log opening h) ≡ false → IsRight opening h
-right_of opening begins h legal whole =
+-- what every legal life promises
+pub right_of : (opening : List Record) → AreLawful opening → (h : List Entry) → IsLegal opening h → IsRight opening h
+right_of opening begins h legal =
     record {
       legal = legal;
       serial = (serial_all opening h).result begins legal;
-      left = left_beginning opening begins h legal whole;
-      behind = left_behind opening begins h legal whole;
+      left = left_with_room opening begins h legal;
+      behind = left_behind opening begins h legal;
       first = λ own l. record { contents = (left_law opening h own).result begins legal l; acknowledged = (left_law opening h own).acknowledged begins legal l };
     }
 
@@ -50,14 +50,15 @@ module _ (opening : List Record) (h : List Entry) (rows : List LeafRow) (top : �
   calm_spelled = AllAlong_more IsLawful (λ before r. HasSpelling r) (λ before r lawful. lawful.fields) (life_log opening h) calm_sound
 
   pub calm_right : IsRight opening h
-  calm_right = right_of opening c.begins h c.legal c.log.whole
+  calm_right = right_of opening c.begins h c.legal
 
-  -- at each of its entries
-  pub calm_right_before : (before rest : List Entry) → h ≡ before ++ rest → IsRight opening before
+  -- at each of its entries, where it also has room
+  pub calm_right_before : (before rest : List Entry) → h ≡ before ++ rest → IsRight opening before × HasRoom (life_log opening before)
   calm_right_before before rest e =
       let logs : life_log opening h ≡ (opening ++ log_of before) ++ log_of rest = ap (λ (x : List Entry). opening ++ log_of x) e ∙ ap (λ (rs : List Record). opening ++ rs) (log_of_append before rest) ∙ sym (append_assoc opening (log_of before) (log_of rest)) in
-      right_of opening c.begins before ((history_beginning opening before rest).legal (subst (IsLegal opening) e c.legal))
-      (either_false (list_any splits_page (opening ++ log_of before)) (list_any splits_page (log_of rest)) (sym (ap (list_any splits_page) logs ∙ list_any-append splits_page (opening ++ log_of before) (log_of rest)) ∙ c.log.whole)).0
+      let legal = (history_beginning opening before rest).legal (subst (IsLegal opening) e c.legal) in
+      let whole = (either_false (list_any splits_page (opening ++ log_of before)) (list_any splits_page (log_of rest)) (sym (ap (list_any splits_page) logs ∙ list_any-append splits_page (opening ++ log_of before) (log_of rest)) ∙ c.log.whole)).0 in
+      (right_of opening c.begins before legal, has_room (opening ++ log_of before) (sound_after opening c.begins before legal) whole)
 
   pub calm_rows : HasRows (record { rows = rows; top = top; active = active; next = next; commits = count; lsn = lsn }) (life_log opening h)
   calm_rows = record { current = now; committed = λ none key. now key ∙ (central_of_lives opening h c.begins c.legal).closed key (λ t. ap (list_any (writes key)) (c.log.closed t (closed active none t))) }
@@ -71,7 +72,7 @@ module _ (opening : List Record) (h : List Entry) (rows : List LeafRow) (top : �
 
 -- ---- commands, one after the other
 
-abbrev pub CalmAt : List Record → List Entry → Standing → Type 0
+abbrev pub CalmAt : List Record → List Entry → CalmStanding → Type 0
 CalmAt opening h s = Calm opening h s.rows s.top s.active s.next s.commits s.lsn
 
 one_more : (opening : List Record) (h : List Entry) (rows : List LeafRow) (top : ℕ) (active : Option Opened) (next count lsn : ℕ) (e : Command) → Calm opening h rows top active next count lsn
@@ -83,7 +84,7 @@ one_more opening h rows top (Some o) next count lsn (Put key value) c m = calm_p
 one_more opening h rows top (Some o) next count lsn Commit c m = calm_commit opening h rows top o next count lsn c m.lsns m.transactions
 one_more opening h rows top a next count lsn e c m = absurd m
 
-pub all_of : (opening : List Record) (h : List Entry) (s : Standing) (cs : List Command) → CalmAt opening h s → ArePossible (limit_of opening) s cs → CalmAt opening (h ++ entries_from s cs) (standing_from s cs)
+pub all_of : (opening : List Record) (h : List Entry) (s : CalmStanding) (cs : List Command) → CalmAt opening h s → ArePossible (limit_of opening) s cs → CalmAt opening (h ++ entries_from s cs) (standing_from s cs)
 all_of opening h s [] c m = subst (λ (x : List Entry). CalmAt opening x s) (sym (append-nil h)) c
 all_of opening h s (e ∷ cs) c m =
     subst (λ (x : List Entry). CalmAt opening x (standing_from (standing_in s.active s e) cs)) (append_assoc h (entries_in s.active s e) (entries_from (standing_in s.active s e) cs))

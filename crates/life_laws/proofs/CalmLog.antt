@@ -28,7 +28,7 @@ use Rattle.log_laws.proofs.Central.{eqb_self, eqb_differ}
 use Rattle.log_laws.proofs.Pending.{pending_change}
 use Rattle.tree_laws.proofs.Whole.{tree}
 use Rattle.life_laws.specs.Calm.{Opened, is_open, only_leaf, splits_page, CalmLog}
-use Rattle.life_laws.specs.Commands.{written, committing, with_write, with_row, begun}
+use Rattle.life_laws.specs.Commands.{writing, committing, with_write, with_row, begun}
 
 -- ---- words on numbers and lists
 
@@ -113,7 +113,7 @@ module _ (log : List Record) (rows : List LeafRow) (top : ℕ) (o : Opened) (nex
 
   module _ (key value : List ℕ) where
     abbrev r : Record
-    r = written o top rows key value
+    r = writing o top rows key value
 
     mine_written : length (open_writes (log ++ r ∷ []) o.tx) ≡ o.writes + 1
     mine_written = mine_more r o.tx (open_push log r o.tx ∙ ap (λ (b : Bool). cond b (open_writes log o.tx ++ r ∷ []) (open_writes log o.tx)) (eqb_self o.tx)) refl

@@ -29,7 +29,7 @@ use Rattle.log_laws.proofs.Locked.{in_point}
 use Rattle.log_laws.proofs.Serial.{sound_after}
 use Rattle.tree_laws.proofs.Keys.{below_itself}
 use Rattle.life_laws.specs.Calm.{Opened, only_leaf, CalmLog, Calm}
-use Rattle.life_laws.specs.Commands.{written, committing, with_write, with_row, begun, get_entries, put_entries, full_entries, commit_entries}
+use Rattle.life_laws.specs.Commands.{writing, committing, with_write, with_row, begun, get_entries, put_entries, full_entries, commit_entries}
 use Rattle.life_laws.proofs.CalmLog.{limit_kept, live_is, write_lawful, log_written, commit_lawful, log_committed, log_began}
 use Rattle.life_laws.proofs.CalmHistory.{none_live, owner_kept, history_same, history_began, history_committed, history_acked}
 
@@ -116,9 +116,9 @@ module _ (opening : List Record) (h : List Entry) (rows : List LeafRow) (top : �
   -- it writes a key, and is told so
   pub calm_wrote : Calm opening h rows top (Some o) next count lsn → (key value : List ℕ) → list_any (covers_write key) (locks opening h o.tx) ≡ true → is_key key ≡ true → is_value value ≡ true
       → state_size (only_leaf (with_row rows key value)) ≤ page_room → o.writes + 2 ≤ limit_of (life_log opening h) → lsn < 2 ^ 63 → next ≤ 2 ^ 63
-      → Calm opening ((h ++ Rec (lsn + 1) (written o top rows key value) ∷ []) ++ Said o.session o.tx (requests.Put key value) (replies.Was (live rows key)) ∷ []) (with_row rows key value) (lsn + 1) (Some (with_write o (lsn + 1))) next count (lsn + 1)
+      → Calm opening ((h ++ Rec (lsn + 1) (writing o top rows key value) ∷ []) ++ Said o.session o.tx (requests.Put key value) (replies.Was (live rows key)) ∷ []) (with_row rows key value) (lsn + 1) (Some (with_write o (lsn + 1))) next count (lsn + 1)
   calm_wrote c key value covered k v size room top_lsn top_tx =
-      let r : Record = written o top rows key value in
+      let r : Record = writing o top rows key value in
       let e : Entry = Rec (lsn + 1) r in
       let h' : List Entry = h ++ e ∷ [] in
       let s : Entry = Said o.session o.tx (requests.Put key value) (replies.Was (live rows key)) in

@@ -7,7 +7,7 @@ use Rattle.store_model.specs.declared.request.Request.TheVariants as requests
 use Rattle.store_model.specs.declared.reply.Reply.TheVariants as replies
 use Rattle.store_model.specs.declared.range.Mode.TheVariants.{Shared, Exclusive}
 use Rattle.wal_record.specs.OpenWrites.{open_writes}
-use Rattle.wal_record.specs.Contents.{committed}
+use Rattle.wal_record.specs.Contents.{committed_contents}
 use Rattle.wal_record.specs.Steps.{steps, committed_transactions}
 use Rattle.wal_record.specs.Serial.{serial}
 use Rattle.wal_record.specs.Left.{IsLeft}
@@ -46,15 +46,15 @@ possible : ArePossible 16384 fresh commands
 possible = (tt, (record { key_fits = refl; value_fits = refl; leaf_fits = omega arith; room = omega arith; numbers = record { lsns = omega arith; transactions = omega arith } }, (tt, (record { lsns = omega arith; transactions = omega arith }, tt))))
 
 right : IsRight (first_log 16384) (entries_from fresh commands)
-right = (calm_lives 16384 commands refl possible).0 (entries_from fresh commands) [] refl
+right = ((calm_lives 16384 commands refl possible).0 (entries_from fresh commands) [] refl).0
 
 its_serial : serial empty (committed_transactions (entries_from fresh commands)) ≡ Some (record { replies = replies.Was None ∷ replies.Found (Some one) ∷ []; contents = insert empty apple one })
-unfolding committed_transactions steps along committed open_writes
+unfolding committed_transactions steps along committed_contents open_writes
 its_serial = right.serial
 
 -- a stop may leave all records, and not the Format alone, since the commit is acknowledged
 all_left : IsLeft (first_log 16384) (entries_from fresh commands) (put_apple ∷ commit_apple ∷ [])
-all_left = right.behind (put_apple ∷ commit_apple ∷ []) [] refl refl
+all_left = right.behind (put_apple ∷ commit_apple ∷ []) [] refl refl ((calm_lives 16384 commands refl possible).0 (entries_from fresh commands) [] refl).1
 
 none_left : IsLeft (first_log 16384) (entries_from fresh commands) [] → ⊥
 none_left l = let e : false ≡ true = l.acknowledged 1 refl in cc
@@ -65,7 +65,8 @@ unheard = take 7 (entries_from fresh commands)
 
 none_left_unheard : IsLeft (first_log 16384) unheard []
 unfolding unheard
-none_left_unheard = ((calm_lives 16384 commands refl possible).0 unheard (Acked 1 1 ∷ []) refl).left [] (record { lost = put_apple ∷ commit_apple ∷ []; whole = refl; acknowledged = λ t a. absurd cc })
+none_left_unheard = ((calm_lives 16384 commands refl possible).0 unheard (Acked 1 1 ∷ []) refl).0.left [] (record { lost = put_apple ∷ commit_apple ∷ []; whole = refl; acknowledged = λ t a. absurd cc })
+    ((calm_lives 16384 commands refl possible).0 [] (entries_from fresh commands) refl).1
 
 -- a second transaction can't begin while one is open
 not_twice : ArePossible 16384 fresh (Begin ∷ Begin ∷ []) → ⊥

@@ -1,4 +1,4 @@
--- What a stop may leave of a life in which no page is split.
+-- What a stop may leave of a life.
 use Rattle.std.proofs.Common.{◌≡◌, ℕ, Bool, true, false, cond, eqb, List, [], ◌∷◌, ◌++◌, refl, sym, ap, subst, ◌∙◌, arith, append_assoc, inl, inr}
 use Rattle.std.specs.Prelude.{◌||◌, ◌⊎◌}
 use Rattle.std.specs.List.{list_any}
@@ -101,27 +101,38 @@ commits_some t (r ∷ rs) e = of_either (is_commit_of t r) (list_any (is_commit_
 
 -- ---- what a stop may leave
 
-module _ (opening : List Record) (begins : AreLawful opening) (h : List Entry) (legal : IsLegal opening h) (whole : list_any splits_page (life_log opening h) ≡ false) where
-  pub left_beginning : (own : List Record) → IsBeginning opening h own → IsLeft opening h own
-  left_beginning own b =
+module _ (opening : List Record) (begins : AreLawful opening) (h : List Entry) (legal : IsLegal opening h) where
+  pub left_with_room : (own : List Record) → IsBeginning opening h own → HasRoom (opening ++ own) → IsLeft opening h own
+  left_with_room own b room =
       let parts : life_log opening h ≡ (opening ++ own) ++ b.lost = ap (λ (rs : List Record). opening ++ rs) b.whole ∙ sym (append_assoc opening own b.lost) in
       let lawful = AllAlong_less IsLawful (opening ++ own) b.lost (subst AreLawful parts (sound_after opening begins h legal)) in
-      let unsplit = (either_false (list_any splits_page (opening ++ own)) (list_any splits_page b.lost) (sym (ap (list_any splits_page) parts ∙ list_any-append splits_page (opening ++ own) b.lost) ∙ whole)).0 in
-      record { lost = b.lost; whole = b.whole; sound = record { lawful = lawful; room = has_room (opening ++ own) lawful unsplit }; acknowledged = b.acknowledged }
+      record { lost = b.lost; whole = b.whole; sound = record { lawful = lawful; room = room }; acknowledged = b.acknowledged }
 
-  -- the records behind the last commit may be lost
-  pub left_behind : (own lost : List Record) → log_of h ≡ own ++ lost → list_any is_commit lost ≡ false → IsLeft opening h own
-  left_behind own lost e none = left_beginning own (record {
+  -- behind the last commit no acknowledged one is lost
+  begins_before : (own lost : List Record) → log_of h ≡ own ++ lost → list_any is_commit lost ≡ false → IsBeginning opening h own
+  begins_before own lost e none = record {
     lost = lost;
     whole = e;
     acknowledged = λ t a. list_any-append (is_commit_of t) opening own ∙ or_right (list_any (is_commit_of t) opening) (list_any (is_commit_of t) own)
         (of_either (list_any (is_commit_of t) own) (list_any (is_commit_of t) lost) (list_any (is_commit_of t) own) (λ g. g) (λ g. absurd (not_both _ (commits_some t lost g) none))
         (sym (ap (list_any (is_commit_of t)) e ∙ list_any-append (is_commit_of t) own lost) ∙ acked_entered opening h legal t a));
-  })
+  }
+
+  pub left_behind : (own lost : List Record) → log_of h ≡ own ++ lost → list_any is_commit lost ≡ false → HasRoom (opening ++ own) → IsLeft opening h own
+  left_behind own lost e none room = left_with_room own (begins_before own lost e none) room
+
+module _ (opening : List Record) (begins : AreLawful opening) (h : List Entry) (legal : IsLegal opening h) (whole : list_any splits_page (life_log opening h) ≡ false) where
+  -- without splits there is room at every place
+  pub left_beginning : (own : List Record) → IsBeginning opening h own → IsLeft opening h own
+  left_beginning own b =
+      let parts : life_log opening h ≡ (opening ++ own) ++ b.lost = ap (λ (rs : List Record). opening ++ rs) b.whole ∙ sym (append_assoc opening own b.lost) in
+      let lawful = AllAlong_less IsLawful (opening ++ own) b.lost (subst AreLawful parts (sound_after opening begins h legal)) in
+      let unsplit = (either_false (list_any splits_page (opening ++ own)) (list_any splits_page b.lost) (sym (ap (list_any splits_page) parts ∙ list_any-append splits_page (opening ++ own) b.lost) ∙ whole)).0 in
+      left_with_room opening begins h legal own b (has_room (opening ++ own) lawful unsplit)
 
   -- nothing may be lost
   pub left_whole : IsLeft opening h (log_of h)
-  left_whole = left_behind (log_of h) [] (sym (append-nil (log_of h))) refl
+  left_whole = left_beginning (log_of h) (begins_before opening begins h legal (log_of h) [] (sym (append-nil (log_of h))) refl)
 
   -- with a beginning a longer one
   pub left_more : (own more lost : List Record) → IsLeft opening h own → log_of h ≡ (own ++ more) ++ lost → IsLeft opening h (own ++ more)

@@ -12,7 +12,7 @@ use Rattle.store_model.specs.Operator.{meaning}
 use Rattle.store_model.proofs.Bools.{or_left}
 use Rattle.wal_record.specs.Chains.{names, head, pages, greatest}
 use Rattle.wal_record.specs.OpenWrites.{open_writes, sum_to, pending, has_items}
-use Rattle.wal_record.specs.Contents.{committed}
+use Rattle.wal_record.specs.Contents.{committed_contents}
 use Rattle.wal_record.specs.Images.{applied, image, first_page, purged, with_value, OnPage, CanApply, CanTakeChild, IsApplicable}
 use Rattle.wal_record.specs.Checkpoints.{commits}
 use Rattle.wal_record.specs.Sound.{is_format, IsLawful, AreLawful}
@@ -195,4 +195,4 @@ opening log o =
     let (rows, leaf) = leaf_found log o.lawful o.whole o.some in
     let calm = calm_opened log o.lawful o.some o.settled o.whole rows leaf in
     let found = calm_rows log [] rows (head log 1) None (suc (greatest log)) (commits log) (length log) calm in
-    record { rows = rows; leaf = leaf; calm = calm; contents = λ key. found.committed refl key ∙ ap (λ (l : List Record). get (committed l) key) (append-nil log) }
+    record { rows = rows; leaf = leaf; calm = calm; contents = λ key. found.committed refl key ∙ ap (λ (l : List Record). get (committed_contents l) key) (append-nil log) }

@@ -21,7 +21,7 @@ use Rattle.wal_record.proofs.Pushes.{greatest_push, last_push}
 use Rattle.log_laws.proofs.LeftLaws.{lives_law}
 use Rattle.log_laws.proofs.Serial.{less_differ, max_less, sound_after}
 use Rattle.life_laws.specs.Calm.{Opened, first_log, IsUnnamed, CalmLog, CalmHistory, Calm}
-use Rattle.life_laws.specs.Commands.{Command, Begin, Get, Put, Commit, Standing, fresh, entries_in, standing_in, entries_from, standing_from, ArePossible}
+use Rattle.life_laws.specs.Commands.{Command, Begin, Get, Put, Commit, CalmStanding, fresh, entries_in, standing_in, entries_from, standing_from, ArePossible}
 use Rattle.life_laws.specs.Stops.{is_commit_command, Commands, reopened, lives_from, MayAllStop, CalmStopsLaw}
 use Rattle.life_laws.proofs.CalmLog.{limit_kept}
 use Rattle.life_laws.proofs.CalmLives.{CalmAt, all_of}
@@ -92,31 +92,31 @@ calm_reopened opening h rows top next count lsn c =
 
 -- ---- stops
 
-unheard : (t : ℕ) (s : Standing) (active : Option Opened) (c : Command) → is_commit_command c ≡ false → list_any (acknowledges t) (entries_in active s c) ≡ false
+unheard : (t : ℕ) (s : CalmStanding) (active : Option Opened) (c : Command) → is_commit_command c ≡ false → list_any (acknowledges t) (entries_in active s c) ≡ false
 unheard t s None Begin e = refl
 unheard t s (Some o) (Get key) e = refl
 unheard t s (Some o) (Put key value) e = refl
 unheard t s (Some o) Commit e = absurd cc
 unheard t s a c e = refl
 
-all_unheard : (t : ℕ) (s : Standing) (cs : List Command) → list_any is_commit_command cs ≡ false → list_any (acknowledges t) (entries_from s cs) ≡ false
+all_unheard : (t : ℕ) (s : CalmStanding) (cs : List Command) → list_any is_commit_command cs ≡ false → list_any (acknowledges t) (entries_from s cs) ≡ false
 all_unheard t s [] e = refl
 all_unheard t s (c ∷ cs) e =
     let parts = either_false (is_commit_command c) (list_any is_commit_command cs) e in
     list_any-append (acknowledges t) (entries_in s.active s c) (entries_from (standing_in s.active s c) cs)
     ∙ ap (λ (b : Bool). b || list_any (acknowledges t) (entries_from (standing_in s.active s c) cs)) (unheard t s s.active c parts.0) ∙ all_unheard t (standing_in s.active s c) cs parts.1
 
-entries_append : (s : Standing) (cs ds : List Command) → entries_from s (cs ++ ds) ≡ entries_from s cs ++ entries_from (standing_from s cs) ds
+entries_append : (s : CalmStanding) (cs ds : List Command) → entries_from s (cs ++ ds) ≡ entries_from s cs ++ entries_from (standing_from s cs) ds
 entries_append s [] ds = refl
 entries_append s (c ∷ cs) ds =
     ap (λ (es : List Entry). entries_in s.active s c ++ es) (entries_append (standing_in s.active s c) cs ds)
     ∙ sym (append_assoc (entries_in s.active s c) (entries_from (standing_in s.active s c) cs) _)
 
-possible_first : (limit : ℕ) (s : Standing) (cs ds : List Command) → ArePossible limit s (cs ++ ds) → ArePossible limit s cs
+possible_first : (limit : ℕ) (s : CalmStanding) (cs ds : List Command) → ArePossible limit s (cs ++ ds) → ArePossible limit s cs
 possible_first limit s [] ds m = tt
 possible_first limit s (c ∷ cs) ds m = (m.0, possible_first limit (standing_in s.active s c) cs ds m.1)
 
-module _ (opening : List Record) (s : Standing) (c : CalmAt opening [] s) (cs : Commands) (possible : ArePossible (limit_of opening) s (cs.kept ++ cs.lost)) where
+module _ (opening : List Record) (s : CalmStanding) (c : CalmAt opening [] s) (cs : Commands) (possible : ArePossible (limit_of opening) s (cs.kept ++ cs.lost)) where
   kept : CalmAt opening (entries_from s cs.kept) (standing_from s cs.kept)
   kept = all_of opening [] s cs.kept c (possible_first (limit_of opening) s cs.kept cs.lost possible)
 
@@ -134,7 +134,7 @@ module _ (opening : List Record) (s : Standing) (c : CalmAt opening [] s) (cs : 
       let t = standing_from s cs.kept in
       calm_reopened opening (entries_from s cs.kept) t.rows t.top t.next t.commits t.lsn (subst (λ (a : Option Opened). Calm opening (entries_from s cs.kept) t.rows t.top a t.next t.commits t.lsn) none kept)
 
-are_lives : (limit : ℕ) (opening : List Record) (s : Standing) (cs : List Commands) → limit_of opening ≡ limit → CalmAt opening [] s → MayAllStop limit opening s cs → AreLives opening (lives_from opening s cs)
+are_lives : (limit : ℕ) (opening : List Record) (s : CalmStanding) (cs : List Commands) → limit_of opening ≡ limit → CalmAt opening [] s → MayAllStop limit opening s cs → AreLives opening (lives_from opening s cs)
 are_lives limit opening s [] e c m = tt
 are_lives limit opening s (x ∷ xs) e c m =
     let possible = subst (λ (n : ℕ). ArePossible n s (x.kept ++ x.lost)) (sym e) m.0.possible in (

@@ -5,28 +5,29 @@ use Rattle.std.specs.Option.{option_map}
 use Rattle.wal_record.specs.Rules.{is_limit}
 use Rattle.std.specs.FinMap as finite
 use Rattle.wal_record.specs.State.{live}
-use Rattle.wal_record.specs.Contents.{current, committed}
+use Rattle.wal_record.specs.Contents.{current, committed_contents}
 use Rattle.wal_record.specs.Checkpoints.{commits}
 use Rattle.wal_record.specs.History.{log_of, life_log}
 use Rattle.wal_record.specs.Steps.{Finished, committed_transactions}
 use Rattle.wal_record.specs.Serial.{Result, serial, all_said}
 use Rattle.wal_record.specs.Legal.{IsLegal}
+use Rattle.wal_record.specs.Sound.{HasRoom}
 use Rattle.wal_record.specs.Left.{is_commit_of, acknowledges, IsLeft}
 use Rattle.wal_record.specs.declared.record.Record.{Record}
 use Rattle.wal_record.specs.declared.entry.Entry.{Entry}
 use Rattle.log_laws.specs.Beginnings.{is_commit}
 use Rattle.life_laws.specs.Calm.{first_log}
-use Rattle.life_laws.specs.Commands.{Command, Standing, fresh, entries_from, standing_from, ArePossible}
+use Rattle.life_laws.specs.Commands.{Command, CalmStanding, fresh, entries_from, standing_from, ArePossible}
 
 -- the serial run of the committed transactions has the replies that were said, and leaves the committed
 -- contents
 abbrev pub IsSerial : List Record → List Entry → Type 0
-IsSerial opening h = serial (committed opening) (committed_transactions h) ≡ Some (record { replies = all_said (committed_transactions h); contents = committed (life_log opening h) })
+IsSerial opening h = serial (committed_contents opening) (committed_transactions h) ≡ Some (record { replies = all_said (committed_transactions h); contents = committed_contents (life_log opening h) })
 
 -- what a stop left, `own`, has the map after the first committed transactions, as many as it holds
 -- commits, each acknowledged one among them
 pub record IsFirst (opening : List Record) (h : List Entry) (own : List Record) : Type 0 where
-  pub contents : option_map (λ (r : Result). r.contents) (serial (committed opening) (take (commits own) (committed_transactions h))) ≡ Some (committed (opening ++ own))
+  pub contents : option_map (λ (r : Result). r.contents) (serial (committed_contents opening) (take (commits own) (committed_transactions h))) ≡ Some (committed_contents (opening ++ own))
   pub acknowledged : (t : ℕ) → list_any (acknowledges t) h ≡ true → list_any (λ (f : Finished). f.tx == t) (take (commits own) (committed_transactions h)) ≡ true
 
 -- a beginning of the life's own records that has the commit of each acknowledged transaction
@@ -39,20 +40,20 @@ pub record IsBeginning (opening : List Record) (h : List Entry) (own : List Reco
 pub record IsRight (opening : List Record) (h : List Entry) : Type 0 where
   pub legal : IsLegal opening h
   pub serial : IsSerial opening h
-  -- a stop may leave each beginning with the acknowledged commits
-  pub left : (own : List Record) → IsBeginning opening h own → IsLeft opening h own
-  -- so it may lose the records behind the last commit
-  pub behind : (own lost : List Record) → log_of h ≡ own ++ lost → list_any is_commit lost ≡ false → IsLeft opening h own
+  -- a stop may leave each beginning that has its room and the acknowledged commits
+  pub left : (own : List Record) → IsBeginning opening h own → HasRoom (opening ++ own) → IsLeft opening h own
+  -- so it may lose records behind the last commit, where that leaves room
+  pub behind : (own lost : List Record) → log_of h ≡ own ++ lost → list_any is_commit lost ≡ false → HasRoom (opening ++ own) → IsLeft opening h own
   -- and all that it may leave has the first transactions
   pub first : (own : List Record) → IsLeft opening h own → IsFirst opening h own
 
 -- the rows have the current values of all keys, and the committed ones where no transaction is open
-pub record HasRows (s : Standing) (log : List Record) : Type 0 where
+pub record HasRows (s : CalmStanding) (log : List Record) : Type 0 where
   pub current : (key : List ℕ) → live s.rows key ≡ finite.get (current log) key
-  pub committed : s.active ≡ None → (key : List ℕ) → live s.rows key ≡ finite.get (committed log) key
+  pub committed : s.active ≡ None → (key : List ℕ) → live s.rows key ≡ finite.get (committed_contents log) key
 
 -- of a life that a format began, and the commands in it, where each is possible after those before it:
--- after each of its entries it is right, also in the middle of a command; after all the leaf has its rows
+-- after each of its entries it is right and has room, also in the middle of a command; after all the leaf has its rows
 abbrev pub CalmLaw : ℕ → List Command → Type 0
 CalmLaw limit cs = IsTrue (is_limit limit) → ArePossible limit fresh cs
-    → ((before rest : List Entry) → entries_from fresh cs ≡ before ++ rest → IsRight (first_log limit) before) × HasRows (standing_from fresh cs) (life_log (first_log limit) (entries_from fresh cs))
+    → ((before rest : List Entry) → entries_from fresh cs ≡ before ++ rest → IsRight (first_log limit) before × HasRoom (life_log (first_log limit) before)) × HasRows (standing_from fresh cs) (life_log (first_log limit) (entries_from fresh cs))

@@ -27,8 +27,8 @@ abbrev pub with_row : List LeafRow → List ℕ → List ℕ → List LeafRow
 with_row rows key value = put_row (row_of key (Some value)) rows
 
 -- its write of a key, where the leaf's last record has the LSN `top`, and its commit
-abbrev pub written : Opened → ℕ → List LeafRow → List ℕ → List ℕ → Record
-written o top rows key value = kinds.Write (record { tx = o.tx; prev = o.last_lsn; page = 1; page_prev = top; key = key; old = live rows key; new = Some value })
+abbrev pub writing : Opened → ℕ → List LeafRow → List ℕ → List ℕ → Record
+writing o top rows key value = kinds.Write (record { tx = o.tx; prev = o.last_lsn; page = 1; page_prev = top; key = key; old = live rows key; new = Some value })
 
 abbrev pub committing : Opened → Record
 committing o = kinds.Commit (record { tx = o.tx; prev = o.last_lsn })
@@ -40,7 +40,7 @@ get_entries o rows key = Lock o.tx (point key) Shared ∷ Said o.session o.tx (r
 -- it locks the key, writes it, and is told the value from before
 abbrev pub put_entries : Opened → ℕ → List LeafRow → ℕ → List ℕ → List ℕ → List Entry
 put_entries o top rows lsn key value =
-    Lock o.tx (point key) Exclusive ∷ Rec (lsn + 1) (written o top rows key value) ∷ Said o.session o.tx (requests.Put key value) (replies.Was (live rows key)) ∷ []
+    Lock o.tx (point key) Exclusive ∷ Rec (lsn + 1) (writing o top rows key value) ∷ Said o.session o.tx (requests.Put key value) (replies.Was (live rows key)) ∷ []
 
 -- it locks the key, and a put is refused: the store has one page and the pending writes of this transaction, and no
 -- room for a write and a page more
@@ -60,7 +60,7 @@ pub data Command : Type 0 where
 
 -- what the code of a calm life keeps: the rows of the leaf, the LSN of its last record, the open
 -- transaction, the next number of one, the number of commits, and the LSN of the log's last record
-pub record Standing : Type 0 where
+pub record CalmStanding : Type 0 where
   pub rows : List LeafRow
   pub top : ℕ
   pub active : Option Opened
@@ -69,18 +69,18 @@ pub record Standing : Type 0 where
   pub lsn : ℕ
 
 -- of a fresh store
-abbrev pub fresh : Standing
+abbrev pub fresh : CalmStanding
 fresh = record { rows = []; top = 1; active = None; next = 1; commits = 0; lsn = 1 }
 
 -- a transaction has a session of its own, with its number
-abbrev pub entries_in : Option Opened → Standing → Command → List Entry
+abbrev pub entries_in : Option Opened → CalmStanding → Command → List Entry
 entries_in None s Begin = Began s.next s.next ∷ []
 entries_in (Some o) s (Get key) = get_entries o s.rows key
 entries_in (Some o) s (Put key value) = put_entries o s.top s.rows s.lsn key value
 entries_in (Some o) s Commit = commit_entries o s.lsn
 entries_in _ s c = []
 
-abbrev pub standing_in : Option Opened → Standing → Command → Standing
+abbrev pub standing_in : Option Opened → CalmStanding → Command → CalmStanding
 standing_in None s Begin = record s { active = Some (begun s.next s.next); next = s.next + 1 }
 standing_in (Some o) s (Put key value) = record s { rows = with_row s.rows key value; top = s.lsn + 1; active = Some (with_write o (s.lsn + 1)); lsn = s.lsn + 1 }
 standing_in (Some o) s Commit = record s { active = None; commits = s.commits + 1; lsn = s.lsn + 1 }
@@ -100,7 +100,7 @@ pub record MayPut (limit : ℕ) (o : Opened) (rows : List LeafRow) (lsn next : �
   pub numbers : HasNumbers lsn next
 
 -- where the command is possible: one transaction after the other
-abbrev pub MayIn : ℕ → Option Opened → Standing → Command → Type 0
+abbrev pub MayIn : ℕ → Option Opened → CalmStanding → Command → Type 0
 MayIn limit None s Begin = Unit {0}
 MayIn limit (Some o) s (Get key) = Unit {0}
 MayIn limit (Some o) s (Put key value) = MayPut limit o s.rows s.lsn s.next key value
@@ -110,15 +110,15 @@ MayIn limit _ s c = ⊥
 -- ---- lives
 
 -- the entries of commands, one after the other
-abbrev pub entries_from : Standing → List Command → List Entry
+abbrev pub entries_from : CalmStanding → List Command → List Entry
 entries_from s [] = []
 entries_from s (c ∷ cs) = entries_in s.active s c ++ entries_from (standing_in s.active s c) cs
 
-abbrev pub standing_from : Standing → List Command → Standing
+abbrev pub standing_from : CalmStanding → List Command → CalmStanding
 standing_from s [] = s
 standing_from s (c ∷ cs) = standing_from (standing_in s.active s c) cs
 
 -- each one is possible after those before it
-abbrev pub ArePossible : ℕ → Standing → List Command → Type 0
+abbrev pub ArePossible : ℕ → CalmStanding → List Command → Type 0
 ArePossible limit s [] = Unit {0}
 ArePossible limit s (c ∷ cs) = MayIn limit s.active s c × ArePossible limit (standing_in s.active s c) cs

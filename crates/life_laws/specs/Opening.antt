@@ -5,7 +5,7 @@ use Rattle.std.specs.FinMap as finite
 use Rattle.wal_record.specs.State.{live}
 use Rattle.wal_record.specs.Chains.{head, greatest}
 use Rattle.wal_record.specs.OpenWrites.{open_writes, has_items}
-use Rattle.wal_record.specs.Contents.{committed}
+use Rattle.wal_record.specs.Contents.{committed_contents}
 use Rattle.wal_record.specs.Images.{image}
 use Rattle.wal_record.specs.Checkpoints.{commits}
 use Rattle.wal_record.specs.Sound.{AreLawful}
@@ -29,7 +29,7 @@ pub record IsOpened (log : List Record) : Type 0 where
   pub rows : List LeafRow
   pub leaf : image log 1 ≡ Some (only_leaf rows)
   pub calm : OpensWith log rows
-  pub contents : (key : List ℕ) → live rows key ≡ finite.get (committed log) key
+  pub contents : (key : List ℕ) → live rows key ≡ finite.get (committed_contents log) key
 
 abbrev pub OpeningLaw : List Record → Type 0
 OpeningLaw log = IsOpenable log → IsOpened log

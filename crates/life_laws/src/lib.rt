@@ -19,9 +19,10 @@ ghost use Rattle.life_laws.specs.Stops.{CalmStopsLaw, Commands};
 /// The law of calm lives. Commands are given to a fresh store, each where it is possible. Then at each
 /// entry of their life, also in the middle of a command: the history is legal; the serial run of its
 /// committed transactions has the replies that were said, and leaves the committed contents; a stop may
-/// leave each beginning of the log that has the acknowledged commits, so it may lose the records behind the
-/// last commit; and what it leaves has the first committed transactions, as many as it holds commits, each
-/// acknowledged one among them. At the end the leaf's rows have the current values of all keys.
+/// leave each beginning of the log that has its room and the acknowledged commits, so it may lose records
+/// behind the last commit; and what it leaves has the first committed transactions, as many as it holds
+/// commits, each acknowledged one among them. Such a life has room at each entry. At the end the leaf's rows
+/// have the current values of all keys.
 pub fn calm_law()
     ensures { (limit : ℕ) (commands : List Command) → CalmLaw limit commands }
 {}

@@ -8,7 +8,7 @@ use Rattle.media.specs.Kept.{Kept, without, bytes_at}
 use Rattle.log_blocks.specs.declared.header.Place.{Place}
 use Rattle.log_blocks.specs.Log.{Block, body, header, blocks, open_gate, IsSequence, IsRun, first_lsn, Behind, StandsFor}
 use Rattle.log_blocks.specs.LogState.{LogState, IsDurable, payload_at}
-use Rattle.log_blocks.specs.Opening.{FlushLeaves, Progress, IsChain, places}
+use Rattle.log_blocks.specs.Opening.{DropLeaves, FlushLeaves, Progress, IsChain, places}
 use Rattle.log_blocks.proofs.BlockLists.{blocks-append}
 use Rattle.log_blocks.proofs.FirstGate.{more_none}
 use Rattle.log_blocks.proofs.Progressing.{length-places}
@@ -176,3 +176,12 @@ dropped bs k c n p s lt is outcomes only left =
     let same = only left.0 left.1 in
     ⊎_elim (λ whole. inl (subst (StandsFor bs) (sym (whole ∙ same)) s))
     (λ cut. inr (subst (StandsFor (drop n bs)) (sym (cut ∙ ap (λ (x : Kept). without x p.at) same)) (stands_drop bs k n p s lt is))) left.2
+
+-- and what it leaves now
+pub drop_left : {D : Type 0} (told : D → Kept) (may_leave : D → Kept → Type 0) (old new : D) (bs : List Block) (n : ℕ) (p : Place) → StandsFor bs (told old) → Only (told old) (may_leave old)
+    → n < length bs → p ≡ get_or (places (told old).start bs) n p → (told new ≡ told old) ⊎ (told new ≡ without (told old) p.at)
+    → ((k : Kept) → may_leave new k → (d : Kept) × may_leave old d × ((k ≡ d) ⊎ (k ≡ without d p.at))) → DropLeaves told may_leave bs n new
+drop_left told may_leave old new bs n p stands only lt is told_either crash_either = record {
+  read = dropped bs (told old) (told new) n p stands lt is (λ k. k ≡ told old) (λ k same. same) (told old, refl, told_either);
+  crash = λ k left. dropped bs (told old) k n p stands lt is (may_leave old) only (crash_either k left);
+}

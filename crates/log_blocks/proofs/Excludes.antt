@@ -5,7 +5,7 @@ use Rattle.std.proofs.lemmas.Nat.{from_be_bytes-to_be_bytes_2, from_be_bytes-to_
 use Rattle.std.proofs.lemmas.List.{take_at}
 use Rattle.std.proofs.lemmas.Bool.Decides.{nat_tests}
 use Rattle.media.specs.Kept.{Kept}
-use Rattle.log_blocks.specs.Log.{Block, IsLawful, IsRun, IsSequence, StandsFor, blocks, body, header, open_gate, next_lsn}
+use Rattle.log_blocks.specs.Log.{Block, IsLawfulBlock, IsRun, IsSequence, StandsFor, blocks, body, header, open_gate, next_lsn}
 use Rattle.log_blocks.specs.Opening.{IsBadAt, fault_at, field_at, field2_at, field4_at, may_begin, follows}
 use Rattle.log_blocks.proofs.FirstGate.{long_behind}
 use Rattle.log_blocks.proofs.Unique.{same_block}
@@ -36,7 +36,7 @@ find n m (b ∷ bs) (c ∷ cs) rest r g rb rc shut same =
     let f = find (n + b.count) (m + c.count) bs cs rest r g rb.2 rc.2 shut s.1 in
     record { b = f.b; later = f.later; tail = f.tail; whole = λ i. sym s.0 i ∷ f.whole i; bytes = f.bytes; more = f.more }
 
-run_mid : (n : ℕ) (xs : List Block) (b : Block) (later : List Block) → IsRun n (xs ++ b ∷ later) → (b.first ≡ next_lsn n xs) × IsLawful b
+run_mid : (n : ℕ) (xs : List Block) (b : Block) (later : List Block) → IsRun n (xs ++ b ∷ later) → (b.first ≡ next_lsn n xs) × IsLawfulBlock b
 run_mid n [] b later run = (run.0, run.1)
 run_mid n (x ∷ xs) b later run = run_mid (n + x.count) xs b later run.2
 
@@ -46,7 +46,7 @@ first_begins start first a b c = grind (arith, nat_tests)
 next_begins : (start next first : ℕ) → 1 ≤ first → first < 9223372036854775808 → first ≡ next → may_begin start next first ≡ true
 next_begins start next first a b c = grind (arith, nat_tests)
 
-begins : (start : ℕ) (before : List Block) (b : Block) (later : List Block) → IsSequence start (before ++ b ∷ later) → (may_begin start (follows before) b.first ≡ true) × IsLawful b
+begins : (start : ℕ) (before : List Block) (b : Block) (later : List Block) → IsSequence start (before ++ b ∷ later) → (may_begin start (follows before) b.first ≡ true) × IsLawfulBlock b
 begins start [] b later s = (first_begins start b.first s.run.1.first (omega (arith, s.run.1.last, s.run.1.count.0)) s.from_one, s.run.1)
 begins start (x ∷ xs) b later s =
     let m = run_mid x.first (x ∷ xs) b later s.run in
@@ -90,7 +90,7 @@ fault_zero start next total head a b c d e g h =
     (passes (nat_lt total (23 + l)) 23 r6 (ge_no total (23 + l) (omega (arith, h)))
     (passes (nat_lt total (24 + l)) (23 + l) 0 (ge_no total (24 + l) h) refl)))))
 
-spelled_zero : (start next : ℕ) (b : Block) (tail : List ℕ) → may_begin start next b.first ≡ true → IsLawful b → 1 ≤ length tail
+spelled_zero : (start next : ℕ) (b : Block) (tail : List ℕ) → may_begin start next b.first ≡ true → IsLawfulBlock b → 1 ≤ length tail
     → fault_at start next (length (open_gate ∷ (body b ++ tail))) (take 23 (open_gate ∷ (body b ++ tail))) ≡ 0
 unfolding body header field_at field2_at field4_at
 spelled_zero start next b tail begin lawful more =

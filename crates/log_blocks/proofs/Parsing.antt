@@ -7,7 +7,7 @@ use Rattle.std.proofs.lemmas.Bool.Decides.{nat_tests}
 use Rattle.std.proofs.lemmas.List.{take-take, drop-take, drop-drop, take_all, length-take, get_or-take, get_or-drop, get_or_past}
 use Rattle.std.proofs.lemmas.Bool.{cases_lt}
 use Rattle.log_blocks.specs.declared.header.Header.{Header}
-use Rattle.log_blocks.specs.Log.{Block, IsLawful, body, header, open_gate}
+use Rattle.log_blocks.specs.Log.{Block, IsLawfulBlock, body, header, open_gate}
 use Rattle.log_blocks.specs.Opening.{field_at, field4_at, field2_at, fault_at, header_in, may_begin}
 
 pub split_take : (m n : ℕ) (xs : List ℕ) → take (m + n) xs ≡ take m xs ++ take n (drop m xs)
@@ -140,7 +140,7 @@ announced h rest = record { first = h.first; checkpoint = h.checkpoint; count = 
 
 pub record Parsed (start next : ℕ) (h : Header) (rest : List ℕ) : Type 0 where
   pub begins : may_begin start next h.first ≡ true
-  pub lawful : IsLawful (announced h rest)
+  pub lawful : IsLawfulBlock (announced h rest)
   pub size : length (announced h rest).payload ≡ h.length
   pub bytes : open_gate ∷ rest ≡ (open_gate ∷ body (announced h rest)) ++ drop (22 + h.length) rest
   pub wide : length (open_gate ∷ body (announced h rest)) ≡ 23 + h.length

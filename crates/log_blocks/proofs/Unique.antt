@@ -5,7 +5,7 @@ use Rattle.std.proofs.lemmas.Nat.{from_be_bytes-to_be_bytes_2, from_be_bytes-to_
 use Rattle.std.proofs.lemmas.List.{take_at, drop_at}
 use Rattle.std.proofs.lemmas.Bool.{cases_lt}
 use Rattle.media.specs.Kept.{Kept}
-use Rattle.log_blocks.specs.Log.{Block, IsLawful, IsRun, StandsFor, blocks, body, header, open_gate}
+use Rattle.log_blocks.specs.Log.{Block, IsLawfulBlock, IsRun, StandsFor, blocks, body, header, open_gate}
 use Rattle.log_blocks.proofs.FirstGate.{short_is, long_behind}
 
 -- two lists that begin with parts of one length
@@ -28,7 +28,7 @@ same_field f c n l f2 c2 n2 l2 r q a1 a2 b1 b2 d1 d2 e1 e2 same =
       whole.1,
     )
 
-pub same_block : (b c : Block) (r q : List ℕ) → IsLawful b → IsLawful c → body b ++ r ≡ body c ++ q → (b ≡ c) × (r ≡ q)
+pub same_block : (b c : Block) (r q : List ℕ) → IsLawfulBlock b → IsLawfulBlock c → body b ++ r ≡ body c ++ q → (b ≡ c) × (r ≡ q)
 unfolding body header
 same_block b c r q lb lc same =
     let s = same_field b.first b.checkpoint b.count (length b.payload) c.first c.checkpoint c.count (length c.payload) (b.payload ++ r) (c.payload ++ q)

@@ -5,13 +5,13 @@ use Rattle.std.proofs.lemmas.Bool.Decides.{nat_tests}
 use Rattle.media.specs.Kept.{Kept, end_of}
 use Rattle.log_blocks.specs.declared.header.Header.{Header}
 use Rattle.log_blocks.specs.declared.header.Place.{Place}
-use Rattle.log_blocks.specs.Log.{Block, IsLawful, IsRun, IsSequence, blocks, body, open_gate, next_lsn}
+use Rattle.log_blocks.specs.Log.{Block, IsLawfulBlock, IsRun, IsSequence, blocks, body, open_gate, next_lsn}
 use Rattle.log_blocks.specs.Opening.{fault_at, header_in, may_begin, places, follows, IsBadAt, IsOpened, IsChain, lsn_after}
 use Rattle.log_blocks.proofs.BlockLists.{blocks-push}
 use Rattle.log_blocks.proofs.Parsing.{Parsed, announced, parsed}
 use Rattle.log_blocks.proofs.Progressing.{length-places, places-push}
 
-run_push : (n : ℕ) (bs : List Block) (b : Block) → IsRun n bs → b.first ≡ next_lsn n bs → IsLawful b → IsRun n (bs ++ b ∷ [])
+run_push : (n : ℕ) (bs : List Block) (b : Block) → IsRun n bs → b.first ≡ next_lsn n bs → IsLawfulBlock b → IsRun n (bs ++ b ∷ [])
 run_push n [] b run is lawful = (is, lawful, tt)
 run_push n (x ∷ xs) b run is lawful = (run.0, run.1, run_push (n + x.count) xs b run.2 is lawful)
 
@@ -29,7 +29,7 @@ at_first start first is zero_is = grind (arith, nat_tests)
 after_some : (start next first : ℕ) → may_begin start next first ≡ true → 0 < next → first ≡ next
 after_some start next first is some = grind (arith, nat_tests)
 
-pub sequence_push : (start : ℕ) (bs : List Block) (b : Block) → IsSequence start bs → may_begin start (follows bs) b.first ≡ true → IsLawful b → IsSequence start (bs ++ b ∷ [])
+pub sequence_push : (start : ℕ) (bs : List Block) (b : Block) → IsSequence start bs → may_begin start (follows bs) b.first ≡ true → IsLawfulBlock b → IsSequence start (bs ++ b ∷ [])
 sequence_push start [] b s begins lawful = record { from_one = at_first start b.first begins; run = (refl, lawful, tt) }
 sequence_push start (x ∷ xs) b s begins lawful =
     let high = next_above x.first (x ∷ xs) in

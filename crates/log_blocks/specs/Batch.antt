@@ -1,6 +1,8 @@
 -- Blocks in memory, and what is added to them.
 use Rattle.std.specs.Prelude.{◌≡◌, ◌<◌, ◌≤◌, ◌+◌, ◌*◌, ◌^◌, ℕ, List, [], ◌∷◌, ◌++◌, length, Bool, nat_le, ◌&&◌, false, if◌then◌else◌, IfSome, Option, None, Some, slice_index_or}
 use Rattle.log_blocks.specs.Log.{Block}
+use Rattle.log_blocks.specs.declared.batch.TheConstants.{SHORT}
+use Rattle.log_blocks.specs.declared.layout.TheConstants.{MOST_BYTES, MOST_RECORDS}
 
 -- a block to which records are added, and how many bytes more can join them without memory
 pub record Filling : Type 0 where
@@ -16,7 +18,7 @@ pub record Batched : Type 0 where
 
 -- whether this many records more, and bytes of them, pass no limit of a block
 abbrev pub has_room : ℕ → ℕ → ℕ → ℕ → Bool
-has_room records bytes count size = nat_le (records + count) 65535 && nat_le (bytes + size) 4194304
+has_room records bytes count size = nat_le (records + count) MOST_RECORDS && nat_le (bytes + size) MOST_BYTES
 
 -- the block that these records begin
 abbrev pub begun : ℕ → ℕ → List ℕ → Block
@@ -55,8 +57,8 @@ IsChecked next (b ∷ bs) = (b.checkpoint < next + b.count) × IsChecked (next +
 
 -- the limits of a block
 pub record IsSized (b : Block) : Type 0 where
-  pub count : (1 ≤ b.count) × (b.count ≤ 65535)
-  pub payload : (1 ≤ length b.payload) × (length b.payload ≤ 4194304)
+  pub count : (1 ≤ b.count) × (b.count ≤ MOST_RECORDS)
+  pub payload : (1 ≤ length b.payload) × (length b.payload ≤ MOST_BYTES)
 
 abbrev pub AreSized : List Block → Type 0
 AreSized [] = Unit {0}
@@ -88,14 +90,14 @@ Joins count checkpoint bytes room (Some f) (Some g) = (block_in g ≡ begun (f.c
 pub record IsSpare (records : ℕ) (f : Filling) : Type 0 where
   pub none : f.count ≡ 0
   pub empty : f.payload ≡ []
-  pub room : 17 * records ≤ f.room
+  pub room : SHORT * records ≤ f.room
 
 -- What a batch keeps ready. The last block is open, and has room for each short record to come. A node waits for the
 -- open block and for each of these records, and so does a buffer, since each may begin a block.
 pub record IsReady (closed : List Block) (last : Option Filling) (nodes : List Block) (spares : List Filling) : Type 0 where
   pub alone : last ≡ None → closed ≡ []
   pub node_each : length nodes ≡ length spares + length (in_open last)
-  pub room : IfSome last (λ f. 17 * length spares ≤ f.room)
+  pub room : IfSome last (λ f. SHORT * length spares ≤ f.room)
   pub buffers : (i : ℕ) (f : Filling) → i < length spares → IsSpare (i + 1) (slice_index_or spares i f)
   pub sized : AreSized (closed ++ in_open last)
   pub few : length closed + length nodes < 2 ^ 63

@@ -38,6 +38,10 @@ durable_lsn found = lsn_behind found - 1
 abbrev pub firsts : {D : Type 0} → LogState D → List ℕ
 firsts log = map (λ p. p.first) log.places ++ map (λ b. b.first) log.pending
 
+-- how many records each block has, pending ones among them
+abbrev pub counts : {D : Type 0} → LogState D → List ℕ
+counts log = map (λ p. p.count) log.places ++ map (λ b. b.count) log.pending
+
 -- the payload of block i
 abbrev pub payload_at : List Block → ℕ → List ℕ
 payload_at [] i = []

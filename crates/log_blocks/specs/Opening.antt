@@ -1,5 +1,5 @@
 -- The headers that an opening reads.
-use Rattle.std.specs.Prelude.{◌≡◌, ◌<◌, ◌≤◌, ◌+◌, ◌-◌, ◌^◌, ℕ, List, [], ◌∷◌, ◌++◌, length, take, drop, Bool, nat_lt, nat_le, ◌==◌, ◌&&◌, ◌||◌, not, if◌then◌else◌}
+use Rattle.std.specs.Prelude.{◌≡◌, ◌⊎◌, ◌<◌, ◌≤◌, ◌+◌, ◌-◌, ◌^◌, ℕ, List, [], ◌∷◌, ◌++◌, length, take, drop, Bool, nat_lt, nat_le, ◌==◌, ◌&&◌, ◌||◌, not, if◌then◌else◌}
 use Rattle.std.specs.Int.{w16, w32, w64, from_be_bytes}
 use Rattle.std.specs.Prelude.{Result, Ok, Err}
 use Rattle.media.specs.Kept.{Kept}
@@ -9,6 +9,7 @@ use Rattle.store_model.specs.declared.fault.Fault.{Fault}
 use Rattle.store_model.specs.declared.fault.Fault.TheVariants.{Memory, LogFault, LogBad}
 use Rattle.log_blocks.specs.declared.header.Header.{Header}
 use Rattle.log_blocks.specs.declared.header.Place.{Place}
+use Rattle.log_blocks.specs.declared.layout.TheConstants.{CHECKPOINT_AT, COUNT_AT, FIRST_AT, LENGTH_AT, MOST_BYTES, PAYLOAD_AT}
 use Rattle.log_blocks.specs.Log.{Block, blocks, body, open_gate, next_lsn, IsSequence, StandsFor, StandsForMore}
 
 -- the number of this width at an offset
@@ -29,22 +30,22 @@ may_begin start next first = nat_le 1 first && nat_lt first 9223372036854775808 
 -- with an open gate, 0 where there is none. Of the bytes those of gate and header are given.
 abbrev pub length_fault : ℕ → List ℕ → ℕ
 length_fault total head =
-    if nat_lt total 23 || field4_at 19 head == 0 || nat_lt 4194304 (field4_at 19 head) then 19
-    else (if nat_lt total (23 + field4_at 19 head) then 23
-    else (if nat_lt total (24 + field4_at 19 head) then 23 + field4_at 19 head
+    if nat_lt total PAYLOAD_AT || field4_at LENGTH_AT head == 0 || nat_lt MOST_BYTES (field4_at LENGTH_AT head) then LENGTH_AT
+    else (if nat_lt total (PAYLOAD_AT + field4_at LENGTH_AT head) then PAYLOAD_AT
+    else (if nat_lt total (PAYLOAD_AT + 1 + field4_at LENGTH_AT head) then PAYLOAD_AT + field4_at LENGTH_AT head
     else 0))
 
 -- The offset of the first field that is cut or breaks its rule in total bytes that begin with an open gate,
 -- 0 where there is none. Of the bytes those of gate and header are given.
 unfoldable pub fault_at : ℕ → ℕ → ℕ → List ℕ → ℕ
 fault_at start next total head =
-    if nat_lt total 9 || not (may_begin start next (field_at 1 head)) then 1
-    else (if nat_lt total 17 || nat_le 9223372036854775808 (field_at 9 head) || (nat_le 19 total && nat_le (field_at 1 head + field2_at 17 head) (field_at 9 head)) then 9
-    else (if nat_lt total 19 || field2_at 17 head == 0 || nat_lt 9223372036854775808 (field_at 1 head + field2_at 17 head) then 17
+    if nat_lt total CHECKPOINT_AT || not (may_begin start next (field_at FIRST_AT head)) then FIRST_AT
+    else (if nat_lt total COUNT_AT || nat_le 9223372036854775808 (field_at CHECKPOINT_AT head) || (nat_le LENGTH_AT total && nat_le (field_at FIRST_AT head + field2_at COUNT_AT head) (field_at CHECKPOINT_AT head)) then CHECKPOINT_AT
+    else (if nat_lt total LENGTH_AT || field2_at COUNT_AT head == 0 || nat_lt 9223372036854775808 (field_at FIRST_AT head + field2_at COUNT_AT head) then COUNT_AT
     else length_fault total head))
 
 unfoldable pub header_in : List ℕ → Header
-header_in head = record { first = field_at 1 head; checkpoint = field_at 9 head; count = field2_at 17 head; length = field4_at 19 head }
+header_in head = record { first = field_at FIRST_AT head; checkpoint = field_at CHECKPOINT_AT head; count = field2_at COUNT_AT head; length = field4_at LENGTH_AT head }
 
 -- where a block stands, and its header
 abbrev pub place_of : ℕ → Block → Place
@@ -58,7 +59,7 @@ places at (b ∷ bs) = place_of at b ∷ places (at + length (open_gate ∷ body
 -- each block stands behind the one before, from an offset on, and the gate behind the last
 abbrev pub IsChain : ℕ → List Place → ℕ → Type 0
 IsChain at [] gate = gate ≡ at
-IsChain at (p ∷ ps) gate = (p.at ≡ at) × IsChain (at + (23 + p.length)) ps gate
+IsChain at (p ∷ ps) gate = (p.at ≡ at) × IsChain (at + (PAYLOAD_AT + p.length)) ps gate
 
 -- the LSN after that of the last record, 0 where there is no block
 abbrev pub lsn_after : List Place → ℕ
@@ -93,6 +94,15 @@ pub record FlushLeaves {D : Type 0} (told : D → Kept) (may_leave : D → Kept 
   pub read : StandsForMore bs pending done (told device)
   pub crash : (k : Kept) → may_leave device k → StandsForMore bs pending done k
 
+-- all blocks, or all but the first n
+abbrev pub StandsForRest : List Block → ℕ → Kept → Type 0
+StandsForRest bs n k = StandsFor bs k ⊎ StandsFor (drop n bs) k
+
+-- What dropping the first n blocks leaves, also where it failed: for a read now, and for one after a crash that comes now.
+pub record DropLeaves {D : Type 0} (told : D → Kept) (may_leave : D → Kept → Type 0) (bs : List Block) (n : ℕ) (device : D) : Type 0 where
+  pub read : StandsForRest bs n (told device)
+  pub crash : (k : Kept) → may_leave device k → StandsForRest bs n k
+
 -- the LSN that the next block has to begin with, 0 where there is no block
 abbrev pub follows : List Block → ℕ
 follows [] = 0
@@ -105,7 +115,7 @@ pub record IsBadAt (block byte : ℕ) (k : Kept) : Type 0 where
   pub bytes : k.bytes ≡ blocks before ++ open_gate ∷ rest
   pub sequence : IsSequence k.start before
   pub number : length before ≡ block
-  pub fault : fault_at k.start (follows before) (length (open_gate ∷ rest)) (take 23 (open_gate ∷ rest)) ≡ byte
+  pub fault : fault_at k.start (follows before) (length (open_gate ∷ rest)) (take PAYLOAD_AT (open_gate ∷ rest)) ≡ byte
   pub is_one : 0 < byte
   pub long : 1 < length k.bytes
 

@@ -4,6 +4,7 @@ ghost use Rattle.log_blocks.specs.Log.{Block};
 ghost use Rattle.log_blocks.specs.Batch.{Batched, Filling, Grows, Joins, IsSpare, IsSized, AreSized, block_in, in_open, joins, joined, begun, with_group};
 
 use crate::block::{BlockBuf, OpenBlock};
+use crate::layout::MOST_BYTES;
 use std::alloc::Global;
 use std::collections::LinkedList;
 use std::marker::Model;
@@ -83,7 +84,7 @@ impl Batch {
     /// Adds a group of records to the last block, or to a new one where there is none or the last would pass a limit.
     pub fn push(&mut self, count: u16, checkpoint: Lsn, bytes: &[u8]) -> Result<(), Memory>
         requires records { (1 ≤ count) × (count ≤ 3) }
-        requires size { (1 ≤ length bytes.now) × (length bytes.now ≤ 4194304) }
+        requires size { (1 ≤ length bytes.now) × (length bytes.now ≤ MOST_BYTES) }
         ensures ok { OnOk result (self.new ≡ record { blocks = with_group self.old.blocks count checkpoint bytes.now; spare = self.old.spare }) }
         ensures err { OnErr result (self.new ≡ self.old) }
     {
@@ -117,7 +118,7 @@ impl Batch {
     /// Adds one record of at most 17 bytes as `push` does, without memory.
     pub fn push_short(&mut self, checkpoint: Lsn, bytes: &[u8])
         requires spare { 1 ≤ self.old.spare }
-        requires size { (1 ≤ length bytes.now) × (length bytes.now ≤ 17) }
+        requires size { (1 ≤ length bytes.now) × (length bytes.now ≤ SHORT) }
         ensures { self.new ≡ record { blocks = with_group self.old.blocks 1 checkpoint bytes.now; spare = self.old.spare - 1 } }
     {
         if self.takes(1, bytes.len()) {
@@ -165,7 +166,7 @@ impl Batch {
     /// Records join the last block.
     fn join(&mut self, count: u16, checkpoint: Lsn, bytes: &[u8]) -> Result<(), Memory>
         requires takes { IsTrue (joins self.old.blocks count (length bytes.now)) }
-        requires size { (1 ≤ length bytes.now) × (length bytes.now ≤ 4194304) }
+        requires size { (1 ≤ length bytes.now) × (length bytes.now ≤ MOST_BYTES) }
         ensures ok { OnOk result (self.new ≡ record { blocks = joined self.old.blocks count checkpoint bytes.now; spare = self.old.spare }) }
         ensures err { OnErr result (self.new ≡ self.old) }
     {
@@ -178,7 +179,7 @@ impl Batch {
     /// Records begin a block.
     fn begin(&mut self, count: u16, checkpoint: Lsn, bytes: &[u8]) -> Result<(), Memory>
         requires records { (1 ≤ count) × (count ≤ 3) }
-        requires size { (1 ≤ length bytes.now) × (length bytes.now ≤ 4194304) }
+        requires size { (1 ≤ length bytes.now) × (length bytes.now ≤ MOST_BYTES) }
         ensures ok { OnOk result (self.new ≡ record { blocks = self.old.blocks ++ begun count checkpoint bytes.now ∷ []; spare = self.old.spare }) }
         ensures err { OnErr result (self.new ≡ self.old) }
     {
@@ -198,7 +199,7 @@ impl Batch {
     fn join_short(&mut self, checkpoint: Lsn, bytes: &[u8])
         requires takes { IsTrue (joins self.old.blocks 1 (length bytes.now)) }
         requires spare { 1 ≤ self.old.spare }
-        requires size { (1 ≤ length bytes.now) × (length bytes.now ≤ 17) }
+        requires size { (1 ≤ length bytes.now) × (length bytes.now ≤ SHORT) }
         ensures { self.new ≡ record { blocks = joined self.old.blocks 1 checkpoint bytes.now; spare = self.old.spare - 1 } }
     {
         self.spares.pop();
@@ -209,7 +210,7 @@ impl Batch {
     /// A short record begins a block.
     fn begin_short(&mut self, checkpoint: Lsn, bytes: &[u8])
         requires spare { 1 ≤ self.old.spare }
-        requires size { (1 ≤ length bytes.now) × (length bytes.now ≤ 17) }
+        requires size { (1 ≤ length bytes.now) × (length bytes.now ≤ SHORT) }
         ensures { self.new ≡ record { blocks = self.old.blocks ++ begun 1 checkpoint bytes.now ∷ []; spare = self.old.spare - 1 } }
     {
         let mut next = match self.spares.pop() {

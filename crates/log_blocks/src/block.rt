@@ -6,19 +6,11 @@ ghost use Rattle.log_blocks.specs.Batch.{Filling, has_room, begun};
 ghost use Rattle.log_blocks.specs.Opening.{place_of};
 
 use crate::header::Place;
+use crate::layout::{CLOSED, HEADER, MOST_BYTES, MOST_RECORDS, PAYLOAD_AT};
 use std::alloc::{AllocError, Global};
 use std::collections::LinkedList;
 use std::marker::Model;
 use store_model::Memory;
-
-/// The bytes of a header behind the gate.
-pub const HEADER: usize = 22;
-
-/// The most records of a block.
-const MOST_RECORDS: u32 = 65_535;
-
-/// The most bytes of a block's payload.
-const MOST_BYTES: usize = 4_194_304;
 
 /// The bytes of a block from behind its gate on, with the closed gate of the next, and a node for its place in the
 /// list of the durable blocks.
@@ -42,12 +34,13 @@ pub struct OpenBlock {
 impl Model for OpenBlock {
     ghost use Rattle.std.specs.Prelude.{◌≡◌, ◌≤◌, ◌<◌, ◌+◌, ◌-◌, length, drop, vec_len, vec_capacity};
     ghost use Rattle.log_blocks.specs.Batch.{Filling};
+    ghost use Rattle.log_blocks.specs.declared.layout.TheConstants.{HEADER};
 
     ghost Value = { Filling };
 
-    ghost view = { λ b. record { checkpoint = b.checkpoint; count = b.count; payload = drop 22 b.bytes.items; room = vec_capacity b.bytes - (vec_len b.bytes + 1) } };
+    ghost view = { λ b. record { checkpoint = b.checkpoint; count = b.count; payload = drop HEADER b.bytes.items; room = vec_capacity b.bytes - (vec_len b.bytes + 1) } };
 
-    ghost invariant = { λ b. (22 ≤ length b.bytes.items) × (vec_len b.bytes < vec_capacity b.bytes) };
+    ghost invariant = { λ b. (HEADER ≤ length b.bytes.items) × (vec_len b.bytes < vec_capacity b.bytes) };
 }
 
 impl OpenBlock {
@@ -80,7 +73,8 @@ impl OpenBlock {
         requires { size < 2 ^ 63 }
         ensures { result ≡ has_room self.now.count (length self.now.payload) count size }
     {
-        self.count as u32 + count as u32 <= MOST_RECORDS && self.size() + size <= MOST_BYTES
+        self.count as u32 + count as u32 <= MOST_RECORDS as u32
+            && self.size() + size <= MOST_BYTES as usize
     }
 
     /// Makes room for this many bytes of records more.
@@ -113,6 +107,7 @@ impl OpenBlock {
 impl Model for BlockBuf {
     ghost use Rattle.std.specs.Prelude.{◌≡◌, ◌≤◌, length};
     ghost use Rattle.log_blocks.specs.Log.{Block, block_of, laid};
+    ghost use Rattle.log_blocks.specs.declared.layout.TheConstants.{PAYLOAD_AT};
 
     ghost Value = { Block };
 
@@ -120,7 +115,7 @@ impl Model for BlockBuf {
 
     ghost invariant = { λ b. record {
       bytes : b.bytes.items ≡ laid (block_of b.first b.checkpoint b.count b.bytes.items);
-      long : 23 ≤ length b.bytes.items;
+      long : PAYLOAD_AT ≤ length b.bytes.items;
       node : length b.node ≡ 1;
     } };
 }
@@ -212,7 +207,7 @@ impl BlockBuf {
                     first,
                     checkpoint,
                     count,
-                    length: (bytes.len() - (HEADER + 1)) as u32,
+                    length: (bytes.len() - PAYLOAD_AT) as u32,
                 }
             }
             None => unreachable!(),
@@ -242,7 +237,7 @@ fn laid_out(block: OpenBlock) -> Vec<u8>
     } = block;
     let size = (bytes.len() - HEADER) as u32;
     put_header(bytes.as_mut_slice(), checkpoint, count, size);
-    match bytes.push(0) {
+    match bytes.push(CLOSED) {
         Ok(()) => {}
         Err(_) => unreachable!(),
     }
@@ -251,8 +246,8 @@ fn laid_out(block: OpenBlock) -> Vec<u8>
 
 /// Puts the fields of a header in front, with the first LSN 0.
 fn put_header(bytes: &mut [u8], checkpoint: u64, count: u16, size: u32)
-    requires { 22 ≤ length bytes.old }
-    ensures { bytes.new ≡ (((to_be_bytes w64 0 ++ to_be_bytes w64 checkpoint) ++ to_be_bytes w16 count) ++ to_be_bytes w32 size) ++ drop 22 bytes.old }
+    requires { HEADER ≤ length bytes.old }
+    ensures { bytes.new ≡ (((to_be_bytes w64 0 ++ to_be_bytes w64 checkpoint) ++ to_be_bytes w16 count) ++ to_be_bytes w32 size) ++ drop HEADER bytes.old }
 {
     put(bytes, 0, &0u64.to_be_bytes());
     put(bytes, 8, &checkpoint.to_be_bytes());

@@ -9,6 +9,7 @@ ghost use Rattle.log_blocks.specs.Opening.{FlushLeaves, Progress, place_of};
 
 use crate::block::BlockBuf;
 use crate::header::Place;
+use crate::layout::CLOSED;
 use crate::write::{put_down, write_block};
 use media::{Disk, Failed};
 use std::collections::LinkedList;
@@ -32,7 +33,7 @@ fn make_gate<D: Disk>(device: &mut D, gate: u64, is_first: bool) -> Result<(), F
     ensures fuse { Blames D.passes D.refused D.own device.old device.new (Fails result) }
 {
     if device.len() - device.start() <= 1 {
-        put_down(device, gate, &[0])
+        put_down(device, gate, &[CLOSED])
     } else if is_first {
         device.sync()
     } else {

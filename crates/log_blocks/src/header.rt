@@ -2,6 +2,8 @@
 ghost use Rattle.std.specs.Prelude.{◌≡◌, ◌+◌, ◌<◌, ◌≤◌, ◌^◌, min, length, take, drop, MatchResult, IfOk, ℕ, slice_index};
 ghost use Rattle.log_blocks.specs.Opening.{field_at, field4_at, field2_at, fault_at, header_in, length_fault, may_begin};
 
+use crate::layout::{CHECKPOINT_AT, COUNT_AT, FIRST_AT, LENGTH_AT, MOST_BYTES, PAYLOAD_AT};
+
 /// What stands between a block's gate and its payload.
 #[derive(Clone, Copy)]
 pub struct Header {
@@ -51,9 +53,6 @@ fn u16_at(head: &[u8], at: usize) -> u16
 /// The highest LSN.
 const HIGHEST: u64 = (1 << 63) - 1;
 
-/// The most bytes of a payload.
-const LONGEST: u32 = 4_194_304;
-
 /// Whether a block may begin with this LSN. `next` is the LSN that it has to begin with, 0 for any.
 fn may_begin(start: u64, next: u64, first: u64) -> bool
     ensures { result ≡ may_begin start next first }
@@ -69,21 +68,21 @@ fn may_begin(start: u64, next: u64, first: u64) -> bool
 
 /// The length of the payload, or the offset of the first of the fields from its length on that is cut or breaks a rule.
 fn judge_length(head: &[u8], total: u64) -> Result<u32, u64>
-    requires size { length head.now ≡ min 23 total }
-    ensures in_range { IfOk result (λ size. (size ≤ 4194304) × (24 + size ≤ total)) }
+    requires size { length head.now ≡ min PAYLOAD_AT total }
+    ensures in_range { IfOk result (λ size. (size ≤ MOST_BYTES) × (PAYLOAD_AT + size < total)) }
     ensures exact { MatchResult result
-        (λ size. (length_fault total head.now ≡ 0) × (size ≡ field4_at 19 head.now))
+        (λ size. (length_fault total head.now ≡ 0) × (size ≡ field4_at LENGTH_AT head.now))
         (λ byte. (length_fault total head.now ≡ byte) × (0 < byte)) }
 {
-    if total < 23 {
-        return Err(19);
+    if total < PAYLOAD_AT as u64 {
+        return Err(LENGTH_AT as u64);
     }
-    let length = u32_at(head, 19);
-    let end = 23 + length as u64;
-    if length == 0 || length > LONGEST {
-        Err(19)
+    let length = u32_at(head, LENGTH_AT);
+    let end = PAYLOAD_AT as u64 + length as u64;
+    if length == 0 || length > MOST_BYTES {
+        Err(LENGTH_AT as u64)
     } else if total < end {
-        Err(23)
+        Err(PAYLOAD_AT as u64)
     } else if total < end + 1 {
         Err(end)
     } else {
@@ -95,36 +94,36 @@ fn judge_length(head: &[u8], total: u64) -> Result<u32, u64>
 /// of the first field that is cut or breaks a rule. `next` is the LSN that the block has to begin with, 0 for any.
 #[tactic(auto, unfolding(crate::specs::Opening::fault_at, crate::specs::Opening::header_in))]
 pub fn judge(head: &[u8], total: u64, start: u64, next: u64) -> Result<Header, u64>
-    requires { length head.now ≡ min 23 total }
-    ensures in_range { IfOk result (λ h. (h.count < 2 ^ 16) × (h.first + h.count ≤ 2 ^ 63) × (h.length ≤ 4194304) × (24 + h.length ≤ total)) }
+    requires { length head.now ≡ min PAYLOAD_AT total }
+    ensures in_range { IfOk result (λ h. (h.count < 2 ^ 16) × (h.first + h.count ≤ 2 ^ 63) × (h.length ≤ MOST_BYTES) × (PAYLOAD_AT + h.length < total)) }
     ensures bytes { (i : ℕ) → slice_index head.now i < 256 }
     ensures exact { MatchResult result
         (λ h. (fault_at start next total head.now ≡ 0) × (h ≡ header_in head.now))
         (λ byte. (fault_at start next total head.now ≡ byte) × (0 < byte)) }
 {
-    if total < 9 {
-        return Err(1);
+    if total < CHECKPOINT_AT as u64 {
+        return Err(FIRST_AT as u64);
     }
-    let first = u64_at(head, 1);
+    let first = u64_at(head, FIRST_AT);
     if !may_begin(start, next, first) {
-        return Err(1);
+        return Err(FIRST_AT as u64);
     }
-    if total < 17 {
-        return Err(9);
+    if total < COUNT_AT as u64 {
+        return Err(CHECKPOINT_AT as u64);
     }
-    let checkpoint = u64_at(head, 9);
+    let checkpoint = u64_at(head, CHECKPOINT_AT);
     if checkpoint > HIGHEST {
-        return Err(9);
+        return Err(CHECKPOINT_AT as u64);
     }
-    if total < 19 {
-        return Err(17);
+    if total < LENGTH_AT as u64 {
+        return Err(COUNT_AT as u64);
     }
-    let count = u16_at(head, 17);
+    let count = u16_at(head, COUNT_AT);
     if checkpoint >= first + count as u64 {
-        return Err(9);
+        return Err(CHECKPOINT_AT as u64);
     }
     if count == 0 || first + count as u64 > HIGHEST + 1 {
-        return Err(17);
+        return Err(COUNT_AT as u64);
     }
     let length = judge_length(head, total)?;
     Ok(Header {

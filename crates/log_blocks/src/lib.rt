@@ -22,10 +22,15 @@ mod block;
 mod flush;
 mod header;
 mod laws;
+mod layout;
 mod log;
 mod opening;
 mod write;
 
 pub use batch::Batch;
 pub use laws::{never_bad, one_log};
+pub use layout::{
+    CHECKPOINT_AT, CLOSED, COUNT_AT, FIRST_AT, HEADER, LENGTH_AT, MOST_BYTES, MOST_RECORDS, OPEN,
+    PAYLOAD_AT,
+};
 pub use log::{BlockLog, OpenRefused, open_log};

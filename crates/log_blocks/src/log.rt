@@ -7,22 +7,20 @@ ghost use Rattle.media.specs.Kept.{Kept, bytes_at};
 ghost use Rattle.store_model.specs.declared.fault.Fault.TheVariants as faults;
 ghost use Rattle.log_blocks.specs.Batch.{IsChecked, numbered, records_in, AreSized};
 ghost use Rattle.log_blocks.specs.Log.{Block, IsRun, StandsFor, StandsForSome, blocks, laid, next_lsn};
-ghost use Rattle.log_blocks.specs.LogState.{AreNumbered, LogState, IsDurable, Refused, checkpoint_of, durable_lsn, firsts, last_or, log_end, payload_at};
-ghost use Rattle.log_blocks.specs.Opening.{FlushLeaves, IsLogFault, Progress, RoseFor, TellsFault};
+ghost use Rattle.log_blocks.specs.LogState.{AreNumbered, LogState, IsDurable, Refused, checkpoint_of, counts, durable_lsn, firsts, last_or, log_end, payload_at};
+ghost use Rattle.log_blocks.specs.Opening.{DropLeaves, FlushLeaves, IsLogFault, Progress, RoseFor, StandsForRest, TellsFault};
 
 use crate::batch::{Batch, pass};
 use crate::block::BlockBuf;
 use crate::flush::flush_all;
 use crate::header::Place;
+use crate::layout::PAYLOAD_AT;
 use crate::opening::walk;
 use media::Disk;
 use std::alloc::Global;
 use std::collections::LinkedList;
 use std::marker::Model;
 use store_model::{Fault, Lsn, Memory};
-
-/// The bytes of a block before its payload.
-const HEAD: u64 = 23;
 
 /// The blocks of a log: those that are durable on its disk, and pending ones in memory.
 #[derive(Drop)]
@@ -109,7 +107,8 @@ pub fn open_log<L: Disk>(alloc: Global, disk: L) -> Result<BlockLog<L>, OpenRefu
 impl<L: Disk> BlockLog<L> {
     /// How many blocks there are, pending ones among them.
     pub fn blocks(&self) -> u64
-        ensures { result ≡ length self.now.places + length self.now.pending }
+        ensures value { result ≡ length self.now.places + length self.now.pending }
+        ensures numbered { AreNumbered self.now }
     {
         self.durable() + self.pending.len() as u64
     }
@@ -159,6 +158,18 @@ impl<L: Disk> BlockLog<L> {
             self.place(i as usize).first
         } else {
             self.waiting((i - self.durable()) as usize).first()
+        }
+    }
+
+    /// How many records a block has, counted from 0.
+    pub fn count_of(&self, i: u64) -> u16
+        requires { i < length self.now.places + length self.now.pending }
+        ensures { result ≡ slice_index_or (counts self.now) i 0 }
+    {
+        if i < self.durable() {
+            self.place(i as usize).count
+        } else {
+            self.waiting((i - self.durable()) as usize).count()
         }
     }
 
@@ -253,7 +264,7 @@ impl<L: Disk> BlockLog<L> {
         match read_payload(
             self.alloc,
             &mut self.device,
-            place.at + HEAD,
+            place.at + PAYLOAD_AT as u64,
             place.length as usize,
             out,
         ) {
@@ -274,7 +285,9 @@ impl<L: Disk> BlockLog<L> {
         ensures durable { L.tells → (bs : List Block) → IsDurable L.told L.may_leave self.old bs → OnOk result (IsDurable L.told L.may_leave self.new (drop n bs)) }
         // A crash at any moment leaves all durable blocks, or all but those.
         ensures any_moment { L.tells → (bs : List Block) → IsDurable L.told L.may_leave self.old bs
-            → LeavesOnly L.moment L.left_since self.old.device self.new.device (λ c. StandsFor bs c ⊎ StandsFor (drop n bs) c) }
+            → LeavesOnly L.moment L.left_since self.old.device self.new.device (StandsForRest bs n) }
+        // After a fault, too, a read gives all of them, or all but those.
+        ensures left { L.tells → (bs : List Block) → IsDurable L.told L.may_leave self.old bs → DropLeaves L.told L.may_leave bs n self.new.device }
         ensures live { OnOk result (self.old.ended ≡ None) }
         ensures refused { IfErr result (Refused ⊥ L.faults self.old self.new) }
         ensures later { L.faults self.old.device ≤ L.faults self.new.device }

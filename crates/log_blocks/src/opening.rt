@@ -6,11 +6,10 @@ ghost use Rattle.media.specs.Counted.{Blames, Fails};
 ghost use Rattle.log_blocks.specs.Opening.{IsLogFault, IsPlaced, Tells, RoseIn};
 
 use crate::header::{Header, Place, judge};
+use crate::layout::{MOST_BYTES, OPEN, PAYLOAD_AT};
 use media::{Disk, Failed};
 use std::alloc::Global;
 use store_model::{Fault, Memory};
-
-const OPEN: u8 = 0xA5;
 
 /// What the headers tell.
 #[derive(Drop)]
@@ -35,10 +34,10 @@ impl Walked {
     /// The block behind the gate has this header. The next gate stands behind the block.
     fn add(&mut self, header: Header) -> Result<(), Memory>
         requires gate { self.old.gate < 2 ^ 63 }
-        requires size { header.length ≤ 4194304 }
+        requires size { header.length ≤ MOST_BYTES }
         requires last { header.first + header.count ≤ 2 ^ 63 }
         ensures places { OnOk result (self.new.places.items ≡ self.old.places.items ++ (record { at = self.old.gate; first = header.first; checkpoint = header.checkpoint; count = header.count; length = header.length }) ∷ []) }
-        ensures gate { OnOk result (self.new.gate ≡ self.old.gate + (23 + header.length)) }
+        ensures gate { OnOk result (self.new.gate ≡ self.old.gate + (PAYLOAD_AT + header.length)) }
         ensures next { OnOk result (self.new.next ≡ header.first + header.count) }
     {
         self.places.push(Place {
@@ -48,18 +47,18 @@ impl Walked {
             count: header.count,
             length: header.length,
         })?;
-        self.gate += 23 + header.length as u64;
+        self.gate += PAYLOAD_AT as u64 + header.length as u64;
         self.next = header.first + header.count as u64;
         Ok(())
     }
 }
 
-/// The bytes from an offset on, at most 23 of them.
+/// The bytes from an offset on, as far as the payload of a block there.
 fn look<D: Disk>(device: &mut D, at: u64, buf: &mut [u8]) -> Result<usize, Failed>
-    requires size { length buf.old ≡ 23 }
+    requires size { length buf.old ≡ PAYLOAD_AT }
     requires not_before { D.start device.old ≤ at }
-    ensures count { IfOk result (λ n. n ≡ min 23 (D.len device.old - at)) }
-    ensures bytes { D.tells → IfOk result (λ n. take n buf.new ≡ take 23 (drop (at - (D.told device.old).start) (D.told device.old).bytes)) }
+    ensures count { IfOk result (λ n. n ≡ min PAYLOAD_AT (D.len device.old - at)) }
+    ensures bytes { D.tells → IfOk result (λ n. take n buf.new ≡ take PAYLOAD_AT (drop (at - (D.told device.old).start) (D.told device.old).bytes)) }
     ensures start { D.start device.new ≡ D.start device.old }
     ensures len { D.len device.new ≡ D.len device.old }
     ensures same { D.tells → D.told device.new ≡ D.told device.old }
@@ -91,7 +90,7 @@ pub fn walk<D: Disk>(alloc: Global, device: &mut D) -> Result<Walked, Fault>
         return Ok(found);
     }
     while found.gate < len {
-        let mut buf = [0u8; 23];
+        let mut buf = [0u8; PAYLOAD_AT];
         let n = match look(device, found.gate, &mut buf) {
             Ok(n) => n,
             Err(_) => return Err(Fault::LogFault),

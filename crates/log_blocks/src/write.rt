@@ -6,9 +6,8 @@ ghost use Rattle.media.specs.Cause.{HasCause};
 ghost use Rattle.media.specs.Counted.{Blames, Fails};
 ghost use Rattle.log_blocks.specs.Log.{Behind, IsSequence, StandsFor, StandsForSome, blocks, open_gate};
 
+use crate::layout::OPEN;
 use media::{Disk, Failed};
-
-const OPEN: u8 = 0xA5;
 
 /// Writes bytes and syncs.
 pub fn put_down<D: Disk>(device: &mut D, at: u64, bytes: &[u8]) -> Result<(), Failed>

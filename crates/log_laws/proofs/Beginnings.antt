@@ -6,7 +6,7 @@ use Rattle.std.proofs.lemmas.List.Elements.{filter-append, Contains-append_left,
 use Rattle.store_model.specs.Along.{along}
 use Rattle.wal_record.specs.Chains.{names, head, Link, is_link_of, link_of}
 use Rattle.wal_record.specs.OpenWrites.{open_writes, open_step, without_last}
-use Rattle.wal_record.specs.Contents.{after, current, committed, committed_step}
+use Rattle.wal_record.specs.Contents.{after, current, committed_contents, committed_step}
 use Rattle.wal_record.specs.Sound.{IsLawful}
 use Rattle.wal_record.specs.Legal.{IsAllowed}
 use Rattle.wal_record.specs.declared.record.Record.{Record}
@@ -44,6 +44,7 @@ heads_rise log p = by_pushes (λ (rest : List Record). head log p ≤ head (log 
 
 pub beginning : (log rest : List Record) → BeginningLaw log rest
 beginning log rest = record {
+  lawful = AllAlong_less IsLawful log rest;
   sound = λ sound room. record { lawful = AllAlong_less IsLawful log rest sound.lawful; room = room };
   heads = λ p. heads_rise log p rest;
 }
@@ -54,7 +55,7 @@ history_beginning opening h rest = record { legal = AllAlong_less (IsAllowed ope
 pub commits_only : (log : List Record) (r : Record) → CommitsLaw log r
 commits_only log r = record { same = λ e. committed_push log r ∙ none r e }
   where
-    none : (r : Record) → is_commit r ≡ false → committed_step log (committed log) r ≡ committed log
+    none : (r : Record) → is_commit r ≡ false → committed_step log (committed_contents log) r ≡ committed_contents log
     none (kinds.Commit c) e = absurd cc
     none r e = refl
 
@@ -123,7 +124,7 @@ structure log r = record { current = λ e. current_push log r ∙ same r e; comm
     same (kinds.Undo u) e = absurd (is_none _ e)
     same r e = refl
 
-    kept : (r : Record) → link_of r ≡ None → committed_step log (committed log) r ≡ committed log
+    kept : (r : Record) → link_of r ≡ None → committed_step log (committed_contents log) r ≡ committed_contents log
     kept (kinds.Commit c) e = absurd (is_none _ e)
     kept r e = refl
 

@@ -21,7 +21,7 @@ use Rattle.wal_record.specs.declared.record.Commit.{Commit}
 use Rattle.wal_record.specs.declared.record.Record.{Record}
 use Rattle.wal_record.specs.declared.record.Record.TheVariants as kinds
 use Rattle.store_model.specs.Along.{along}
-use Rattle.wal_record.specs.Contents.{after, current, committed_step, committed, given}
+use Rattle.wal_record.specs.Contents.{after, current, committed_step, committed_contents, given}
 use Rattle.wal_record.specs.OpenWrites.{open_step, open_writes, writes, opens, key_of, old_of, without_last}
 use Rattle.wal_record.specs.State.{same_key}
 use Rattle.wal_record.specs.Sound.{TakesBack, IsLawful, AreLawful}
@@ -374,10 +374,10 @@ Kept_commit m o off kept c = record { apart = apart; value = value; olds = λ t.
 -- ---- over whole logs
 
 abbrev pub KeptLog : List Record → Type 0
-KeptLog log = Kept (current log) (open_writes log) (committed log)
+KeptLog log = Kept (current log) (open_writes log) (committed_contents log)
 
 kept_none : KeptLog []
-unfolding current open_writes committed along
+unfolding current open_writes committed_contents along
 kept_none = record { apart = λ key t u a b. absurd (not_both false a refl); value = λ key t h. refl; olds = λ t. tt }
 
 moved : (m n : Contents) (o p : ℕ → List Record) (off off' : Contents) → m ≡ n → ((t : ℕ) → o t ≡ p t) → off ≡ off' → Kept m o off → Kept n p off'
@@ -412,7 +412,7 @@ taken_old u (kinds.Write w) h = h.1
 taken_old u (kinds.Apply a) h = h.1
 taken_old u _ h = absurd h
 
-arrive : (log : List Record) (r : Record) (o : ℕ → List Record) (off : Contents) → ((t : ℕ) → open_step t r (open_writes log t) r ≡ o t) → committed_step log (committed log) r ≡ off → Kept (after (current log) r) o off → KeptLog (log ++ r ∷ [])
+arrive : (log : List Record) (r : Record) (o : ℕ → List Record) (off : Contents) → ((t : ℕ) → open_step t r (open_writes log t) r ≡ o t) → committed_step log (committed_contents log) r ≡ off → Kept (after (current log) r) o off → KeptLog (log ++ r ∷ [])
 arrive log r o off a b k = moved _ _ _ _ _ _ (sym (current_push log r)) (λ t. sym (open_push log r t ∙ a t)) (sym (committed_push log r ∙ b)) k
 
 kept_more : (log : List Record) (r : Record) → IsLawful log r → KeptLog log → KeptLog (log ++ r ∷ [])
@@ -441,20 +441,20 @@ kept_log = by_pushes (λ log. AreLawful log → KeptLog log) (λ _. kept_none) (
 
 open_by : (log : List Record) → KeptLog log → (key : List ℕ) (t : ℕ) → opens log key t ≡ true → IsOpenBy log key t
 open_by log k key t h =
-    let f = first_old (get (committed log)) key (open_writes log t) (k.olds t) h in
+    let f = first_old (get (committed_contents log)) key (open_writes log t) (k.olds t) h in
     record {
       first = f.0;
       rest = f.1;
       own = f.2;
       committed = sym f.3;
-      current = k.value key t (alone_of _ _ _ k key t h) ∙ fold_filtered key (open_writes log t) (get (committed log) key)
+      current = k.value key t (alone_of _ _ _ k key t h) ∙ fold_filtered key (open_writes log t) (get (committed_contents log) key)
           ∙ ap (λ (v : Option (List ℕ)). fold given v (filter (writes key) (open_writes log t))) (sym f.3)
           ∙ ap (fold given (old_of f.0)) f.2;
     }
 
 pub agree : (log : List Record) → KeptLog log → Agree log
 agree log kept = record {
-  closed = λ key none. kept.value key 0 (λ other _. none other) ∙ untouched key (open_writes log 0) (get (committed log) key) (none 0);
+  closed = λ key none. kept.value key 0 (λ other _. none other) ∙ untouched key (open_writes log 0) (get (committed_contents log) key) (none 0);
   open_by = open_by log kept;
   alone = kept.apart;
 }

@@ -12,7 +12,7 @@ use Rattle.wal_record.specs.declared.record.Record.{Record}
 use Rattle.wal_record.specs.declared.record.Record.TheVariants as kinds
 use Rattle.wal_record.specs.declared.entry.Entry.{Entry}
 use Rattle.store_model.specs.Along.{along}
-use Rattle.wal_record.specs.Contents.{current, committed, given}
+use Rattle.wal_record.specs.Contents.{current, committed_contents, given}
 use Rattle.wal_record.specs.OpenWrites.{open_step, open_writes, without_last, key_of, old_of, writes}
 use Rattle.wal_record.specs.Sound.{IsLawful, AreLawful}
 use Rattle.wal_record.specs.History.{log_of}
@@ -30,14 +30,14 @@ module _ (log : List Record) (sound : AreLawful log) (t : ℕ) (front : List Rec
   last_value : get (current log) (key_of w) ≡ given (old_of w) w
   last_value =
       let kept = kept_log log sound in
-      let parts = olds_front (get (committed log)) front w (subst (Olds (get (committed log))) split (kept.olds t)) in
+      let parts = olds_front (get (committed_contents log)) front w (subst (Olds (get (committed_contents log))) split (kept.olds t)) in
       let mine : writes (key_of w) w ≡ true = parts.1 (key_of w) ∙ own_key (key_of w) (key_of w) refl in
       let opens : list_any (writes (key_of w)) (open_writes log t) ≡ true =
       ap (list_any (writes (key_of w))) split ∙ list_any-append (writes (key_of w)) front (w ∷ []) ∙ or_right (list_any (writes (key_of w)) front) (writes (key_of w) w || false) (or_left (writes (key_of w) w) false mine) in
-      let before : Option (List ℕ) = fold (value_after (key_of w)) (get (committed log) (key_of w)) front in
+      let before : Option (List ℕ) = fold (value_after (key_of w)) (get (committed_contents log) (key_of w)) front in
       kept.value (key_of w) t (alone_of _ _ _ kept (key_of w) t opens)
-      ∙ ap (fold (value_after (key_of w)) (get (committed log) (key_of w))) split ∙ fold-append (value_after (key_of w)) (get (committed log) (key_of w)) front (w ∷ [])
-      ∙ ap (λ (b : Bool). cond b (given (fold (value_after (key_of w)) (get (committed log) (key_of w)) front) w) (fold (value_after (key_of w)) (get (committed log) (key_of w)) front)) mine
+      ∙ ap (fold (value_after (key_of w)) (get (committed_contents log) (key_of w))) split ∙ fold-append (value_after (key_of w)) (get (committed_contents log) (key_of w)) front (w ∷ [])
+      ∙ ap (λ (b : Bool). cond b (given (fold (value_after (key_of w)) (get (committed_contents log) (key_of w)) front) w) (fold (value_after (key_of w)) (get (committed_contents log) (key_of w)) front)) mine
       ∙ ap (λ (v : Option (List ℕ)). given v w) (sym parts.2)
 
 -- ---- a write finds a value or gives one

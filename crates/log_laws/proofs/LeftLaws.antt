@@ -13,7 +13,7 @@ use Rattle.wal_record.specs.declared.record.Record.TheVariants as kinds
 use Rattle.wal_record.specs.declared.entry.Entry.{Entry}
 use Rattle.wal_record.specs.declared.entry.Entry.TheVariants.{Rec, Acked, Began}
 use Rattle.store_model.specs.Along.{along}
-use Rattle.wal_record.specs.Contents.{committed}
+use Rattle.wal_record.specs.Contents.{committed_contents}
 use Rattle.wal_record.specs.Chains.{greatest, tx_or_none, link_of}
 use Rattle.wal_record.specs.Sound.{AreLawful}
 use Rattle.wal_record.specs.History.{log_of, Phase, Idle, Live, Committed, Acknowledged, Ended, phase_step, phase}
@@ -183,11 +183,11 @@ module _ (opening : List Record) (h : List Entry) (own : List Record) (sound : A
   firsts : take (commits own) (committed_transactions h) ≡ committed_transactions place.kept
   firsts = first_ones h place.kept place.gone own place.whole place.log
 
-  left_serial : Serial (committed opening) (take (commits own) (committed_transactions h)) (committed (opening ++ own))
+  left_serial : Serial (committed_contents opening) (take (commits own) (committed_transactions h)) (committed_contents (opening ++ own))
   left_serial =
       let legal' = AllAlong_less (IsAllowed opening) place.kept place.gone (subst (IsLegal opening) place.whole legal) in
-      subst (λ (ts : List Finished). Serial (committed opening) ts (committed (opening ++ own))) (sym firsts)
-      (subst (λ (rs : List Record). Serial (committed opening) (committed_transactions place.kept) (committed (opening ++ rs))) place.log
+      subst (λ (ts : List Finished). Serial (committed_contents opening) ts (committed_contents (opening ++ own))) (sym firsts)
+      (subst (λ (rs : List Record). Serial (committed_contents opening) (committed_transactions place.kept) (committed_contents (opening ++ rs))) place.log
       (after_legal opening sound place.kept legal').1)
 
   left_acknowledged : (t : ℕ) → list_any (acknowledges t) h ≡ true → list_any (λ (f : Finished). eqb f.tx t) (take (commits own) (committed_transactions h)) ≡ true
@@ -200,7 +200,7 @@ module _ (opening : List Record) (h : List Entry) (own : List Record) (sound : A
 pub left_law : (opening : List Record) (h : List Entry) (own : List Record) → LeftLaw opening h own
 left_law opening h own = record {
   relation = λ sound legal left. left_serial opening h own sound legal left;
-  result = λ sound legal left. ap (option_map (λ (r : Result). r.contents)) (serial_is (committed opening) (take (commits own) (committed_transactions h)) (committed (opening ++ own)) (left_serial opening h own sound legal left));
+  result = λ sound legal left. ap (option_map (λ (r : Result). r.contents)) (serial_is (committed_contents opening) (take (commits own) (committed_transactions h)) (committed_contents (opening ++ own)) (left_serial opening h own sound legal left));
   acknowledged = λ sound legal left. left_acknowledged opening h own sound legal left;
 }
 
@@ -208,10 +208,10 @@ Serial_append : (m : Contents) (ts : List Finished) (n : Contents) (us : List Fi
 Serial_append m [] n us k h g = subst (λ (x : Contents). Serial x us k) (sym h) g
 Serial_append m (t ∷ ts) n us k h g = (h.0, h.1, h.2, Serial_append h.0 ts n us k h.3 g)
 
-lives_serial : (opening : List Record) (ls : List Life) → AreLawful opening → AreLives opening ls → Serial (committed opening) (kept_of ls) (committed (last_log opening ls))
+lives_serial : (opening : List Record) (ls : List Life) → AreLawful opening → AreLives opening ls → Serial (committed_contents opening) (kept_of ls) (committed_contents (last_log opening ls))
 lives_serial opening [] sound lives = refl
 lives_serial opening (l ∷ ls) sound lives =
-    Serial_append (committed opening) (take (commits l.own) (committed_transactions l.history)) (committed (opening ++ l.own)) (kept_of ls) (committed (last_log (opening ++ l.own) ls))
+    Serial_append (committed_contents opening) (take (commits l.own) (committed_transactions l.history)) (committed_contents (opening ++ l.own)) (kept_of ls) (committed_contents (last_log (opening ++ l.own) ls))
     (left_serial opening l.history l.own sound lives.0 lives.1) (lives_serial (opening ++ l.own) ls lives.1.sound.lawful lives.2)
 
 pub lives_law : (opening : List Record) (ls : List Life) → LivesLaw opening ls

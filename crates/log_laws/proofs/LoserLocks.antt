@@ -10,7 +10,7 @@ use Rattle.store_model.specs.Range.{point, is_below, overlap}
 use Rattle.store_model.proofs.Bools.{both_true, or_left, or_right, false_unless}
 use Rattle.wal_record.specs.declared.record.Record.{Record}
 use Rattle.wal_record.specs.OpenWrites.{is_loser, open_writes, writes, key_of}
-use Rattle.wal_record.specs.Contents.{committed}
+use Rattle.wal_record.specs.Contents.{committed_contents}
 use Rattle.wal_record.specs.Locks.{loser_locks, conflict, point_lock}
 use Rattle.wal_record.specs.Sound.{AreLawful}
 use Rattle.log_laws.specs.Locks.{meets, LoserLocksLaw}
@@ -53,7 +53,7 @@ pub losers_apart : (log : List Record) → AreLawful log → (t u : ℕ) → t �
 losers_apart log sound t u n =
     let kept = kept_log log sound in
     false_unless (meets (map point_lock (open_writes log t)) (map point_lock (open_writes log u))) (λ h.
-    let m = met (open_writes log t) (open_writes log u) (get (committed log)) (get (committed log)) (kept.olds t) (kept.olds u) h in
+    let m = met (open_writes log t) (open_writes log u) (get (committed_contents log)) (get (committed_contents log)) (kept.olds t) (kept.olds u) h in
     n (kept.apart m.0 t u m.1 m.2))
 
 all_or_none : (b : Bool) (ws : List Record) → IsWithin (loser_locks b ws) (map point_lock ws)

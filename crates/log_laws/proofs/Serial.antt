@@ -21,7 +21,7 @@ use Rattle.wal_record.specs.declared.record.Commit.{Commit}
 use Rattle.wal_record.specs.declared.entry.Entry.{Entry}
 use Rattle.wal_record.specs.declared.entry.Entry.TheVariants.{Rec, Lock, Refused, Said, Declined, Acked, Repaired, Began}
 use Rattle.store_model.specs.Along.{along}
-use Rattle.wal_record.specs.Contents.{after, current, committed_step, committed}
+use Rattle.wal_record.specs.Contents.{after, current, committed_step, committed_contents}
 use Rattle.wal_record.specs.OpenWrites.{open_step, open_writes, writes, without_last, has_items, is_loser}
 use Rattle.wal_record.specs.Chains.{tx_or_none, link_of, greatest}
 use Rattle.wal_record.specs.Sound.{IsLawful, AreLawful}
@@ -78,10 +78,10 @@ no_loser opening t h = ap has_items (none_open opening t h)
 -- ---- what holds after a history
 
 abbrev pub At : List Record → List Entry → Type 0
-At opening h = Told (greatest opening) (greatest_begun h) (current (opening ++ log_of h)) (open_writes (opening ++ log_of h)) (committed (opening ++ log_of h)) (phase h) (locks opening h) (steps h) (untold h)
+At opening h = Told (greatest opening) (greatest_begun h) (current (opening ++ log_of h)) (open_writes (opening ++ log_of h)) (committed_contents (opening ++ log_of h)) (phase h) (locks opening h) (steps h) (untold h)
 
 arrive : (opening : List Record) (h : List Entry) (last : ℕ) (m : Contents) (o : ℕ → List Record) (off : Contents) (ph : ℕ → Phase) (ls : ℕ → List Held) (st : ℕ → List Step) (d : Option Record)
-    → greatest_begun h ≡ last → current (opening ++ log_of h) ≡ m → ((t : ℕ) → open_writes (opening ++ log_of h) t ≡ o t) → committed (opening ++ log_of h) ≡ off
+    → greatest_begun h ≡ last → current (opening ++ log_of h) ≡ m → ((t : ℕ) → open_writes (opening ++ log_of h) t ≡ o t) → committed_contents (opening ++ log_of h) ≡ off
     → ((t : ℕ) → phase h t ≡ ph t) → ((t : ℕ) → locks opening h t ≡ ls t) → ((t : ℕ) → steps h t ≡ st t) → untold h ≡ d
     → Told (greatest opening) last m o off ph ls st d → At opening h
 arrive opening h last m o off ph ls st d eb em eo eoff ep els est ed told =
@@ -89,9 +89,9 @@ arrive opening h last m o off ph ls st d eb em eo eoff ep els est ed told =
     let gp : phase h ≡ ph = λ i t. ep t i in
     let gl : locks opening h ≡ ls = λ i t. els t i in
     let gs : steps h ≡ st = λ i t. est t i in
-    subst (λ (x : ℕ). Told (greatest opening) x (current (opening ++ log_of h)) (open_writes (opening ++ log_of h)) (committed (opening ++ log_of h)) (phase h) (locks opening h) (steps h) (untold h)) (sym eb)
-    (subst (λ (x : Contents). Told (greatest opening) last x (open_writes (opening ++ log_of h)) (committed (opening ++ log_of h)) (phase h) (locks opening h) (steps h) (untold h)) (sym em)
-    (subst (λ (x : ℕ → List Record). Told (greatest opening) last m x (committed (opening ++ log_of h)) (phase h) (locks opening h) (steps h) (untold h)) (sym go)
+    subst (λ (x : ℕ). Told (greatest opening) x (current (opening ++ log_of h)) (open_writes (opening ++ log_of h)) (committed_contents (opening ++ log_of h)) (phase h) (locks opening h) (steps h) (untold h)) (sym eb)
+    (subst (λ (x : Contents). Told (greatest opening) last x (open_writes (opening ++ log_of h)) (committed_contents (opening ++ log_of h)) (phase h) (locks opening h) (steps h) (untold h)) (sym em)
+    (subst (λ (x : ℕ → List Record). Told (greatest opening) last m x (committed_contents (opening ++ log_of h)) (phase h) (locks opening h) (steps h) (untold h)) (sym go)
     (subst (λ (x : Contents). Told (greatest opening) last m o x (phase h) (locks opening h) (steps h) (untold h)) (sym eoff)
     (subst (λ (x : ℕ → Phase). Told (greatest opening) last m o off x (locks opening h) (steps h) (untold h)) (sym gp)
     (subst (λ (x : ℕ → List Held). Told (greatest opening) last m o off ph x (steps h) (untold h)) (sym gl)
@@ -101,10 +101,10 @@ arrive opening h last m o off ph ls st d eb em eo eoff ep els est ed told =
 -- an entry that is no record leaves the log
 quiet : (opening : List Record) (h : List Entry) (e : Entry) (ph : ℕ → Phase) (ls : ℕ → List Held) (st : ℕ → List Step) → log_of (e ∷ []) ≡ []
     → ((t : ℕ) → phase_step t (phase h t) e ≡ ph t) → ((t : ℕ) → locks_step t (taken_locks h t) e ++ loser_locks (is_loser opening t) (open_writes (opening ++ log_of h) t) ≡ ls t) → ((t : ℕ) → steps h t ++ step_of t e ≡ st t)
-    → Told (greatest opening) (begun_step (greatest_begun h) e) (current (opening ++ log_of h)) (open_writes (opening ++ log_of h)) (committed (opening ++ log_of h)) ph ls st (untold_step e) → At opening (h ++ e ∷ [])
+    → Told (greatest opening) (begun_step (greatest_begun h) e) (current (opening ++ log_of h)) (open_writes (opening ++ log_of h)) (committed_contents (opening ++ log_of h)) ph ls st (untold_step e) → At opening (h ++ e ∷ [])
 quiet opening h e ph ls st none p l s told =
     let same = log_same opening h e none in
-    arrive opening (h ++ e ∷ []) _ _ _ _ ph ls st (untold_step e) (begun_push h e) (ap current same) (λ t. ap (λ (log : List Record). open_writes log t) same) (ap committed same)
+    arrive opening (h ++ e ∷ []) _ _ _ _ ph ls st (untold_step e) (begun_push h e) (ap current same) (λ t. ap (λ (log : List Record). open_writes log t) same) (ap committed_contents same)
     (λ t. phase_push h e t ∙ p t)
     (λ t. locks_are opening (h ++ e ∷ []) t ∙ ap (λ (log : List Record). taken_locks (h ++ e ∷ []) t ++ loser_locks (is_loser opening t) (open_writes log t)) same
     ∙ ap (λ (xs : List Held). xs ++ loser_locks (is_loser opening t) (open_writes (opening ++ log_of h) t)) (taken_push h e t) ∙ l t)
@@ -112,21 +112,21 @@ quiet opening h e ph ls st none p l s told =
 
 -- a record
 recorded : (opening : List Record) (h : List Entry) (lsn : ℕ) (r : Record) (o : ℕ → List Record) (off : Contents) (ph : ℕ → Phase) (ls : ℕ → List Held) (st : ℕ → List Step)
-    → ((t : ℕ) → open_step t r (open_writes (opening ++ log_of h) t) r ≡ o t) → committed_step (opening ++ log_of h) (committed (opening ++ log_of h)) r ≡ off
+    → ((t : ℕ) → open_step t r (open_writes (opening ++ log_of h) t) r ≡ o t) → committed_step (opening ++ log_of h) (committed_contents (opening ++ log_of h)) r ≡ off
     → ((t : ℕ) → phase_step t (phase h t) (Rec lsn r) ≡ ph t) → ((t : ℕ) → locks_step t (taken_locks h t) (Rec lsn r) ++ loser_locks (is_loser opening t) (o t) ≡ ls t) → ((t : ℕ) → steps h t ++ step_of t (Rec lsn r) ≡ st t)
     → Told (greatest opening) (greatest_begun h) (after (current (opening ++ log_of h)) r) o off ph ls st (untold_step (Rec lsn r)) → At opening (h ++ Rec lsn r ∷ [])
 recorded opening h lsn r o off ph ls st eo eoff p l s told =
     let log = opening ++ log_of h in
     let more = log_more opening h lsn r in
     let opens : (t : ℕ) → open_writes (opening ++ log_of (h ++ Rec lsn r ∷ [])) t ≡ o t = λ t. ap (λ (x : List Record). open_writes x t) more ∙ open_push log r t ∙ eo t in
-    arrive opening (h ++ Rec lsn r ∷ []) _ _ o off ph ls st (untold_step (Rec lsn r)) (begun_push h (Rec lsn r)) (ap current more ∙ current_push log r) opens (ap committed more ∙ committed_push log r ∙ eoff)
+    arrive opening (h ++ Rec lsn r ∷ []) _ _ o off ph ls st (untold_step (Rec lsn r)) (begun_push h (Rec lsn r)) (ap current more ∙ current_push log r) opens (ap committed_contents more ∙ committed_push log r ∙ eoff)
     (λ t. phase_push h (Rec lsn r) t ∙ p t)
     (λ t. locks_are opening (h ++ Rec lsn r ∷ []) t ∙ ap (λ (ws : List Record). taken_locks (h ++ Rec lsn r ∷ []) t ++ loser_locks (is_loser opening t) ws) (opens t)
     ∙ ap (λ (xs : List Held). xs ++ loser_locks (is_loser opening t) (o t)) (taken_push h (Rec lsn r) t) ∙ l t)
     (λ t. steps_push h (Rec lsn r) t ∙ s t) (untold_push h (Rec lsn r)) told
 
-undue : (opening : List Record) (h : List Entry) (d : Option Record) → untold h ≡ d → At opening h → Told (greatest opening) (greatest_begun h) (current (opening ++ log_of h)) (open_writes (opening ++ log_of h)) (committed (opening ++ log_of h)) (phase h) (locks opening h) (steps h) d
-undue opening h d e told = subst (λ (x : Option Record). Told (greatest opening) (greatest_begun h) (current (opening ++ log_of h)) (open_writes (opening ++ log_of h)) (committed (opening ++ log_of h)) (phase h) (locks opening h) (steps h) x) e told
+undue : (opening : List Record) (h : List Entry) (d : Option Record) → untold h ≡ d → At opening h → Told (greatest opening) (greatest_begun h) (current (opening ++ log_of h)) (open_writes (opening ++ log_of h)) (committed_contents (opening ++ log_of h)) (phase h) (locks opening h) (steps h) d
+undue opening h d e told = subst (λ (x : Option Record). Told (greatest opening) (greatest_begun h) (current (opening ++ log_of h)) (open_writes (opening ++ log_of h)) (committed_contents (opening ++ log_of h)) (phase h) (locks opening h) (steps h) x) e told
 
 -- ---- entries that are no records
 
@@ -192,8 +192,8 @@ module _ (opening : List Record) (h : List Entry) (told : At opening h) where
       quiet opening h e (phase h) (locks opening h) (steps h) none p
       (λ t. ap (λ (xs : List Held). xs ++ loser_locks (is_loser opening t) (open_writes (opening ++ log_of h) t)) (l t) ∙ sym (locks_are opening h t))
       (λ t. ap (λ (xs : List Step). steps h t ++ xs) (s t) ∙ append-nil (steps h t))
-      (subst (λ (n : ℕ). Told (greatest opening) n (current (opening ++ log_of h)) (open_writes (opening ++ log_of h)) (committed (opening ++ log_of h)) (phase h) (locks opening h) (steps h) (untold_step e)) (sym b)
-      (subst (λ (x : Option Record). Told (greatest opening) (greatest_begun h) (current (opening ++ log_of h)) (open_writes (opening ++ log_of h)) (committed (opening ++ log_of h)) (phase h) (locks opening h) (steps h) x) (sym d)
+      (subst (λ (n : ℕ). Told (greatest opening) n (current (opening ++ log_of h)) (open_writes (opening ++ log_of h)) (committed_contents (opening ++ log_of h)) (phase h) (locks opening h) (steps h) (untold_step e)) (sym b)
+      (subst (λ (x : Option Record). Told (greatest opening) (greatest_begun h) (current (opening ++ log_of h)) (open_writes (opening ++ log_of h)) (committed_contents (opening ++ log_of h)) (phase h) (locks opening h) (steps h) x) (sym d)
       (undue opening h None all_told told)))
 
   began_more : (session tx : ℕ) → IsAllowed opening h (Began session tx) → At opening (h ++ Began session tx ∷ [])
@@ -256,15 +256,15 @@ module _ (opening : List Record) (h : List Entry) (told : At opening h) where
       by false e = sym (locks_are opening h t)
 
   quiet_record : (lsn : ℕ) (r : Record) → untold h ≡ None → after (current (opening ++ log_of h)) r ≡ current (opening ++ log_of h)
-      → ((t : ℕ) → open_step t r (open_writes (opening ++ log_of h) t) r ≡ open_writes (opening ++ log_of h) t) → committed_step (opening ++ log_of h) (committed (opening ++ log_of h)) r ≡ committed (opening ++ log_of h)
+      → ((t : ℕ) → open_step t r (open_writes (opening ++ log_of h) t) r ≡ open_writes (opening ++ log_of h) t) → committed_step (opening ++ log_of h) (committed_contents (opening ++ log_of h)) r ≡ committed_contents (opening ++ log_of h)
       → ((t : ℕ) → phase_step t (phase h t) (Rec lsn r) ≡ phase h t) → ((t : ℕ) → locks_step t (taken_locks h t) (Rec lsn r) ≡ taken_locks h t) → ((t : ℕ) → step_of t (Rec lsn r) ≡ []) → untold_step (Rec lsn r) ≡ None
       → At opening (h ++ Rec lsn r ∷ [])
   quiet_record lsn r all_told m o off p l s d =
-      recorded opening h lsn r (open_writes (opening ++ log_of h)) (committed (opening ++ log_of h)) (phase h) (locks opening h) (steps h) o off p
+      recorded opening h lsn r (open_writes (opening ++ log_of h)) (committed_contents (opening ++ log_of h)) (phase h) (locks opening h) (steps h) o off p
       (λ t. ap (λ (xs : List Held). xs ++ loser_locks (is_loser opening t) (open_writes (opening ++ log_of h) t)) (l t) ∙ sym (locks_are opening h t))
       (λ t. ap (λ (xs : List Step). steps h t ++ xs) (s t) ∙ append-nil (steps h t))
-      (subst (λ (x : Contents). Told (greatest opening) (greatest_begun h) x (open_writes (opening ++ log_of h)) (committed (opening ++ log_of h)) (phase h) (locks opening h) (steps h) (untold_step (Rec lsn r))) (sym m)
-      (subst (λ (x : Option Record). Told (greatest opening) (greatest_begun h) (current (opening ++ log_of h)) (open_writes (opening ++ log_of h)) (committed (opening ++ log_of h)) (phase h) (locks opening h) (steps h) x) (sym d)
+      (subst (λ (x : Contents). Told (greatest opening) (greatest_begun h) x (open_writes (opening ++ log_of h)) (committed_contents (opening ++ log_of h)) (phase h) (locks opening h) (steps h) (untold_step (Rec lsn r))) (sym m)
+      (subst (λ (x : Option Record). Told (greatest opening) (greatest_begun h) (current (opening ++ log_of h)) (open_writes (opening ++ log_of h)) (committed_contents (opening ++ log_of h)) (phase h) (locks opening h) (steps h) x) (sym d)
       (undue opening h None all_told told)))
 
   undo_more : (lsn : ℕ) (u : Undo) → untold h ≡ None → IsLawful (opening ++ log_of h) (kinds.Undo u) → MayUndo opening h u.tx → At opening (h ++ Rec lsn (kinds.Undo u) ∷ [])
@@ -272,7 +272,7 @@ module _ (opening : List Record) (h : List Entry) (told : At opening h) where
       let rule = lawful.value in
       let at = taken_key u rule.back rule.takes in
       let back = taken_old u rule.back rule.takes in
-      recorded opening h lsn (kinds.Undo u) left (committed (opening ++ log_of h)) (phase h) less _ (front_left o u.tx rule.front rule.back rule.split) refl (λ t. refl) (λ t. refl) (λ t. refl)
+      recorded opening h lsn (kinds.Undo u) left (committed_contents (opening ++ log_of h)) (phase h) less _ (front_left o u.tx rule.front rule.back rule.split) refl (λ t. refl) (λ t. refl) (λ t. refl)
       (Told_undo _ _ _ o _ _ _ _ (undue opening h None untold told) u rule.front rule.back rule.split at back (may_undo u.tx may) less
       (λ t p. same t (live_new t p)) (λ p t. fewer p t (eqb u.tx t) refl)
       (λ t key g. holds t key g (is_loser opening t) refl))
@@ -309,7 +309,7 @@ module _ (opening : List Record) (h : List Entry) (told : At opening h) where
       holds t key g true e =
           let kept = Kept_undo _ o _ told.kept u lawful.value.front lawful.value.back lawful.value.split (taken_key u lawful.value.back lawful.value.takes) (taken_old u lawful.value.back lawful.value.takes) in
           list_any-append (covers_write key) (taken_locks h t) (loser_locks (is_loser opening t) (left t))
-          ∙ or_right (list_any (covers_write key) (taken_locks h t)) _ (loser_holds (is_loser opening t) (left t) key e (get (committed (opening ++ log_of h))) (kept.olds t) g)
+          ∙ or_right (list_any (covers_write key) (taken_locks h t)) _ (loser_holds (is_loser opening t) (left t) key e (get (committed_contents (opening ++ log_of h))) (kept.olds t) g)
 
   record_more : (lsn : ℕ) (r : Record) → untold h ≡ None → IsLawful (opening ++ log_of h) r → RecordRule opening h r → At opening (h ++ Rec lsn r ∷ [])
   record_more lsn (kinds.Write w) e lawful ok =
@@ -352,27 +352,27 @@ module _ (opening : List Record) (h : List Entry) (told : At opening h) where
 -- ---- the chain of the committed transactions
 
 abbrev Chain : List Record → List Entry → Type 0
-Chain opening h = Serial (committed opening) (committed_transactions h) (committed (opening ++ log_of h))
+Chain opening h = Serial (committed_contents opening) (committed_transactions h) (committed_contents (opening ++ log_of h))
 
-chain_same : (opening : List Record) (h : List Entry) (e : Entry) → committed (opening ++ log_of (h ++ e ∷ [])) ≡ committed (opening ++ log_of h) → finished_step h (committed_transactions h) e ≡ committed_transactions h → Chain opening h → Chain opening (h ++ e ∷ [])
+chain_same : (opening : List Record) (h : List Entry) (e : Entry) → committed_contents (opening ++ log_of (h ++ e ∷ [])) ≡ committed_contents (opening ++ log_of h) → finished_step h (committed_transactions h) e ≡ committed_transactions h → Chain opening h → Chain opening (h ++ e ∷ [])
 chain_same opening h e off same chain =
-    subst (λ (ts : List Finished). Serial (committed opening) ts (committed (opening ++ log_of (h ++ e ∷ [])))) (sym (transactions_push h e ∙ same))
-    (subst (λ (x : Contents). Serial (committed opening) (committed_transactions h) x) (sym off) chain)
+    subst (λ (ts : List Finished). Serial (committed_contents opening) ts (committed_contents (opening ++ log_of (h ++ e ∷ [])))) (sym (transactions_push h e ∙ same))
+    (subst (λ (x : Contents). Serial (committed_contents opening) (committed_transactions h) x) (sym off) chain)
 
 chain_commit : (opening : List Record) (h : List Entry) (lsn : ℕ) (c : Commit) → untold h ≡ None → phase h c.tx ≡ Live → At opening h → Chain opening h → Chain opening (h ++ Rec lsn (kinds.Commit c) ∷ [])
 chain_commit opening h lsn c e live told chain =
     let log = opening ++ log_of h in
-    let off : committed (opening ++ log_of (h ++ Rec lsn (kinds.Commit c) ∷ [])) ≡ fold after (committed log) (open_writes log c.tx) = ap committed (log_more opening h lsn (kinds.Commit c)) ∙ committed_push log (kinds.Commit c) in
-    let own = (undue opening h None e told).runs c.tx live (committed log) (λ key g. refl) in
-    let own' : Runs (committed log) [] (steps h c.tx) (fold after (committed log) (open_writes log c.tx)) (stack (open_writes log c.tx)) =
-    subst (λ (ss : List Step). Runs (committed log) [] ss (fold after (committed log) (open_writes log c.tx)) (stack (open_writes log c.tx))) (append-nil (steps h c.tx)) own in
-    subst (λ (ts : List Finished). Serial (committed opening) ts (committed (opening ++ log_of (h ++ Rec lsn (kinds.Commit c) ∷ [])))) (sym (transactions_push h (Rec lsn (kinds.Commit c))))
-    (subst (λ (x : Contents). Serial (committed opening) (committed_transactions h ++ record { tx = c.tx; steps = steps h c.tx } ∷ []) x) (sym off)
-    (Serial_then (committed opening) (committed_transactions h) (committed log) (record { tx = c.tx; steps = steps h c.tx }) _ _ chain own'))
+    let off : committed_contents (opening ++ log_of (h ++ Rec lsn (kinds.Commit c) ∷ [])) ≡ fold after (committed_contents log) (open_writes log c.tx) = ap committed_contents (log_more opening h lsn (kinds.Commit c)) ∙ committed_push log (kinds.Commit c) in
+    let own = (undue opening h None e told).runs c.tx live (committed_contents log) (λ key g. refl) in
+    let own' : Runs (committed_contents log) [] (steps h c.tx) (fold after (committed_contents log) (open_writes log c.tx)) (stack (open_writes log c.tx)) =
+    subst (λ (ss : List Step). Runs (committed_contents log) [] ss (fold after (committed_contents log) (open_writes log c.tx)) (stack (open_writes log c.tx))) (append-nil (steps h c.tx)) own in
+    subst (λ (ts : List Finished). Serial (committed_contents opening) ts (committed_contents (opening ++ log_of (h ++ Rec lsn (kinds.Commit c) ∷ [])))) (sym (transactions_push h (Rec lsn (kinds.Commit c))))
+    (subst (λ (x : Contents). Serial (committed_contents opening) (committed_transactions h ++ record { tx = c.tx; steps = steps h c.tx } ∷ []) x) (sym off)
+    (Serial_then (committed_contents opening) (committed_transactions h) (committed_contents log) (record { tx = c.tx; steps = steps h c.tx }) _ _ chain own'))
 
 -- a record that is no commit
-chain_record : (opening : List Record) (h : List Entry) (lsn : ℕ) (r : Record) → committed_step (opening ++ log_of h) (committed (opening ++ log_of h)) r ≡ committed (opening ++ log_of h) → finished_step h (committed_transactions h) (Rec lsn r) ≡ committed_transactions h → Chain opening h → Chain opening (h ++ Rec lsn r ∷ [])
-chain_record opening h lsn r off same chain = chain_same opening h (Rec lsn r) (ap committed (log_more opening h lsn r) ∙ committed_push (opening ++ log_of h) r ∙ off) same chain
+chain_record : (opening : List Record) (h : List Entry) (lsn : ℕ) (r : Record) → committed_step (opening ++ log_of h) (committed_contents (opening ++ log_of h)) r ≡ committed_contents (opening ++ log_of h) → finished_step h (committed_transactions h) (Rec lsn r) ≡ committed_transactions h → Chain opening h → Chain opening (h ++ Rec lsn r ∷ [])
+chain_record opening h lsn r off same chain = chain_same opening h (Rec lsn r) (ap committed_contents (log_more opening h lsn r) ∙ committed_push (opening ++ log_of h) r ∙ off) same chain
 
 chain_of : (opening : List Record) (h : List Entry) (lsn : ℕ) (r : Record) → untold h ≡ None → RecordRule opening h r → At opening h → Chain opening h → Chain opening (h ++ Rec lsn r ∷ [])
 chain_of opening h lsn (kinds.Commit c) e ok told chain = chain_commit opening h lsn c e ok told chain
@@ -380,7 +380,7 @@ chain_of opening h lsn r e ok told chain = chain_record opening h lsn r refl ref
 
 chain_more : (opening : List Record) (h : List Entry) (e : Entry) → IsAllowed opening h e → At opening h → Chain opening h → Chain opening (h ++ e ∷ [])
 chain_more opening h (Rec lsn r) ok told chain = chain_of opening h lsn r ok.rule.told ok.rule.rule told chain
-chain_more opening h e ok told chain = chain_same opening h e (ap committed (log_same opening h e refl)) refl chain
+chain_more opening h e ok told chain = chain_same opening h e (ap committed_contents (log_same opening h e refl)) refl chain
 
 -- ---- whole histories
 
@@ -389,15 +389,15 @@ unfolding phase greatest_begun taken_locks steps untold along
 at_start opening sound =
     let start : opening ++ [] ≡ opening = append-nil opening in
     let kept = kept_log opening sound in
-    arrive opening [] 0 (current opening) (open_writes opening) (committed opening) (λ t. Idle) (λ t. loser_locks (is_loser opening t) (open_writes opening t)) (λ t. []) None
-    refl (ap current start) (λ t. ap (λ (l : List Record). open_writes l t) start) (ap committed start) (λ t. refl)
+    arrive opening [] 0 (current opening) (open_writes opening) (committed_contents opening) (λ t. Idle) (λ t. loser_locks (is_loser opening t) (open_writes opening t)) (λ t. []) None
+    refl (ap current start) (λ t. ap (λ (l : List Record). open_writes l t) start) (ap committed_contents start) (λ t. refl)
     (λ t. locks_are opening [] t ∙ ap (λ (l : List Record). loser_locks (is_loser opening t) (open_writes l t)) start) (λ t. refl) refl
     (record {
       kept = kept;
-      holds = λ t key h. loser_holds (is_loser opening t) (open_writes opening t) key (some (open_writes opening t) (writes key) h) (get (committed opening)) (kept.olds t) h;
+      holds = λ t key h. loser_holds (is_loser opening t) (open_writes opening t) key (some (open_writes opening t) (writes key) h) (get (committed_contents opening)) (kept.olds t) h;
       apart = λ t u key n h. false_unless _ (λ g. n (kept.apart key t u
-          (loser_opens (is_loser opening t) (open_writes opening t) key (get (committed opening)) (kept.olds t) (write_covers (loser_locks (is_loser opening t) (open_writes opening t)) key h))
-          (loser_opens (is_loser opening u) (open_writes opening u) key (get (committed opening)) (kept.olds u) g)));
+          (loser_opens (is_loser opening t) (open_writes opening t) key (get (committed_contents opening)) (kept.olds t) (write_covers (loser_locks (is_loser opening t) (open_writes opening t)) key h))
+          (loser_opens (is_loser opening u) (open_writes opening u) key (get (committed_contents opening)) (kept.olds u) g)));
       free = losers_free opening sound;
       runs = λ t p n h. absurd (live_not_idle Idle p refl);
       new = λ t p. absurd (live_not_idle Idle p refl);
@@ -412,7 +412,7 @@ at_start opening sound =
 
 chain_start : (opening : List Record) → Chain opening []
 unfolding committed_transactions along
-chain_start opening = ap committed (sym (append-nil opening))
+chain_start opening = ap committed_contents (sym (append-nil opening))
 
 pub after_legal : (opening : List Record) → AreLawful opening → (h : List Entry) → IsLegal opening h → At opening h × Chain opening h
 after_legal opening sound = by_pushes (λ (h : List Entry). IsLegal opening h → At opening h × Chain opening h)
@@ -435,7 +435,7 @@ pub serial_all : (opening : List Record) (h : List Entry) → SerialLaw opening 
 serial_all opening h = record {
   sound = λ sound legal. sound_after opening sound h legal;
   relation = λ sound legal. (after_legal opening sound h legal).1;
-  result = λ sound legal. serial_is (committed opening) (committed_transactions h) (committed (opening ++ log_of h)) (after_legal opening sound h legal).1;
+  result = λ sound legal. serial_is (committed_contents opening) (committed_transactions h) (committed_contents (opening ++ log_of h)) (after_legal opening sound h legal).1;
 }
 
 pub central_of_lives : (opening : List Record) (h : List Entry) → CentralLawOfLives opening h

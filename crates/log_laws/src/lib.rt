@@ -87,7 +87,7 @@ pub fn locks_law()
     ensures { (opening : List Record) (history : List Entry) → LocksLaw opening history }
 {}
 
-/// A beginning of a sound log that has kept its room is sound, and page heads never fall.
+/// A beginning of a lawful log is lawful; one of a sound log that has kept its room is sound. Page heads never fall.
 pub fn beginning_law()
     ensures { (log rest : List Record) → BeginningLaw log rest }
 {}

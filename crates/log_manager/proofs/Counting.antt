@@ -13,7 +13,7 @@ use Rattle.log_blocks.proofs.Lasts.{last_or-append, map-append}
 use Rattle.log_blocks.proofs.Whole.{length-block, length-numbered}
 use Rattle.log_manager.specs.declared.counted.Counted.{Counted}
 use Rattle.wal_record.specs.declared.record.Record.{Record}
-use Rattle.log_manager.specs.Records.{bytes_of}
+use Rattle.log_manager.specs.Payload.{bytes_of}
 use Rattle.log_manager.specs.Managed.{HasMore, IsCounted, with_batch}
 
 -- ---- a group that joins the last block, or begins one

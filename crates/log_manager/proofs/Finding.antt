@@ -1,11 +1,11 @@
 -- The record of an LSN, in the block that has it.
-use Rattle.std.proofs.Common.{◌≡◌, ℕ, zero, suc, ◌+◌, ◌-◌, ◌<◌, ◌≤◌, Bool, true, false, List, [], ◌∷◌, ◌++◌, length, get_or, drop, take, refl, sym, ◌∙◌, ap, subst, arith, append_assoc, length-append, take-append-drop}
-use Rattle.std.specs.Prelude.{map, nat_le, if◌then◌else◌, ⊤}
+use Rattle.std.proofs.Common.{◌≡◌, inl, ℕ, zero, suc, ◌+◌, ◌-◌, ◌<◌, ◌≤◌, Bool, true, false, List, [], ◌∷◌, ◌++◌, length, get_or, drop, take, refl, sym, ◌∙◌, ap, subst, arith, append_assoc, length-append, take-append-drop}
+use Rattle.std.specs.Prelude.{map, nat_le, if◌then◌else◌}
 use Rattle.std.proofs.lemmas.Bool.{le-leb, leb-false, leb-true, lt-leb}
 use Rattle.log_blocks.specs.Batch.{numbered, records_in}
 use Rattle.std.specs.List.{All}
 use Rattle.log_blocks.specs.Log.{Block, body, open_gate, IsRun, IsSequence, first_lsn, next_lsn}
-use Rattle.log_blocks.specs.LogState.{LogState, Refused, firsts, lsn_behind, payload_at}
+use Rattle.log_blocks.specs.LogState.{LogState, firsts, lsn_behind, payload_at}
 use Rattle.log_blocks.specs.Opening.{Progress, places}
 use Rattle.log_blocks.specs.declared.header.Place.{Place}
 use Rattle.log_blocks.proofs.Lasts.{map-append}
@@ -14,8 +14,9 @@ use Rattle.store_model.specs.declared.fault.Fault.{Fault}
 use Rattle.store_model.specs.declared.fault.Fault.TheVariants as faults
 use Rattle.wal_record.specs.Rules.{HasSpelling}
 use Rattle.wal_record.specs.declared.record.Record.{Record}
-use Rattle.log_manager.specs.Records.{AreIn, bytes_of}
-use Rattle.log_manager.specs.Managed.{EndBefore, HasLsn, IsAt, IsBadIn, IsBadRecord, NotRead, before_lsn, first_kept, with_batch}
+use Rattle.log_manager.specs.Payload.{GoesOn, bytes_of}
+use Rattle.log_manager.specs.Records.{AreIn}
+use Rattle.log_manager.specs.Managed.{EndBefore, HasLsn, HasRecord, IsAt, IsBadIn, IsReadAt, IsRecordOf, IsUnreadAt, before_lsn, first_kept, with_batch}
 
 abbrev pub first_of : Block → ℕ
 first_of b = b.first
@@ -38,15 +39,15 @@ found_in n c lsn zero (b ∷ bs) rs run a h lt = record {
   front = [];
   back = a.1;
   is = a.2;
-  spelled = a.3.spelled;
-  payload = a.3.payload;
+  spelled = a.3.records.spelled;
+  payload = a.3.records.payload_is;
   first = omega (arith, run.0);
   within = before bs run.2 lt (λ more. h.upto more);
 }
   where
     before : (bs : List Block) → IsRun (n + b.count) bs → lsn < next_lsn (n + b.count) bs → (1 < length (b.first ∷ map first_of bs) → lsn < get_or (map first_of bs) 0 0) → lsn < n + 0 + length a.0
-    before [] r last upto = omega (arith, last, a.3.count)
-    before (d ∷ ds) r last upto = omega (arith, upto (omega arith), r.0, a.3.count)
+    before [] r last upto = omega (arith, last, a.3.records.count_is)
+    before (d ∷ ds) r last upto = omega (arith, upto (omega arith), r.0, a.3.records.count_is)
 found_in n c lsn (suc i) (b ∷ bs) rs run a h lt =
     let f = found_in (n + b.count) b.checkpoint lsn i bs a.1 run.2 a.4
     (record { within = omega (arith, h.within); from = h.from; upto = λ more. subst (λ m. lsn < get_or (b.first ∷ map first_of bs) m 0) (far i) (h.upto (omega (arith, more))) }) lt in
@@ -65,7 +66,7 @@ found_in n c lsn (suc i) (b ∷ bs) rs run a h lt =
     far i = omega arith
 
     both : (l : List Record) → n + b.count + length l ≡ n + length (a.0 ++ l)
-    both l = omega (arith, a.3.count, length-append a.0 l)
+    both l = omega (arith, a.3.records.count_is, length-append a.0 l)
 
 -- the record at its place in the block is the record at its place in the log
 pub found_at : (all : List Block) (rs : List Record) (n lsn i : ℕ) (r : Record) (f : Found all rs n lsn i) → get_or (map first_of all) i 0 ≤ lsn
@@ -100,6 +101,12 @@ next_of_all start [] [] s run = refl
 next_of_all start [] (b ∷ pending) s run = ap (λ m. next_lsn m (b ∷ pending)) (sym run.0)
 next_of_all start (b ∷ bs) pending s run =
     ap (λ m. next_lsn m pending) (behind_first start b bs s.run) ∙ sym (next_lsn-append b.first (b ∷ bs) pending)
+
+-- the first LSNs are those of all blocks
+pub firsts_all : {D : Type 0} (log : LogState D) (start : ℕ) (bs : List Block) → log.places ≡ places start bs → firsts log ≡ map first_of (bs ++ log.pending)
+firsts_all log start bs is =
+    ap (λ (l : List Place). map (λ (p : Place). p.first) l ++ map first_of log.pending) is
+    ∙ ap (λ (l : List ℕ). l ++ map first_of log.pending) (firsts-places start bs) ∙ sym (map-append first_of bs log.pending)
 
 -- where no block has joined the log, the first record is the next one
 pub first_none : {D : Type 0} (log : LogState D) (bs : List Block) → length log.places + length log.pending ≡ 0 → log.next ≡ first_kept (with_batch log bs)
@@ -191,17 +198,82 @@ payload-before [] ys i lt = absurd (omega (arith, lt))
 payload-before (x ∷ xs) ys zero lt = refl
 payload-before (x ∷ xs) ys (suc i) lt = payload-before xs ys i (omega (arith, lt))
 
--- what isn't read from a payload is bad in its block
-pub bad_in : (bs : List Block) (payload : List ℕ) (i : ℕ) (fault : Fault) → i < length bs → payload ≡ payload_at bs i → NotRead i payload fault → IsBadIn bs fault
-bad_in bs payload i faults.Memory lt is bad = tt
-bad_in bs payload i (faults.LogBad block byte) lt is bad =
-    subst (λ n. (n < length bs) × IsBadRecord (payload_at bs n) byte) (sym bad.0) (lt, subst (λ p. IsBadRecord p byte) is bad.1)
-bad_in bs payload i fault lt is bad = absurd bad
+-- the block with a number has an LSN, and what is known of it
+pub record HasBlock (all : List Block) (lsn i : ℕ) : Type 0 where
+  pub block : Block
+  pub before : List Block
+  pub behind : List Block
+  pub is : all ≡ before ++ block ∷ behind
+  pub number : length before ≡ i
+  pub first : get_or (map first_of all) i 0 ≡ block.first
+  pub within : lsn < block.first + block.count
+  pub payload : payload_at all i ≡ block.payload
 
--- a block that isn't read is not bad
-pub never_in : {D : Type 0} (count : D → ℕ) (old new : LogState D) (bs : List Block) (fault : Fault) → Refused ⊤ count old new fault → IsBadIn bs fault
-never_in count old new bs (faults.LogBad block byte) refused = absurd refused
-never_in count old new bs fault refused = tt
+pub block_with : (n lsn i : ℕ) (all : List Block) → IsRun n all → HasLsn (map first_of all) lsn i → lsn < next_lsn n all → HasBlock all lsn i
+block_with n lsn i [] run h lt = absurd (omega (arith, h.within))
+block_with n lsn zero (b ∷ bs) run h lt = record {
+  block = b;
+  before = [];
+  behind = bs;
+  is = refl;
+  number = refl;
+  first = refl;
+  within = last bs run.2 lt (λ more. h.upto more);
+  payload = refl;
+}
+  where
+    last : (bs : List Block) → IsRun (n + b.count) bs → lsn < next_lsn (n + b.count) bs → (1 < length (b.first ∷ map first_of bs) → lsn < get_or (map first_of bs) 0 0) → lsn < b.first + b.count
+    last [] r end upto = omega (arith, end, run.0)
+    last (d ∷ ds) r end upto = omega (arith, upto (omega arith), r.0, run.0)
+block_with n lsn (suc i) (b ∷ bs) run h lt =
+    let f = block_with (n + b.count) lsn i bs run.2
+    (record { within = omega (arith, h.within); from = h.from; upto = λ more. subst (λ m. lsn < get_or (b.first ∷ map first_of bs) m 0) (far i) (h.upto (omega (arith, more))) }) lt in
+    record {
+      block = f.block;
+      before = b ∷ f.before;
+      behind = f.behind;
+      is = ap (λ (l : List Block). b ∷ l) f.is;
+      number = ap (λ (n : ℕ). suc n) f.number;
+      first = f.first;
+      within = f.within;
+      payload = f.payload;
+    }
+  where
+    far : (i : ℕ) → suc i + 1 ≡ suc (i + 1)
+    far i = omega arith
+
+-- also where others stand behind all of them
+module _ (bs all more : List Block) (lsn i : ℕ) (h : HasBlock all lsn i) (is : bs ≡ all ++ more) (from : h.block.first ≤ lsn) (payload : List ℕ) (read : payload ≡ payload_at all i) where
+  has_record : HasRecord bs i lsn h.block
+  has_record = record {
+    before = h.before;
+    behind = h.behind ++ more;
+    is = is ∙ ap (λ (l : List Block). l ++ more) h.is ∙ append_assoc h.before (h.block ∷ h.behind) more;
+    number_is = h.number;
+    from = from;
+    upto = h.within;
+  }
+
+  -- what is read from its payload is the record of the LSN
+  pub record_of : (r : Record) → IsReadAt payload (lsn - h.block.first) r → IsRecordOf bs lsn r
+  record_of r at = record { number = i; block = h.block; has = has_record; read = subst (λ p. IsReadAt p (lsn - h.block.first) r) (read ∙ h.payload) at }
+
+  -- what isn't is bad there
+  pub bad_in : (fault : Fault) → IsUnreadAt i payload (lsn - h.block.first) fault → IsBadIn bs lsn fault
+  bad_in faults.Memory bad = tt
+  bad_in (faults.LogBad number byte) bad = record {
+    block = h.block;
+    has = subst (λ n. HasRecord bs n lsn h.block) (sym bad.2) has_record;
+    fault = record {
+      front = bad.0;
+      rest = bad.3.rest;
+      left = bad.3.left;
+      goes_on = subst (λ p. GoesOn bad.0 p bad.3.rest bad.3.left byte) (read ∙ h.payload) bad.3.goes_on;
+      breaks = let most = bad.1 in let within = h.within in inl (omega (arith, most, within, from), bad.3.fault);
+    };
+    no_later = let most = bad.1 in omega (arith, most, from);
+  }
+  bad_in fault bad = absurd bad
 
 pub length-firsts : {D : Type 0} (log : LogState D) → length (firsts log) ≡ length log.places + length log.pending
 length-firsts log = omega (arith, length-append (map (λ (p : Place). p.first) log.places) (map first_of log.pending), of_places log.places, of_blocks log.pending)

@@ -11,7 +11,9 @@ use Rattle.wal_record.specs.Rules.{HasSpelling}
 use Rattle.wal_record.specs.Spelling.{spelling}
 use Rattle.wal_record.specs.declared.record.Record.{Record}
 use Rattle.log_manager.specs.Managed.{records_at}
-use Rattle.log_manager.specs.Records.{AreIn, Holds, IsLastCheckpoint, bytes_of, checkpoint_after, checkpoint_in, is_checkpoint}
+use Rattle.log_manager.specs.Payload.{bytes_of}
+use Rattle.log_manager.specs.Records.{AreIn, Holds, IsLastCheckpoint, checkpoint_in}
+use Rattle.wal_record.specs.Checkpoints.{checkpoint_after, is_checkpoint}
 
 -- ---- blocks one behind the other
 
@@ -58,7 +60,7 @@ in_take c zero xs rs a = refl
 in_take c (suc m) [] rs a = refl
 in_take c (suc m) (x ∷ xs) rs a =
     let n = records_in (take m xs) in
-    let count : x.count + n ≡ length a.0 + n = ap (λ k. k + n) a.3.count in
+    let count : x.count + n ≡ length a.0 + n = ap (λ k. k + n) a.3.records.count_is in
     (a.0, take n a.1, ap (take (x.count + n)) a.2 ∙ ap (λ k. take k (a.0 ++ a.1)) count ∙ take_past a.0 a.1 n, a.3, in_take x.checkpoint m xs a.1 a.4)
 
 -- the other blocks have the others
@@ -67,13 +69,13 @@ in_drop c zero xs rs a = a
 in_drop c (suc m) [] rs a = a
 in_drop c (suc m) (x ∷ xs) rs a =
     let n = records_in (take m xs) in
-    let count : x.count + n ≡ length a.0 + n = ap (λ k. k + n) a.3.count in
+    let count : x.count + n ≡ length a.0 + n = ap (λ k. k + n) a.3.records.count_is in
     subst (AreIn (checkpoint_in x.checkpoint (take m xs)) (drop m xs)) (sym (ap (drop (x.count + n)) a.2 ∙ ap (λ k. drop k (a.0 ++ a.1)) count ∙ drop_past a.0 a.1 n)) (in_drop x.checkpoint m xs a.1 a.4)
 
 -- blocks have as many records as they say
 pub in_count : (c : ℕ) (xs : List Block) (rs : List Record) → AreIn c xs rs → records_in xs ≡ length rs
 in_count c [] rs a = sym (ap length a)
-in_count c (x ∷ xs) rs a = omega (arith, a.3.count, in_count x.checkpoint xs a.1 a.4, ap length a.2, length-append a.0 a.1)
+in_count c (x ∷ xs) rs a = omega (arith, a.3.records.count_is, in_count x.checkpoint xs a.1 a.4, ap length a.2, length-append a.0 a.1)
 
 -- more blocks have no fewer records
 pub records_take : (m n : ℕ) (xs : List Block) → m ≤ n → records_in (take m xs) ≤ records_in (take n xs)
@@ -122,7 +124,7 @@ checkpoint_is c n [] rs run a = sym (ap (checkpoint_after c n) a)
 checkpoint_is c n (x ∷ xs) rs run a =
     let here : x.checkpoint ≡ checkpoint_after c n a.0 = a.3.checkpoint ∙ ap (λ m. checkpoint_after c m a.0) run.0 in
     checkpoint_is x.checkpoint (n + x.count) xs a.1 run.2 a.4
-    ∙ ap (λ m. checkpoint_after m (n + x.count) a.1) here ∙ ap (λ m. checkpoint_after (checkpoint_after c n a.0) (n + m) a.1) a.3.count
+    ∙ ap (λ m. checkpoint_after m (n + x.count) a.1) here ∙ ap (λ m. checkpoint_after (checkpoint_after c n a.0) (n + m) a.1) a.3.records.count_is
     ∙ sym (checkpoint_after-append c n a.0 a.1) ∙ ap (checkpoint_after c n) (sym a.2)
 
 -- the last Checkpoint stands among the records before
@@ -139,11 +141,13 @@ holds_more : (c n k : ℕ) (b : Block) (own recs : List Record) → Holds c b ow
     → b.first ≡ n → k ≡ checkpoint_after b.checkpoint (n + b.count) recs
     → Holds c (record { first = n; checkpoint = k; count = b.count + length recs; payload = b.payload ++ bytes_of recs }) (own ++ recs)
 holds_more c n k b own recs h spelled first is = record {
-  spelled = All-append HasSpelling own recs h.spelled spelled;
-  count = omega (arith, h.count, length-append own recs);
-  payload = ap (λ (l : List ℕ). l ++ bytes_of recs) h.payload ∙ sym (flat_map-append spelling own recs);
+  records = record {
+    spelled = All-append HasSpelling own recs h.records.spelled spelled;
+    count_is = omega (arith, h.records.count_is, length-append own recs);
+    payload_is = ap (λ (l : List ℕ). l ++ bytes_of recs) h.records.payload_is ∙ sym (flat_map-append spelling own recs);
+  };
   checkpoint = is ∙ ap (λ m. checkpoint_after m (n + b.count) recs) (h.checkpoint ∙ ap (λ m. checkpoint_after c m own) first)
-      ∙ ap (λ m. checkpoint_after (checkpoint_after c n own) (n + m) recs) h.count ∙ sym (checkpoint_after-append c n own recs);
+      ∙ ap (λ m. checkpoint_after (checkpoint_after c n own) (n + m) recs) h.records.count_is ∙ sym (checkpoint_after-append c n own recs);
 }
 
 joined_in : (c n : ℕ) (bs : List Block) (rs recs : List Record) (k : ℕ) → AreIn c (numbered n bs) rs → joins bs (length recs) (length (bytes_of recs)) ≡ true
@@ -175,7 +179,7 @@ begun_in c n [] rs recs k a spelled is = (
   recs,
   [],
   ap (λ (l : List Record). l ++ recs) a ∙ sym (append-nil recs),
-  record { spelled = spelled; count = refl; payload = refl; checkpoint = is ∙ ap (λ m. checkpoint_after c m recs) (omega arith) },
+  record { records = record { spelled = spelled; count_is = refl; payload_is = refl }; checkpoint = is ∙ ap (λ m. checkpoint_after c m recs) (omega arith) },
   refl,
 )
 begun_in c n (b ∷ bs) rs recs k a spelled is = (

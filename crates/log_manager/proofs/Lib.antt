@@ -1,5 +1,6 @@
 pub mod Counting
 pub mod Finding
+mod Grouping
 pub mod Joining
 pub mod Logs
 pub mod Taking

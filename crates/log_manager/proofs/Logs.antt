@@ -6,7 +6,7 @@ use Rattle.media.specs.Kept.{Kept}
 use Rattle.log_blocks.specs.Batch.{numbered, records_in, with_group}
 use Rattle.log_blocks.specs.Log.{Block, IsRun, IsSequence, StandsFor, StandsForMore, StandsForSome, first_lsn, next_lsn}
 use Rattle.log_blocks.specs.LogState.{AreNumbered, IsDurable, LogState, checkpoint_of, firsts, last_or, lsn_behind, payload_at}
-use Rattle.log_blocks.specs.Opening.{FlushLeaves, Progress, places}
+use Rattle.log_blocks.specs.Opening.{DropLeaves, FlushLeaves, Progress, places}
 use Rattle.log_blocks.specs.declared.header.Place.{Place}
 use Rattle.log_blocks.proofs.Lasts.{map-append}
 use Rattle.log_blocks.proofs.Progressing.{length-places}
@@ -16,11 +16,14 @@ use Rattle.log_blocks.proofs.BlockLists.{run_front}
 use Rattle.wal_record.specs.Rules.{HasSpelling}
 use Rattle.wal_record.specs.declared.record.Record.{Record}
 use Rattle.log_manager.specs.declared.counted.Counted.{Counted}
-use Rattle.log_manager.specs.Records.{AreIn, AreRecordsOf, IsLastCheckpoint, IsLogOf, StandsForMoreRecords, StandsForRecords, bytes_of, checkpoint_after, checkpoint_in}
-use Rattle.log_manager.specs.Managed.{HasLsn, IsAt, IsCounted, RecordsLeft, first_kept, records_at, with_batch}
+use Rattle.log_manager.specs.Payload.{bytes_of}
+use Rattle.log_manager.specs.Groups.{EndsBlock}
+use Rattle.log_manager.specs.Records.{AreIn, AreRecordsOf, IsLastCheckpoint, IsLogOf, StandsForMoreRecords, StandsForRecords, checkpoint_in}
+use Rattle.log_manager.specs.Managed.{HasLsn, IsAt, IsCounted, IsLogFrom, RecordsLeft, RecycleLeaves, StandsForRest, first_kept, records_at, with_batch}
 use Rattle.log_manager.proofs.Counting.{checkpoint_of_block, checkpoints-places, group_run, without_first}
 use Rattle.log_manager.proofs.Finding.{at_more, first_front, first_of, firsts-places, found_at, found_in, next_of_all}
 use Rattle.log_manager.proofs.Joining.{checkpoint_in-append, checkpoint_is, last_is, group_in, in_append, in_count, in_drop, in_split, in_take, next_count, records_most, records_places, records_take}
+use Rattle.wal_record.specs.Checkpoints.{checkpoint_after}
 
 -- ---- the last Checkpoint
 
@@ -33,14 +36,38 @@ durable_below : (start : ℕ) (bs : List Block) → IsSequence start bs → chec
 durable_below start [] s = omega arith
 durable_below start (b ∷ bs) s = omega (arith, last_below b.first 0 (b ∷ bs) s.run (omega arith), behind_first start b bs s.run)
 
-none_before : (before : ℕ) (bs : List Block) → (bs ≡ [] → before ≡ 0) → checkpoint_in 0 bs ≡ checkpoint_in before bs
+none_before : (before : ℕ) (bs : List Block) → (first_lsn bs ≡ 1 → before ≡ 0) → checkpoint_in 0 bs ≡ checkpoint_in before bs
 none_before before [] none = sym (none refl)
 none_before before (b ∷ bs) none = refl
 
-some_left : (n : ℕ) (ds : List Block) → n < length ds → drop n ds ≡ [] → ⊥
-some_left n [] lt e = omega (arith, lt)
-some_left zero (d ∷ ds) lt e = absurd cc
-some_left (suc n) (d ∷ ds) lt e = some_left n ds (omega (arith, lt)) e
+-- more blocks behind those that are there change nothing of the first
+front_one : (xs ys : List Block) → first_lsn (xs ++ ys) ≡ 1 → first_lsn xs ≡ 1
+front_one [] ys e = refl
+front_one (x ∷ xs) ys e = e
+
+-- without the first n blocks the first LSN is that behind their records
+first_drop : (n first : ℕ) (bs : List Block) → IsRun first bs → n < length bs → first_lsn (drop n bs) ≡ first + records_in (take n bs)
+first_drop n first [] run lt = absurd (omega (arith, lt))
+first_drop zero first (b ∷ bs) run lt = omega (arith, run.0)
+first_drop (suc n) first (b ∷ bs) run lt = let rest = first_drop n (first + b.count) bs run.2 (omega (arith, lt)) in omega (arith, rest)
+
+some_first : (n : ℕ) (bs : List Block) → IsRun (first_lsn bs) bs → n < length bs → 1 ≤ first_lsn bs
+some_first n [] run lt = absurd (omega (arith, lt))
+some_first n (b ∷ bs) run lt = run.1.first
+
+-- and the last Checkpoint before is the last one among these records, or the one before them
+module _ (before n : ℕ) (bs : List Block) (s : List Record) (run : IsRun (first_lsn bs) bs) (a : AreIn before bs s) where
+  checkpoint_drop : checkpoint_in before (take n bs) ≡ checkpoint_after before (first_lsn bs) (take (records_in (take n bs)) s)
+  checkpoint_drop =
+      checkpoint_is before (first_lsn bs) (take n bs) (take (records_in (take n bs)) s)
+      (run_front (first_lsn bs) (take n bs) (drop n bs) (subst (IsRun (first_lsn bs)) (sym (take-append-drop n bs)) run)) (in_take before n bs s a)
+
+  none_drop : n < length bs → (first_lsn bs ≡ 1 → before ≡ 0) → first_lsn (drop n bs) ≡ 1 → checkpoint_in before (take n bs) ≡ 0
+  none_drop lt none one =
+      let first = first_drop n (first_lsn bs) bs run lt in
+      let some = some_first n bs run lt in
+      let no_record : records_in (take n bs) ≡ 0 = omega (arith, first, some, one) in
+      checkpoint_drop ∙ ap (λ m. checkpoint_after before (first_lsn bs) (take m s)) no_record ∙ none (omega (arith, first, some, one))
 
 module _ {D : Type 0} (told : D → Kept) (may_leave : D → Kept → Type 0) where
   abbrev Stands : LogState D → List Block → Type 0
@@ -160,14 +187,10 @@ module _ {D : Type 0} (told : D → Kept) (may_leave : D → Kept → Type 0) wh
   flushed old new s w none numbered durable h = record {
     bs = h.bs ++ old.pending;
     durable = durable h.bs h.durable;
-    records = record { before = h.records.before; none = λ e. h.records.none (front_none h.bs old.pending e); records = in_append h.records.before h.bs old.pending s w h.records.records h.more };
+    records = record { before = h.records.before; none = λ e. h.records.none (front_one h.bs old.pending e); records = in_append h.records.before h.bs old.pending s w h.records.records h.more };
     more = subst (λ (l : List Block). AreIn (checkpoint_in h.records.before (h.bs ++ old.pending)) l []) (sym none) refl;
     numbered = numbered;
   }
-    where
-      front_none : (xs ys : List Block) → xs ++ ys ≡ [] → xs ≡ []
-      front_none [] ys e = refl
-      front_none (x ∷ xs) ys e = absurd cc
 
   -- the first of the pending blocks have the first of the waiting records
   first_stand : (log : LogState D) (s w : List Record) (h : IsLogOf told may_leave log s w) (k : Kept) (n : ℕ) → StandsFor (h.bs ++ take n log.pending) k
@@ -177,14 +200,10 @@ module _ {D : Type 0} (told : D → Kept) (may_leave : D → Kept → Type 0) wh
     stands = stands;
     records = record {
       before = h.records.before;
-      none = λ e. h.records.none (front_none h.bs (take n log.pending) e);
+      none = λ e. h.records.none (front_one h.bs (take n log.pending) e);
       records = in_append h.records.before h.bs (take n log.pending) s (take (records_in (take n log.pending)) w) h.records.records (in_take (checkpoint_in h.records.before h.bs) n log.pending w h.more);
     };
   }
-    where
-      front_none : (xs ys : List Block) → xs ++ ys ≡ [] → xs ≡ []
-      front_none [] ys e = refl
-      front_none (x ∷ xs) ys e = absurd cc
 
   -- they begin with the first LSN that the log keeps
   first_number : (log : LogState D) (s w : List Record) (h : IsLogOf told may_leave log s w) (n : ℕ) → first_lsn (h.bs ++ take n log.pending) ≡ first_kept log
@@ -197,9 +216,14 @@ module _ {D : Type 0} (told : D → Kept) (may_leave : D → Kept → Type 0) wh
 
   -- what a crash within a flush leaves
   pub some_flushed : (log : LogState D) (s w : List Record) (h : IsLogOf told may_leave log s w) (k : Kept) → StandsForSome h.bs log.pending k
-      → (n : ℕ) × (t : StandsForRecords (s ++ take n w) k) × (first_lsn t.bs ≡ first_kept log)
+      → (n : ℕ) × (t : StandsForRecords (s ++ take n w) k) × (first_lsn t.bs ≡ first_kept log) × EndsBlock log.pending n
   unfolding first_stand
-  some_flushed log s w h k some = (records_in (take some.whole log.pending), first_stand log s w h k some.whole some.stands, first_number log s w h some.whole)
+  some_flushed log s w h k some = (
+    records_in (take some.whole log.pending),
+    first_stand log s w h k some.whole some.stands,
+    first_number log s w h some.whole,
+    record { blocks = some.whole; records = refl },
+  )
 
   more_flushed : (log : LogState D) (s w : List Record) (h : IsLogOf told may_leave log s w) (k : Kept) (done : ℕ) → StandsForMore h.bs log.pending done k
       → StandsForMoreRecords (first_kept log) s w (records_in (take done log.pending)) k
@@ -215,6 +239,7 @@ module _ {D : Type 0} (told : D → Kept) (may_leave : D → Kept → Type 0) wh
   -- what a flush leaves
   pub records_left : (old new : LogState D) (bs : List Block) (s w : List Record) (h : IsLogOf told may_leave old s w) → FlushLeaves told may_leave h.bs old.pending new.pending new.device
       → Progress old.gate old.places old.pending new.gate new.places new.pending → RecordsLeft told may_leave s w old (with_batch new bs)
+  unfolding more_flushed
   records_left old new bs s w h f p =
       let same : p.count ≡ f.done = omega (arith, p.within, f.within, ap length (sym p.left ∙ f.rest_is), length-drop p.count old.pending, length-drop f.done old.pending) in
       let behind = lsn_behind old.places in
@@ -228,6 +253,8 @@ module _ {D : Type 0} (told : D → Kept) (may_leave : D → Kept → Type 0) wh
         durable = omega (arith, next);
         read = more_flushed old s w h (told new.device) f.done f.read;
         crash = λ k may. more_flushed old s w h k f.done (f.crash k may);
+        read_whole = record { blocks = f.read.whole; records = refl };
+        crash_whole = λ k may. record { blocks = (f.crash k may).whole; records = refl };
       }
 
   -- what is left where nothing was flushed
@@ -247,11 +274,11 @@ module _ {D : Type 0} (told : D → Kept) (may_leave : D → Kept → Type 0) wh
         crash = λ k may. stand k (subst (StandsFor h.bs) (sym (h.durable.only k may)) h.durable.stands);
       } in
       let left = records_left log log [] s w h same (record { count = 0; within = omega arith; left = refl; places_are = sym (append-nil log.places); gate_is = omega arith }) in
-      record { done = left.done; within = left.within; durable = left.durable; read = left.read; crash = left.crash }
+      record { done = left.done; within = left.within; durable = left.durable; read = left.read; crash = left.crash; read_whole = left.read_whole; crash_whole = left.crash_whole }
 
   -- what the disk has now
   pub none_flushed : (log : LogState D) (s w : List Record) → IsLogOf told may_leave log s w → (k : Kept) → may_leave log.device k
-      → (n : ℕ) × (t : StandsForRecords (s ++ take n w) k) × (first_lsn t.bs ≡ first_kept log)
+      → (n : ℕ) × (t : StandsForRecords (s ++ take n w) k) × (first_lsn t.bs ≡ first_kept log) × EndsBlock log.pending n
   none_flushed log s w h k left =
       some_flushed log s w h k (record {
         whole = 0;
@@ -292,7 +319,7 @@ module _ {D : Type 0} (told : D → Kept) (may_leave : D → Kept → Type 0) wh
         durable = outer new bs (drop n h.bs) (durable h.bs (inner old bs h.bs h.durable));
         records = record {
           before = checkpoint_in before (take n h.bs);
-          none = λ e. absurd (some_left n h.bs some e);
+          none = none_drop before n h.bs s h.durable.stands.sequence.run h.records.records some h.records.none;
           records = subst (λ m. AreIn (checkpoint_in before (take n h.bs)) (drop n h.bs) (drop m s)) (records_known (with_batch old bs) h.bs n h.durable) t;
         };
         more = subst (λ c. AreIn c (old.pending ++ numbered old.next bs) w) same h.more;
@@ -302,26 +329,88 @@ module _ {D : Type 0} (told : D → Kept) (may_leave : D → Kept → Type 0) wh
         };
       }
 
-  -- what a crash then leaves
-  pub all_or_dropped : (log : LogState D) (s w : List Record) (n : ℕ) (h : IsLogOf told may_leave log s w) → n < length log.places → (k : Kept)
-      → StandsFor h.bs k ⊎ StandsFor (drop n h.bs) k → StandsForRecords s k ⊎ StandsForRecords (drop (records_at (take n log.places)) s) k
-  all_or_dropped log s w n h lt k (inl stands) = inl (record { bs = h.bs; stands = stands; records = h.records })
-  all_or_dropped log s w n h lt k (inr stands) =
-      let some : n < length h.bs = omega (arith, lt, ap length h.durable.places_are, length-places (told log.device).start h.bs) in
-      let before = checkpoint_in h.records.before (take n h.bs) in
-      inr (record {
-        bs = drop n h.bs;
-        stands = stands;
-        records = record {
-          before = before;
-          none = λ e. absurd (some_left n h.bs some e);
-          records = subst (λ m. AreIn before (drop n h.bs) (drop m s)) (records_known log h.bs n h.durable) (in_drop h.records.before n h.bs s h.records.records);
-        };
-      })
+  -- they begin with the first LSN that the log keeps
+  first_now : (log : LogState D) (s w : List Record) (h : IsLogOf told may_leave log s w) → first_lsn h.bs ≡ first_kept log
+  first_now log s w h = ap first_lsn (sym (append-nil h.bs)) ∙ first_number log s w h 0
+
+  -- their numbers, and the Checkpoint before them
+  module _ (old : LogState D) (s w : List Record) (h : IsLogOf told may_leave old s w) (n : ℕ) (lt : n < length old.places) where
+    some_block : n < length h.bs
+    some_block = omega (arith, lt, ap length h.durable.places_are, length-places (told old.device).start h.bs)
+
+    first_behind : first_lsn (drop n h.bs) ≡ first_kept old + records_at (take n old.places)
+    first_behind =
+        let first = first_drop n (first_lsn h.bs) h.bs h.durable.stands.sequence.run some_block in
+        let count = records_known old h.bs n h.durable in
+        omega (arith, first, first_now old s w h, count)
+
+    checkpoint_behind : checkpoint_in h.records.before (take n h.bs) ≡ checkpoint_after h.records.before (first_kept old) (take (records_at (take n old.places)) s)
+    checkpoint_behind =
+        checkpoint_drop h.records.before n h.bs s h.durable.stands.sequence.run h.records.records
+        ∙ ap (λ f. checkpoint_after h.records.before f (take (records_in (take n h.bs)) s)) (first_now old s w h)
+        ∙ ap (λ m. checkpoint_after h.records.before (first_kept old) (take m s)) (records_known old h.bs n h.durable)
+
+    -- what a crash then leaves, and a read
+    pub all_or_dropped : (k : Kept) → StandsFor h.bs k ⊎ StandsFor (drop n h.bs) k → StandsForRest h.records.before (first_kept old) s (records_at (take n old.places)) k
+    all_or_dropped k (inl stands) = inl (record {
+      stands = record { bs = h.bs; stands = stands; records = h.records };
+      numbered = omega (arith, first_now old s w h);
+      checkpoint = refl;
+    })
+    all_or_dropped k (inr stands) =
+        let before = checkpoint_in h.records.before (take n h.bs) in
+        inr (record {
+          stands = record {
+            bs = drop n h.bs;
+            stands = stands;
+            records = record {
+              before = before;
+              none = none_drop h.records.before n h.bs s h.durable.stands.sequence.run h.records.records some_block h.records.none;
+              records = subst (λ m. AreIn before (drop n h.bs) (drop m s)) (records_known old h.bs n h.durable) (in_drop h.records.before n h.bs s h.records.records);
+            };
+          };
+          numbered = first_behind;
+          checkpoint = checkpoint_behind;
+        })
 
   -- what it leaves where none goes
-  pub none_dropped : (log : LogState D) (s w : List Record) → IsLogOf told may_leave log s w → (k : Kept) → may_leave log.device k → StandsForRecords s k
-  none_dropped log s w h k left = record { bs = h.bs; stands = subst (StandsFor h.bs) (sym (h.durable.only k left)) h.durable.stands; records = h.records }
+  pub none_dropped : (log : LogState D) (s w : List Record) (n : ℕ) → (h : IsLogOf told may_leave log s w) → (k : Kept) → may_leave log.device k → StandsForRest h.records.before (first_kept log) s n k
+  none_dropped log s w n h k left = inl (record {
+    stands = record { bs = h.bs; stands = subst (StandsFor h.bs) (sym (h.durable.only k left)) h.durable.stands; records = h.records };
+    numbered = omega (arith, first_now log s w h);
+    checkpoint = refl;
+  })
+
+  pub none_recycled : (log : LogState D) (s w : List Record) (n : ℕ) → (h : IsLogOf told may_leave log s w) → RecycleLeaves told may_leave h.records.before (first_kept log) s n log.device
+  none_recycled log s w n h = record {
+    read = inl (record {
+      stands = record { bs = h.bs; stands = h.durable.stands; records = h.records };
+      numbered = omega (arith, first_now log s w h);
+      checkpoint = refl;
+    });
+    crash = none_dropped log s w n h;
+  }
+
+  pub recycle_left : (old : LogState D) (device : D) (s w : List Record) (h : IsLogOf told may_leave old s w) (n : ℕ) → n < length old.places → DropLeaves told may_leave h.bs n device
+      → RecycleLeaves told may_leave h.records.before (first_kept old) s (records_at (take n old.places)) device
+  recycle_left old device s w h n lt d = record { read = all_or_dropped old s w h n lt (told device) d.read; crash = λ k left. all_or_dropped old s w h n lt k (d.crash k left) }
+
+  pub none_from : (log : LogState D) (s w : List Record) (h : IsLogOf told may_leave log s w) → IsLogFrom told may_leave h.records.before (first_kept log) s w 0 log
+  none_from log s w h = record { stands = h; numbered = omega arith; checkpoint = refl }
+
+  pub dropped_from : (old : LogState D) (device : D) (ended : Option ℕ) (bs : List Block) (s w : List Record) (n : ℕ) → n < length old.places
+      → ((ds : List Block) → Stands old ds → Stands (without_first old device ended n) (drop n ds)) → (h : IsLogOf told may_leave (with_batch old bs) s w)
+      → IsLogFrom told may_leave h.records.before (first_kept (with_batch old bs)) s w (records_at (take n old.places)) (with_batch (without_first old device ended n) bs)
+  unfolding dropped
+  dropped_from old device ended bs s w n lt durable h =
+      let new = with_batch (without_first old device ended n) bs in
+      let left = dropped old device ended bs s w n lt durable h in
+      let first : first_lsn (drop n h.bs) ≡ first_kept new = first_now new (drop (records_at (take n old.places)) s) w left in
+      record {
+        stands = left;
+        numbered = sym first ∙ first_behind (with_batch old bs) s w h n lt;
+        checkpoint = checkpoint_behind (with_batch old bs) s w h n lt;
+      }
 
   -- ---- the record of an LSN
 

@@ -8,9 +8,14 @@ use Rattle.wal_record.specs.Rules.{HasSpelling}
 use Rattle.std.specs.Int.{w32, w64}
 use Rattle.std.specs.Prelude.{Result, Ok, Err, IfOk, IfErr}
 use Rattle.wal_record.specs.Spelling.{number_bytes, spelling}
+use Rattle.record_codec.proofs.AnyKind.{record_field}
+use Rattle.wal_record.specs.Reading.{Read, record_at}
 use Rattle.wal_record.specs.declared.record.Record.{Record}
 use Rattle.wal_record.specs.declared.record.Record.TheVariants as kinds
-use Rattle.log_manager.specs.Records.{bytes_of}
+use Rattle.store_model.specs.declared.fault.Fault.{Fault}
+use Rattle.store_model.specs.declared.fault.Fault.TheVariants as faults
+use Rattle.log_manager.specs.Managed.{IsUnreadAt}
+use Rattle.log_manager.specs.Payload.{NotRead, bytes_of}
 
 -- these records stand before a byte of the payload
 pub record Reads (payload : List ℕ) (at : ℕ) (front : List Record) : Type 0 where
@@ -79,6 +84,36 @@ in_front payload rest spelled at len is le front =
     sym is ∙ sym (take-append-drop len rest) ∙ ap (λ (l : List ℕ). l ++ drop len rest) front ∙ ap (λ (l : List ℕ). spelled ++ drop len l) is
     ∙ ap (λ (l : List ℕ). spelled ++ l) (drop_twice at len payload le)
 
+abbrev first_or : Record → Read Record → Record
+first_or r (Ok x) = x.0
+first_or r (Err e) = r
+
+abbrev rest_or : List ℕ → Read Record → List ℕ
+rest_or l (Ok x) = x.1
+rest_or l (Err e) = l
+
+-- what a record's spelling begins is that record, and what stands behind it
+pub same_next : (r s : Record) (a b : List ℕ) → HasSpelling r → HasSpelling s → spelling r ++ a ≡ spelling s ++ b → (r ≡ s) × (a ≡ b)
+same_next r s a b spelled too e =
+    let is = sym (record_field.again r a spelled) ∙ ap record_at e ∙ record_field.again s b too in
+    (ap (λ (x : Read Record). first_or r x) is, ap (λ (x : Read Record). rest_or a x) is)
+
+-- records in front of the bytes of others, no more than these, are the first of them
+pub first_records : (front own : List Record) (rest : List ℕ) → All HasSpelling front → All HasSpelling own → bytes_of own ≡ bytes_of front ++ rest → length front ≤ length own
+    → (back : List Record) × (own ≡ front ++ back) × (rest ≡ bytes_of back)
+first_records [] own rest spelled too is le = (own, refl, sym is)
+first_records (r ∷ front) [] rest spelled too is le = absurd (omega (arith, le))
+first_records (r ∷ front) (s ∷ own) rest spelled too is le =
+    let same = same_next s r (bytes_of own) (bytes_of front ++ rest) (too 0 r (omega arith)) (spelled 0 r (omega arith)) (is ∙ append_assoc (spelling r) (bytes_of front) rest) in
+    let more = first_records front own rest (λ k d lt. spelled (suc k) d (omega (arith, lt))) (λ k d lt. too (suc k) d (omega (arith, lt))) same.1 (omega (arith, le)) in
+    (more.0, ap (λ (x : Record). x ∷ own) same.0 ∙ ap (λ (l : List Record). r ∷ l) more.1, more.2)
+
+-- why it isn't read, behind no more records than its place
+pub unread_at : (block : ℕ) (payload : List ℕ) (place : ℕ) (front : List Record) (fault : Fault) → length front ≤ place → NotRead block front payload fault → IsUnreadAt block payload place fault
+unread_at block payload place front faults.Memory le bad = tt
+unread_at block payload place front (faults.LogBad b byte) le bad = (front, le, bad.0, bad.1)
+unread_at block payload place front fault le bad = absurd bad
+
 -- ---- a Commit
 
 length-u64 : (n : ℕ) → length (number_bytes w64 n) ≡ 8
@@ -125,3 +160,7 @@ answer_map (Err e) P Q F G is p f = (tt, f e is.1)
 pub err_map : {A E : Type 0} (x : Result A E) (F G : E → Type 0) → IfErr x F → ((e : E) → F e → G e) → IfErr x G
 err_map (Ok a) F G is f = tt
 err_map (Err e) F G is f = f e is
+
+pub ok_map : {A E : Type 0} (x : Result A E) (P Q : A → Type 0) → IfOk x P → ((a : A) → P a → Q a) → IfOk x Q
+ok_map (Ok a) P Q is f = f a is
+ok_map (Err e) P Q is f = tt

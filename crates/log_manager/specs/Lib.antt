@@ -1,2 +1,4 @@
+pub mod Groups
 pub mod Managed
+pub mod Payload
 pub mod Records

@@ -1,16 +1,22 @@
 -- The log of records as contracts see it.
-use Rattle.std.specs.Prelude.{◌≡◌, ◌≤◌, ◌<◌, ◌+◌, ◌-◌, ◌*◌, ◌^◌, ℕ, suc, List, [], ◌∷◌, ◌++◌, length, map, take, min, None, Some, ⊤, nat_le, if◌then◌else◌, slice_index_or, Err}
+use Rattle.std.specs.Prelude.{◌≡◌, ◌⊎◌, ◌≤◌, ◌<◌, ◌+◌, ◌-◌, ◌*◌, ◌^◌, ℕ, suc, List, [], ◌∷◌, ◌++◌, length, map, take, drop, min, None, Some, ⊤, nat_le, if◌then◌else◌, slice_index_or}
 use Rattle.media.specs.Kept.{Kept}
 use Rattle.store_model.specs.declared.fault.Fault.{Fault}
 use Rattle.store_model.specs.declared.fault.Fault.TheVariants.{Memory, LogBad, Ended}
 use Rattle.log_blocks.specs.Batch.{numbered, records_in, IsChecked}
-use Rattle.log_blocks.specs.Log.{Block, blocks}
-use Rattle.log_blocks.specs.LogState.{LogState, Refused, checkpoint_of, durable_lsn, firsts, log_end, payload_at}
+use Rattle.log_blocks.specs.Log.{Block, blocks, first_lsn}
+use Rattle.log_blocks.specs.LogState.{LogState, Refused, checkpoint_of, durable_lsn, firsts, log_end}
 use Rattle.log_blocks.specs.declared.header.Place.{Place}
-use Rattle.wal_record.specs.Reading.{record_at}
+use Rattle.std.specs.List.{All}
+use Rattle.wal_record.specs.Rules.{HasSpelling}
+use Rattle.wal_record.specs.Spelling.{spelling}
 use Rattle.wal_record.specs.declared.record.Record.{Record}
-use Rattle.log_manager.specs.Records.{StandsForMoreRecords, bytes_of}
+use Rattle.log_manager.specs.Groups.{EndsBlock}
+use Rattle.log_manager.specs.Payload.{IsFaultBehind, IsFirstFault, bytes_of}
+use Rattle.log_manager.specs.Records.{IsLogOf, StandsForMoreRecords, StandsForRecords}
 use Rattle.log_manager.specs.declared.counted.Counted.{Counted}
+use Rattle.log_manager.specs.declared.counted.TheConstants.{COMMIT}
+use Rattle.wal_record.specs.Checkpoints.{checkpoint_after}
 
 -- the block log, with the blocks in memory among its pending ones, and for how many commits there is room
 pub record Managed (D : Type 0) : Type 0 where
@@ -44,7 +50,7 @@ pub record IsCounted {D : Type 0} (log : LogState D) (bs : List Block) (spare : 
   pub checked : IsChecked log.next bs
   pub count : c.records ≡ records_in bs
   pub none : c.records ≡ 0 → bs ≡ []
-  pub size : length (blocks bs) + 40 * spare ≤ c.bytes
+  pub size : length (blocks bs) + COMMIT * spare ≤ c.bytes
   pub few : c.records + spare ≤ 2 ^ 62
   pub short : c.bytes ≤ 2 ^ 62
   pub places : 0 < c.records + spare → log.next + c.records + spare ≤ 2 ^ 62
@@ -78,26 +84,54 @@ records_at (p ∷ ps) = p.count + records_at ps
 abbrev pub recycled : ℕ → List Place → ℕ
 recycled upto ps = records_at (take (before_lsn upto ps) ps)
 
--- Behind some records, the payload of a block has a field that is cut or breaks its rule; in the block it begins at
--- this byte.
-pub record IsBadRecord (payload : List ℕ) (byte : ℕ) : Type 0 where
+-- of blocks with these first LSNs, the one at this place begins at or before an LSN, and the next one behind it
+pub record HasLsn (first : List ℕ) (lsn place : ℕ) : Type 0 where
+  pub within : place < length first
+  pub from : slice_index_or first place 0 ≤ lsn
+  pub upto : place + 1 < length first → lsn < slice_index_or first (place + 1) 0
+
+-- this record stands in the payload behind so many others
+pub record IsReadAt (payload : List ℕ) (place : ℕ) (r : Record) : Type 0 where
   pub front : List Record
   pub rest : List ℕ
-  pub left : ℕ
-  pub bytes : payload ≡ bytes_of front ++ rest
-  pub fault : record_at rest ≡ Err left
-  pub is : byte + left ≡ 23 + length payload
+  pub spelled : All HasSpelling front
+  pub bytes : payload ≡ bytes_of front ++ (spelling r ++ rest)
+  pub at : length front ≡ place
 
--- why no record is read from a block with this number and payload
-abbrev pub NotRead : ℕ → List ℕ → Fault → Type 0
-NotRead number payload Memory = Unit {0}
-NotRead number payload (LogBad block byte) = (block ≡ number) × IsBadRecord payload byte
-NotRead number payload fault = ⊥
+-- why the record at this place isn't read from a block with this number and payload
+abbrev pub IsUnreadAt : ℕ → List ℕ → ℕ → Fault → Type 0
+IsUnreadAt number payload place Memory = Unit {0}
+IsUnreadAt number payload place (LogBad block byte) = (front : List Record) × (length front ≤ place) × (block ≡ number) × IsFaultBehind front payload byte
+IsUnreadAt number payload place fault = ⊥
 
--- where a block is named as bad, it is one of these, and its payload is bad there
-abbrev pub IsBadIn : List Block → Fault → Type 0
-IsBadIn bs (LogBad block byte) = (block < length bs) × IsBadRecord (payload_at bs block) byte
-IsBadIn bs fault = Unit {0}
+-- the block with this number has an LSN
+pub record HasRecord (bs : List Block) (number lsn : ℕ) (b : Block) : Type 0 where
+  pub before : List Block
+  pub behind : List Block
+  pub is : bs ≡ before ++ b ∷ behind
+  pub number_is : length before ≡ number
+  pub from : b.first ≤ lsn
+  pub upto : lsn < b.first + b.count
+
+-- What a read of an LSN gives is the record at its place in the block that has it.
+pub record IsRecordOf (bs : List Block) (lsn : ℕ) (r : Record) : Type 0 where
+  pub number : ℕ
+  pub block : Block
+  pub has : HasRecord bs number lsn block
+  pub read : IsReadAt block.payload (lsn - block.first) r
+
+-- A read of an LSN names the block that has it as bad, at the first fault of its payload, which stands no later than in
+-- the record of the LSN.
+pub record IsBadRead (bs : List Block) (lsn number byte : ℕ) : Type 0 where
+  pub block : Block
+  pub has : HasRecord bs number lsn block
+  pub fault : IsFirstFault block.count block.payload byte
+  pub no_later : block.first + length fault.front ≤ lsn
+
+-- where a read of this LSN names a block as bad
+abbrev pub IsBadIn : List Block → ℕ → Fault → Type 0
+IsBadIn bs lsn (LogBad block byte) = IsBadRead bs lsn block byte
+IsBadIn bs lsn fault = Unit {0}
 
 -- why a read is refused: the log had ended, its disk failed in this call and ended it, want of memory, or a block that
 -- holds no records there
@@ -109,12 +143,6 @@ abbrev pub IsNoBadLog : Fault → Type 0
 IsNoBadLog (LogBad block byte) = ⊥
 IsNoBadLog _ = Unit {0}
 
--- of blocks with these first LSNs, the one at this place begins at or before an LSN, and the next one behind it
-pub record HasLsn (first : List ℕ) (lsn place : ℕ) : Type 0 where
-  pub within : place < length first
-  pub from : slice_index_or first place 0 ≤ lsn
-  pub upto : place + 1 < length first → lsn < slice_index_or first (place + 1) 0
-
 -- the record at this place
 pub record IsAt (rs : List Record) (i : ℕ) (r : Record) : Type 0 where
   pub front : List Record
@@ -123,10 +151,34 @@ pub record IsAt (rs : List Record) (i : ℕ) (r : Record) : Type 0 where
   pub place : length front ≡ i
 
 -- What a flush leaves, also one that failed. The first of the waiting records are stable now. A read now, and one after
--- a crash that comes now, gives the records that were stable, these, and maybe further ones in order.
+-- a crash that comes now, gives the records that were stable, these, and maybe further ones in order; they end where a
+-- block ends.
 pub record RecordsLeft {D : Type 0} (told : D → Kept) (may_leave : D → Kept → Type 0) (stable waiting : List Record) (old new : LogState D) : Type 0 where
   pub done : ℕ
   pub within : done ≤ length waiting
   pub durable : durable_lsn new.places ≡ durable_lsn old.places + done
   pub read : StandsForMoreRecords (first_kept old) stable waiting done (told new.device)
   pub crash : (k : Kept) → may_leave new.device k → StandsForMoreRecords (first_kept old) stable waiting done k
+  pub read_whole : EndsBlock old.pending read.whole
+  pub crash_whole : (k : Kept) (left : may_leave new.device k) → EndsBlock old.pending (crash k left).whole
+
+-- Of records that begin with an LSN, behind a last Checkpoint, the kept bytes stand for those from the n-th on.
+pub record StandsForFrom (before first : ℕ) (rs : List Record) (n : ℕ) (k : Kept) : Type 0 where
+  pub stands : StandsForRecords (drop n rs) k
+  pub numbered : first_lsn stands.bs ≡ first + n
+  pub checkpoint : stands.records.before ≡ checkpoint_after before first (take n rs)
+
+-- all of them, or those from the n-th on
+abbrev pub StandsForRest : ℕ → ℕ → List Record → ℕ → Kept → Type 0
+StandsForRest before first rs n k = StandsForFrom before first rs 0 k ⊎ StandsForFrom before first rs n k
+
+-- What recycling leaves, also where it failed: for a read now, and for one after a crash that comes now.
+pub record RecycleLeaves {D : Type 0} (told : D → Kept) (may_leave : D → Kept → Type 0) (before first : ℕ) (rs : List Record) (n : ℕ) (device : D) : Type 0 where
+  pub read : StandsForRest before first rs n (told device)
+  pub crash : (k : Kept) → may_leave device k → StandsForRest before first rs n k
+
+-- the log has the stable records from the n-th on, and those that wait
+pub record IsLogFrom {D : Type 0} (told : D → Kept) (may_leave : D → Kept → Type 0) (before first : ℕ) (stable waiting : List Record) (n : ℕ) (log : LogState D) : Type 0 where
+  pub stands : IsLogOf told may_leave log (drop n stable) waiting
+  pub numbered : first_kept log ≡ first + n
+  pub checkpoint : stands.records.before ≡ checkpoint_after before first (take n stable)

@@ -1,26 +1,13 @@
 -- Which records the blocks of a log hold.
-use Rattle.std.specs.Prelude.{◌≡◌, ◌⊎◌, ◌≤◌, ◌+◌, ℕ, suc, List, [], ◌∷◌, ◌++◌, length, take, flat_map, map, Bool, true, false, if◌then◌else◌}
+use Rattle.std.specs.Prelude.{◌≡◌, ◌⊎◌, ◌≤◌, ◌+◌, ℕ, List, [], ◌∷◌, ◌++◌, length, take, map, true, false, if◌then◌else◌}
 use Rattle.std.specs.List.{All}
 use Rattle.media.specs.Kept.{Kept}
 use Rattle.log_blocks.specs.Log.{Block, StandsFor, first_lsn}
 use Rattle.log_blocks.specs.LogState.{LogState, AreNumbered, IsDurable, last_or}
-use Rattle.wal_record.specs.Rules.{HasSpelling}
-use Rattle.wal_record.specs.Spelling.{spelling}
 use Rattle.wal_record.specs.declared.record.Record.{Record}
 use Rattle.wal_record.specs.declared.record.Record.TheVariants as kinds
-
--- records as bytes, one behind the other
-abbrev pub bytes_of : List Record → List ℕ
-bytes_of rs = flat_map spelling rs
-
-abbrev pub is_checkpoint : Record → Bool
-is_checkpoint (kinds.Checkpoint c) = true
-is_checkpoint _ = false
-
--- the LSN of the last Checkpoint of these records, the first of which has this LSN; without one, `before`
-abbrev pub checkpoint_after : ℕ → ℕ → List Record → ℕ
-checkpoint_after before lsn [] = before
-checkpoint_after before lsn (r ∷ rs) = checkpoint_after (if is_checkpoint r then lsn else before) (suc lsn) rs
+use Rattle.log_manager.specs.Payload.{IsPayloadOf}
+use Rattle.wal_record.specs.Checkpoints.{checkpoint_after, is_checkpoint}
 
 -- of these records, the first of which has the LSN first, the one with this LSN is the last Checkpoint
 pub record IsLastOf (first : ℕ) (rs : List Record) (lsn : ℕ) : Type 0 where
@@ -36,11 +23,14 @@ pub record IsLastOf (first : ℕ) (rs : List Record) (lsn : ℕ) : Type 0 where
 abbrev pub IsLastCheckpoint : ℕ → ℕ → List Record → ℕ → Type 0
 IsLastCheckpoint before first rs lsn = ((lsn ≡ before) × All (λ r. is_checkpoint r ≡ false) rs) ⊎ IsLastOf first rs lsn
 
+-- the payloads of the blocks are these records, each block's its own
+abbrev pub AreSpelled : List Block → List Record → Type 0
+AreSpelled [] rs = rs ≡ []
+AreSpelled (b ∷ bs) rs = (own : List Record) × (more : List Record) × (rs ≡ own ++ more) × IsPayloadOf own b.count b.payload × AreSpelled bs more
+
 -- the block holds these records, where the last Checkpoint before them has the LSN `before`
 pub record Holds (before : ℕ) (b : Block) (rs : List Record) : Type 0 where
-  pub spelled : All HasSpelling rs
-  pub count : b.count ≡ length rs
-  pub payload : b.payload ≡ bytes_of rs
+  pub records : IsPayloadOf rs b.count b.payload
   pub checkpoint : b.checkpoint ≡ checkpoint_after before b.first rs
 
 -- the blocks hold these records, each block its own
@@ -52,10 +42,11 @@ AreIn before (b ∷ bs) rs = (own : List Record) × (more : List Record) × (rs 
 abbrev pub checkpoint_in : ℕ → List Block → ℕ
 checkpoint_in before bs = last_or before (map (λ b. b.checkpoint) bs)
 
--- The blocks are all of a log, and hold these records. Where there is none yet, there was no Checkpoint.
+-- The blocks are all of a log, and hold these records. The last Checkpoint before them has the LSN `before`, 0 where
+-- none of the log's records was dropped.
 pub record AreRecordsOf (bs : List Block) (rs : List Record) : Type 0 where
   pub before : ℕ
-  pub none : bs ≡ [] → before ≡ 0
+  pub none : first_lsn bs ≡ 1 → before ≡ 0
   pub records : AreIn before bs rs
 
 -- The kept bytes stand for blocks that hold these records.

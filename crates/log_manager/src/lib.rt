@@ -17,11 +17,14 @@
 #![tactic(auto)]
 
 mod counted;
+mod laws;
 mod manager;
 mod reading;
 mod spelling;
 
+pub use laws::groups_law;
 pub use manager::LogManager;
+pub use reading::{ends_at, record_from};
 
 #[cfg(test)]
 mod tests;

@@ -6,17 +6,19 @@ ghost use Rattle.media.specs.Crash.{LeavesOnly};
 ghost use Rattle.store_model.specs.declared.fault.Fault.TheVariants as faults;
 ghost use Rattle.log_blocks.specs.Batch.{records_in};
 ghost use Rattle.log_blocks.specs.Log.{Block, first_lsn};
-ghost use Rattle.log_blocks.specs.LogState.{IsDurable, Refused, checkpoint_of, durable_lsn, firsts};
+ghost use Rattle.log_blocks.specs.LogState.{AreNumbered, IsDurable, Refused, checkpoint_of, durable_lsn, firsts};
 ghost use Rattle.log_blocks.specs.Opening.{IsLogFault, Progress};
 ghost use Rattle.wal_record.specs.Rules.{HasSpelling};
 ghost use Rattle.wal_record.specs.declared.record.Record.{Record};
-ghost use Rattle.log_manager.specs.Records.{bytes_of, AreRecordsOf, IsLastCheckpoint, IsLogOf, StandsForRecords};
-ghost use Rattle.log_manager.specs.Managed.{EndBefore, HasMore, HasLsn, IsAt, IsBadIn, IsCounted, IsNoBadLog, NotAdded, ReadRefused, RecordsLeft, before_lsn, first_kept, recycled, with_batch};
+ghost use Rattle.log_manager.specs.Payload.{bytes_of};
+ghost use Rattle.log_manager.specs.Records.{AreRecordsOf, IsLastCheckpoint, IsLogOf, StandsForRecords};
+ghost use Rattle.log_manager.specs.Groups.{EndsBlock, HoldGroups};
+ghost use Rattle.log_manager.specs.Managed.{EndBefore, HasMore, HasLsn, IsAt, IsBadIn, IsCounted, IsLogFrom, IsNoBadLog, IsRecordOf, NotAdded, ReadRefused, RecordsLeft, RecycleLeaves, StandsForRest, before_lsn, first_kept, recycled, with_batch};
 
 use crate::counted::{COMMIT, Counted};
 use crate::reading::record_in;
 use crate::spelling::{last_checkpoint, spelled};
-use log_blocks::{Batch, BlockLog};
+use log_blocks::{Batch, BlockLog, MOST_BYTES};
 use media::Disk;
 use record_codec::commit_bytes;
 use std::alloc::Global;
@@ -34,6 +36,7 @@ pub struct LogManager<L: Disk> {
 }
 
 impl<L: Disk> Model for LogManager<L> {
+    ghost use Rattle.log_manager.specs.Groups.{EndsBlock, HoldGroups};
     ghost use Rattle.log_manager.specs.Managed.{Managed, IsCounted, with_batch};
 
     ghost Value = { Managed L };
@@ -66,11 +69,13 @@ impl<L: Disk> LogManager<L> {
     pub fn append_group(&mut self, alloc: Global, recs: &[Record]) -> Result<Lsn, Fault>
         requires few { (1 ≤ length recs.now) × (length recs.now ≤ 3) }
         requires spelled { All HasSpelling recs.now }
-        requires size { length (bytes_of recs.now) ≤ 4194304 }
+        requires size { length (bytes_of recs.now) ≤ MOST_BYTES }
         ensures first { IfOk result (λ lsn. lsn ≡ self.old.log.next) }
         ensures added { OnOk result (HasMore recs.now self.old.log self.new.log × (self.new.spare ≡ self.old.spare)) }
         ensures records { L.tells → (stable waiting : List Record) → IsLogOf L.told L.may_leave self.old.log stable waiting
             → OnOk result (IsLogOf L.told L.may_leave self.new.log stable (waiting ++ recs.now)) }
+        // Each group stands whole in one block.
+        ensures whole { (groups : List (List Record)) → HoldGroups self.old.log.pending groups → OnOk result (HoldGroups self.new.log.pending (groups ++ recs.now ∷ [])) }
         ensures live { OnOk result (self.old.log.ended ≡ None) }
         ensures same { OnErr result (self.new ≡ self.old) }
         ensures refused { IfErr result (NotAdded self.old.log) }
@@ -118,6 +123,7 @@ impl<L: Disk> LogManager<L> {
         ensures added { HasMore (Record.Commit (record { tx = tx; prev = prev }) ∷ []) self.old.log self.new.log × (self.new.spare + 1 ≡ self.old.spare) }
         ensures records { L.tells → (stable waiting : List Record) → IsLogOf L.told L.may_leave self.old.log stable waiting
             → IsLogOf L.told L.may_leave self.new.log stable (waiting ++ Record.Commit (record { tx = tx; prev = prev }) ∷ []) }
+        ensures whole { (groups : List (List Record)) → HoldGroups self.old.log.pending groups → HoldGroups self.new.log.pending (groups ++ (Record.Commit (record { tx = tx; prev = prev }) ∷ []) ∷ []) }
     {
         let lsn = self.log.next() + self.counted.records;
         let commit = Commit { tx, prev };
@@ -135,9 +141,10 @@ impl<L: Disk> LogManager<L> {
         ensures durable { OnOk result (lsn ≤ durable_lsn self.new.log.places) }
         ensures next { (self.new.log.next ≡ self.old.log.next) × (self.new.spare ≡ self.old.spare) }
         ensures first { first_kept self.new.log ≡ first_kept self.old.log }
-        // A crash at any moment leaves the stable records, then some of the waiting ones in order, with the same LSNs.
+        // A crash at any moment leaves the stable records, then some of the waiting ones in order, with the same LSNs. They
+        // end where a block ends, so no group is cut.
         ensures any_moment { L.tells → (stable waiting : List Record) → IsLogOf L.told L.may_leave self.old.log stable waiting
-            → LeavesOnly L.moment L.left_since self.old.log.device self.new.log.device (λ k. (n : ℕ) × (s : StandsForRecords (stable ++ take n waiting) k) × (first_lsn s.bs ≡ first_kept self.old.log)) }
+            → LeavesOnly L.moment L.left_since self.old.log.device self.new.log.device (λ k. (n : ℕ) × (s : StandsForRecords (stable ++ take n waiting) k) × (first_lsn s.bs ≡ first_kept self.old.log) × EndsBlock self.old.log.pending n) }
         // After a fault, too, a read gives the stable records, of which the durable LSN tells the last, and then maybe
         // further ones in order.
         ensures left { L.tells → (stable waiting : List Record) → IsLogOf L.told L.may_leave self.old.log stable waiting
@@ -162,8 +169,10 @@ impl<L: Disk> LogManager<L> {
         requires kept { (first_kept self.old.log ≤ lsn) × (lsn < self.old.log.next) }
         ensures found { L.tells → (stable waiting : List Record) → IsLogOf L.told L.may_leave self.old.log stable waiting
             → IfOk result (IsAt (stable ++ waiting) (lsn - first_kept self.old.log)) × IfErr result IsNoBadLog }
-        // A block is named as bad only at the first field of its payload, behind some records, that is cut or breaks its rule.
-        ensures bad { L.tells → (bs : List Block) → IsDurable L.told L.may_leave self.old.log bs → IfErr result (IsBadIn (bs ++ self.old.log.pending)) }
+        // Also where the blocks hold others, it is what the block of the LSN has at its place.
+        ensures read { L.tells → (bs : List Block) → IsDurable L.told L.may_leave self.old.log bs → IfOk result (IsRecordOf (bs ++ self.old.log.pending) lsn) }
+        // That block is named as bad, at the first fault of its payload, only where that is reached before the record.
+        ensures bad { L.tells → (bs : List Block) → IsDurable L.told L.may_leave self.old.log bs → IfErr result (IsBadIn (bs ++ self.old.log.pending) lsn) }
         ensures records { L.tells → (stable waiting : List Record) → IsLogOf L.told L.may_leave self.old.log stable waiting → IsLogOf L.told L.may_leave self.new.log stable waiting }
         ensures same { self.new ≡ record self.old { log = record self.old.log { device = self.new.log.device; ended = self.new.log.ended } } }
         ensures any_moment { LeavesOnly L.moment L.left_since self.old.log.device self.new.log.device (λ k. L.may_leave self.old.log.device k) }
@@ -185,11 +194,14 @@ impl<L: Disk> LogManager<L> {
         ensures these { EndBefore upto self.old.log.places (before_lsn upto self.old.log.places) }
         ensures dropped { OnOk result (self.new ≡ record self.old { log = record self.old.log { device = self.new.log.device; places = drop (before_lsn upto self.old.log.places) self.old.log.places } }) }
         ensures same { OnErr result (self.new ≡ record self.old { log = record self.old.log { device = self.new.log.device; ended = self.new.log.ended } }) }
-        ensures records { L.tells → (stable waiting : List Record) → IsLogOf L.told L.may_leave self.old.log stable waiting
-            → OnOk result (IsLogOf L.told L.may_leave self.new.log (drop (recycled upto self.old.log.places) stable) waiting) }
+        ensures records { L.tells → (stable waiting : List Record) → (log : IsLogOf L.told L.may_leave self.old.log stable waiting)
+            → OnOk result (IsLogFrom L.told L.may_leave log.records.before (first_kept self.old.log) stable waiting (recycled upto self.old.log.places) self.new.log) }
         // A crash at any moment leaves all stable records, or all but those of the blocks that go.
-        ensures any_moment { L.tells → (stable waiting : List Record) → IsLogOf L.told L.may_leave self.old.log stable waiting
-            → LeavesOnly L.moment L.left_since self.old.log.device self.new.log.device (λ k. StandsForRecords stable k ⊎ StandsForRecords (drop (recycled upto self.old.log.places) stable) k) }
+        ensures any_moment { L.tells → (stable waiting : List Record) → (log : IsLogOf L.told L.may_leave self.old.log stable waiting)
+            → LeavesOnly L.moment L.left_since self.old.log.device self.new.log.device (StandsForRest log.records.before (first_kept self.old.log) stable (recycled upto self.old.log.places)) }
+        // After a fault, too, a read gives all of them, or all but those.
+        ensures left { L.tells → (stable waiting : List Record) → (log : IsLogOf L.told L.may_leave self.old.log stable waiting)
+            → RecycleLeaves L.told L.may_leave log.records.before (first_kept self.old.log) stable (recycled upto self.old.log.places) self.new.log.device }
         ensures live { OnOk result ((self.old.log.ended ≡ None) × (self.new.log.ended ≡ None)) }
         ensures refused { IfErr result (Refused ⊥ L.faults self.old.log self.new.log) }
         ensures later { L.faults self.old.log.device ≤ L.faults self.new.log.device }
@@ -332,7 +344,8 @@ fn reach<L: Disk>(log: &mut BlockLog<L>, batch: &mut Batch, counted: &mut Counte
 /// The number of the block that has the record of this LSN.
 fn block_of<L: Disk>(log: &BlockLog<L>, lsn: Lsn) -> u64
     requires kept { (first_kept log.now ≤ lsn) × (lsn < log.now.next) }
-    ensures { HasLsn (firsts log.now) lsn result }
+    ensures value { HasLsn (firsts log.now) lsn result }
+    ensures numbered { AreNumbered log.now }
 {
     let mut low = 0;
     let mut high = log.blocks();

@@ -2,7 +2,8 @@
 ghost use Rattle.std.specs.Prelude.{◌≡◌, ◌+◌, ◌<◌, ◌^◌, length, IfOk};
 ghost use Rattle.std.specs.List.{All};
 ghost use Rattle.wal_record.specs.Rules.{HasSpelling};
-ghost use Rattle.log_manager.specs.Records.{bytes_of, checkpoint_after};
+ghost use Rattle.log_manager.specs.Payload.{bytes_of};
+ghost use Rattle.wal_record.specs.Checkpoints.{checkpoint_after};
 
 use record_codec::encode;
 use std::alloc::Global;

@@ -1,3 +1,4 @@
+//! Groups, commits, flushes and reads of a log in memory.
 use super::*;
 use log_blocks::open_log;
 use media::Disk;

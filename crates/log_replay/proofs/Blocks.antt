@@ -1,98 +1,88 @@
 -- The records of a log, block by block.
-use Rattle.std.proofs.Common.{◌≡◌, ℕ, zero, suc, ◌+◌, ◌<◌, ◌≤◌, List, [], ◌∷◌, ◌++◌, length, get_or, take, drop, refl, sym, ◌∙◌, ap, subst, arith, append_assoc, append-nil, length-append}
+use Rattle.std.proofs.Common.{◌≡◌, ℕ, zero, suc, ◌+◌, ◌<◌, ◌≤◌, List, [], ◌∷◌, ◌++◌, length, get_or, take, refl, sym, ◌∙◌, ap, arith, append_assoc, append-nil, length-append}
 use Rattle.std.specs.Prelude.{map}
-use Rattle.std.specs.List.{All}
-use Rattle.log_blocks.specs.Log.{Block, IsRun, first_lsn, next_lsn}
-use Rattle.log_blocks.specs.LogState.{LogState, AreNumbered, firsts, lsn_behind, durable_lsn, payload_at}
+use Rattle.log_blocks.specs.Log.{Block, IsRun, body, first_lsn, next_lsn, open_gate}
+use Rattle.log_blocks.specs.LogState.{LogState, AreNumbered, counts, firsts, lsn_behind, payload_at}
 use Rattle.log_blocks.specs.Opening.{places}
 use Rattle.log_blocks.specs.declared.header.Place.{Place}
 use Rattle.log_blocks.proofs.Progressing.{length-places}
 use Rattle.log_blocks.proofs.Whole.{behind_first}
-use Rattle.log_manager.specs.Records.{AreIn, AreRecordsOf, bytes_of}
+use Rattle.log_manager.specs.Payload.{IsPayloadOf}
+use Rattle.log_manager.specs.Records.{AreIn, AreRecordsOf, AreSpelled}
 use Rattle.log_manager.proofs.Finding.{first_of, firsts-places}
-use Rattle.wal_record.specs.Rules.{HasSpelling}
+use Rattle.log_manager.proofs.Taking.{first_records}
 use Rattle.wal_record.specs.declared.record.Record.{Record}
 
--- of the first m blocks, the records of those from a place on are those behind the front
-pub record IsBefore (bs : List Block) (m : ℕ) (rs : List Record) (n : ℕ) (front : List Record) : Type 0 where
-  pub back : List Record
-  pub before : ℕ
-  pub is : rs ≡ front ++ back
-  pub records : AreIn before (drop n (take m bs)) back
-  pub run : IsRun (length front + 1) (drop n bs)
+abbrev pub count_of : Block → ℕ
+count_of b = b.count
 
--- the block at that place has the next of them
-pub record HasNext (bs : List Block) (m : ℕ) (rs : List Record) (n : ℕ) (front : List Record) : Type 0 where
-  pub own : List Record
-  pub more : List Record
-  pub is : rs ≡ (front ++ own) ++ more
-  pub spelled : All HasSpelling own
-  pub payload : payload_at bs n ≡ bytes_of own
-  pub inner : suc n < length bs → get_or (map first_of bs) (suc n) 0 ≡ suc (length front + length own)
-  pub last : length bs ≤ suc n → next_lsn (first_lsn bs) bs ≡ suc (length front + length own)
-  pub next : IsBefore bs m rs (suc n) (front ++ own)
+counts-places : (at : ℕ) (bs : List Block) → map (λ (p : Place). p.count) (places at bs) ≡ map count_of bs
+counts-places at [] = refl
+counts-places at (b ∷ bs) = ap (λ (l : List ℕ). b.count ∷ l) (counts-places (at + length (open_gate ∷ body b)) bs)
 
-pub from_first : (bs : List Block) (m : ℕ) (rs : List Record) → AreRecordsOf (take m bs) rs → IsRun (first_lsn bs) bs → first_lsn bs ≡ 1 → IsBefore bs m rs 0 []
-from_first bs m rs a run one = record { back = rs; before = a.before; is = refl; records = a.records; run = subst (λ n. IsRun n bs) one run }
+-- ---- which records blocks have
 
--- the block at a place is the first of those from there on, also of the first m blocks
-drop_one : (bs : List Block) (m n : ℕ) → n < length bs → n < m → (b : Block) × (drop n bs ≡ b ∷ drop (suc n) bs) × (drop n (take m bs) ≡ b ∷ drop (suc n) (take m bs)) × (payload_at bs n ≡ b.payload)
-drop_one [] m n lt le = absurd (omega (arith, lt))
-drop_one (b ∷ bs) zero n lt le = absurd (omega (arith, le))
-drop_one (b ∷ bs) (suc m) zero lt le = (b, refl, refl, refl)
-drop_one (b ∷ bs) (suc m) (suc n) lt le = drop_one bs m n (omega (arith, lt)) (omega (arith, le))
+-- a payload is the records of one list only
+pub same_payload : (xs ys : List Record) (count : ℕ) (payload : List ℕ) → IsPayloadOf xs count payload → IsPayloadOf ys count payload → xs ≡ ys
+same_payload xs ys count payload x y =
+    let found = first_records xs ys [] x.spelled y.spelled (sym y.payload_is ∙ x.payload_is ∙ sym (append-nil _)) (omega (arith, x.count_is, y.count_is)) in
+    by found.0 found.1 (omega (arith, ap length found.1, length-append xs found.0, x.count_is, y.count_is))
+  where
+    by : (back : List Record) → ys ≡ xs ++ back → length back ≡ 0 → xs ≡ ys
+    by [] is none = sym (is ∙ append-nil xs)
+    by (r ∷ rs) is none = absurd (omega (arith, none))
 
-first_at : (bs : List Block) (n : ℕ) (c : Block) (cs : List Block) → drop n bs ≡ c ∷ cs → get_or (map first_of bs) n 0 ≡ c.first
-first_at [] zero c cs e = absurd (let x = ap length e in omega (arith, x))
-first_at [] (suc n) c cs e = absurd (let x = ap length e in omega (arith, x))
-first_at (b ∷ bs) zero c cs e = let x : b ≡ c = cc in ap first_of x
-first_at (b ∷ bs) (suc n) c cs e = first_at bs n c cs e
+-- the records that the payloads of the first blocks are, are the first that the blocks hold
+pub spelled_front : (before : ℕ) (xs ys : List Block) (log rs : List Record) → AreSpelled xs log → AreIn before (xs ++ ys) rs
+    → (last : ℕ) × (back : List Record) × (rs ≡ log ++ back) × AreIn last ys back
+spelled_front before [] ys log rs spelled a = (before, rs, ap (λ (l : List Record). l ++ rs) (sym spelled), a)
+spelled_front before (x ∷ xs) ys log rs (own, more, is, payload, spelled) (own2, more2, is2, holds, a) =
+    let rest = spelled_front x.checkpoint xs ys more more2 spelled a in
+    let same = same_payload own own2 x.count x.payload payload holds.records in (
+      rest.0,
+      rest.1,
+      is2 ∙ ap (λ (l : List Record). l ++ more2) (sym same) ∙ ap (λ (l : List Record). own ++ l) rest.2 ∙ sym (append_assoc own more rest.1) ∙ ap (λ (l : List Record). l ++ rest.1) (sym is),
+      rest.3,
+    )
 
-nothing_left : (bs : List Block) (n : ℕ) → length bs ≤ n → drop n bs ≡ []
-nothing_left [] zero le = refl
-nothing_left [] (suc n) le = refl
-nothing_left (b ∷ bs) zero le = absurd (omega (arith, le))
-nothing_left (b ∷ bs) (suc n) le = nothing_left bs n (omega (arith, le))
+-- one block more
+pub spelled_more : (xs : List Block) (b : Block) (log own : List Record) → AreSpelled xs log → IsPayloadOf own b.count b.payload → AreSpelled (xs ++ b ∷ []) (log ++ own)
+spelled_more [] b log own spelled payload =
+    (own, [], ap (λ (l : List Record). l ++ own) spelled ∙ sym (append-nil own), payload, refl)
+spelled_more (x ∷ xs) b log own (mine, more, is, theirs, spelled) payload =
+    (mine, more ++ own, ap (λ (l : List Record). l ++ own) is ∙ append_assoc mine more own, theirs, spelled_more xs b more own spelled payload)
 
--- the LSN behind a run is the one behind its last block
-last_next : (first : ℕ) (bs : List Block) (n : ℕ) (b : Block) → IsRun first bs → drop n bs ≡ b ∷ [] → next_lsn first bs ≡ b.first + b.count
-last_next first [] zero b run e = absurd (let x = ap length e in omega (arith, x))
-last_next first [] (suc n) b run e = absurd (let x = ap length e in omega (arith, x))
-last_next first (d ∷ ds) zero b run e =
-    let same : d ≡ b = cc in
-    let none : ds ≡ [] = cc in
-    ap (next_lsn (first + d.count)) none ∙ (let f = run.0 in let g = ap first_of same in let h = ap (λ (x : Block). x.count) same in omega (arith, f, g, h))
-last_next first (d ∷ ds) (suc n) b run e = last_next (first + d.count) ds n b run.2 e
+-- the block at a place, and those before it
+pub record HasBlock (bs : List Block) (n : ℕ) : Type 0 where
+  pub block : Block
+  pub behind : List Block
+  pub is : bs ≡ take n bs ++ block ∷ behind
+  pub with_it : take (suc n) bs ≡ take n bs ++ block ∷ []
+  pub number : length (take n bs) ≡ n
+  pub payload : payload_at bs n ≡ block.payload
+  pub count : get_or (map count_of bs) n 0 ≡ block.count
 
-module _ (bs : List Block) (m : ℕ) (rs : List Record) (n : ℕ) (front : List Record) (at : IsBefore bs m rs n front) where
-  pub all_read : length (take m bs) ≤ n → rs ≡ front
-  all_read le = at.is ∙ ap (λ (l : List Record). front ++ l) (subst (λ (l : List Block). AreIn at.before l at.back) (nothing_left (take m bs) n le) at.records) ∙ append-nil front
+pub block_at : (bs : List Block) (n : ℕ) → n < length bs → HasBlock bs n
+block_at [] n lt = absurd (omega (arith, lt))
+block_at (b ∷ bs) zero lt = record { block = b; behind = bs; is = refl; with_it = refl; number = refl; payload = refl; count = refl }
+block_at (b ∷ bs) (suc n) lt =
+    let h = block_at bs n (omega (arith, lt)) in
+    record {
+      block = h.block;
+      behind = h.behind;
+      is = ap (λ (l : List Block). b ∷ l) h.is;
+      with_it = ap (λ (l : List Block). b ∷ l) h.with_it;
+      number = ap (λ (m : ℕ). suc m) h.number;
+      payload = h.payload;
+      count = h.count;
+    }
 
-  pub next_block : IsRun (first_lsn bs) bs → n < length bs → n < m → HasNext bs m rs n front
-  next_block whole lt le = by d.0 d.1 d.3 (subst (λ (l : List Block). AreIn at.before l at.back) d.2 at.records) (subst (IsRun (length front + 1)) d.1 at.run)
-    where
-      d : (b : Block) × (drop n bs ≡ b ∷ drop (suc n) bs) × (drop n (take m bs) ≡ b ∷ drop (suc n) (take m bs)) × (payload_at bs n ≡ b.payload)
-      d = drop_one bs m n lt le
-
-      inner : (ds : List Block) (first : ℕ) → drop (suc n) bs ≡ ds → IsRun first ds → suc n < length bs → get_or (map first_of bs) (suc n) 0 ≡ first
-      inner [] first e run less = absurd (let y = ap length (sym e ∙ (drop_one bs (suc (suc n)) (suc n) less (omega arith)).1) in omega (arith, y))
-      inner (c ∷ cs) first e run less = first_at bs (suc n) c cs e ∙ run.0
-
-      by : (b : Block) → drop n bs ≡ b ∷ drop (suc n) bs → payload_at bs n ≡ b.payload → AreIn at.before (b ∷ drop (suc n) (take m bs)) at.back → IsRun (length front + 1) (b ∷ drop (suc n) bs) → HasNext bs m rs n front
-      by b e payload (own, more, is, holds, rest) (first, lawful, run) =
-          let size : length (front ++ own) + 1 ≡ length front + 1 + b.count = omega (arith, length-append front own, holds.count) in
-          let all : rs ≡ (front ++ own) ++ more = at.is ∙ ap (λ (l : List Record). front ++ l) is ∙ sym (append_assoc front own more) in
-          record {
-            own = own;
-            more = more;
-            is = all;
-            spelled = holds.spelled;
-            payload = payload ∙ holds.payload;
-            inner = λ less. inner (drop (suc n) bs) (length front + 1 + b.count) refl run less ∙ omega (arith, holds.count);
-            last = λ end. let is_last : next_lsn (first_lsn bs) bs ≡ b.first + b.count = last_next (first_lsn bs) bs n b whole (e ∙ ap (λ (l : List Block). b ∷ l) (nothing_left bs (suc n) end)) in
-                omega (arith, is_last, first, holds.count);
-            next = record { back = more; before = b.checkpoint; is = all; records = rest; run = subst (λ k. IsRun k (drop (suc n) bs)) (sym size) run };
-          }
+-- all blocks
+pub all_blocks : (bs : List Block) (n : ℕ) → length bs ≤ n → take n bs ≡ bs
+all_blocks [] zero le = refl
+all_blocks [] (suc n) le = refl
+all_blocks (b ∷ bs) zero le = absurd (omega (arith, le))
+all_blocks (b ∷ bs) (suc n) le = ap (λ (l : List Block). b ∷ l) (all_blocks bs n (omega (arith, le)))
 
 -- ---- the LSNs of all
 
@@ -100,7 +90,7 @@ count_all : (n before : ℕ) (bs : List Block) (rs : List Record) → AreIn befo
 count_all n before [] rs a = omega (arith, ap length a)
 count_all n before (b ∷ bs) rs (own, more, is, holds, rest) =
     let e = count_all (n + b.count) b.checkpoint bs more rest in
-    omega (arith, e, holds.count, ap length is, length-append own more)
+    omega (arith, e, holds.records.count_is, ap length is, length-append own more)
 
 -- the LSN behind the records of a log that keeps its first one
 behind_all : (start : ℕ) (bs : List Block) (rs : List Record) → AreRecordsOf bs rs → IsRun (first_lsn bs) bs → first_lsn bs ≡ 1 → lsn_behind (places start bs) ≡ suc (length rs)
@@ -120,16 +110,16 @@ module _ {D : Type 0} (log : LogState D) (start : ℕ) (bs : List Block) (are : 
       ∙ append-nil (map (λ (p : Place). p.first) (places start bs))
       ∙ firsts-places start bs
 
+  -- how many records its blocks count
+  pub counts_are : counts log ≡ map count_of bs
+  counts_are =
+      ap (λ (ps : List Place). map (λ (p : Place). p.count) ps ++ map count_of log.pending) are
+      ∙ ap (λ (qs : List Block). map (λ (p : Place). p.count) (places start bs) ++ map count_of qs) none
+      ∙ append-nil (map (λ (p : Place). p.count) (places start bs))
+      ∙ counts-places start bs
+
   pub payload_is : (n : ℕ) → payload_at (bs ++ log.pending) n ≡ payload_at bs n
   payload_is n = ap (λ (qs : List Block). payload_at (bs ++ qs) n) none ∙ ap (λ (l : List Block). payload_at l n) (append-nil bs)
-
-  -- and its last one
-  pub end_is : IsRun (first_lsn bs) bs → 0 < length bs → suc (durable_lsn log.places) ≡ next_lsn (first_lsn bs) bs
-  end_is run some = by bs run some are
-    where
-      by : (bs : List Block) → IsRun (first_lsn bs) bs → 0 < length bs → log.places ≡ places start bs → suc (durable_lsn log.places) ≡ next_lsn (first_lsn bs) bs
-      by [] run some are = absurd (omega (arith, some))
-      by (b ∷ bs) run some are = let e = ap lsn_behind are ∙ behind_first start b bs run in omega (arith, e)
 
   pub next_is : (rs : List Record) → AreRecordsOf bs rs → IsRun (first_lsn bs) bs → first_lsn bs ≡ 1 → AreNumbered log → log.next ≡ length rs + 1
   next_is rs a run one numbered =

@@ -1,5 +1,5 @@
 -- What opening a log answers, from what was read of it.
-use Rattle.std.proofs.Common.{◌≡◌, ◌≢◌, ℕ, ◌+◌, ◌<◌, ◌≤◌, suc, Bool, true, false, eqb, List, [], ◌∷◌, ◌++◌, length, get_or, take, refl, sym, ap, subst, ◌∙◌, arith, inl, inr}
+use Rattle.std.proofs.Common.{◌≡◌, ◌≢◌, ℕ, ◌+◌, ◌<◌, ◌≤◌, suc, Bool, true, false, eqb, List, [], ◌∷◌, ◌++◌, length, get_or, refl, sym, ap, subst, ◌∙◌, arith, inl, inr}
 use Rattle.std.specs.Prelude.{◌||◌, Result, Ok, Err, OnOk, IfErr, MatchResult}
 use Rattle.std.specs.List.{list_any}
 use Rattle.std.proofs.lemmas.Bool.{eqb-true}
@@ -7,7 +7,7 @@ use Rattle.std.proofs.lemmas.List.Folds.{list_any-append}
 use Rattle.store_model.specs.Along.{along}
 use Rattle.media.specs.Kept.{Kept}
 use Rattle.log_blocks.specs.Log.{Block, first_lsn}
-use Rattle.log_blocks.specs.LogState.{LogState, IsDurable, firsts, payload_at}
+use Rattle.log_blocks.specs.LogState.{LogState, IsDurable, firsts}
 use Rattle.log_manager.specs.Records.{AreRecordsOf}
 use Rattle.wal_record.specs.Chains.{pages_step, pages}
 use Rattle.wal_record.specs.OpenWrites.{has_items}
@@ -17,9 +17,9 @@ use Rattle.wal_record.specs.declared.record.Record.TheVariants as kinds
 use Rattle.wal_record.proofs.Along.{by_pushes}
 use Rattle.wal_record.proofs.Pushes.{lawful_front, pages_push}
 use Rattle.log_laws.proofs.Central.{differ}
-use Rattle.log_replay.specs.Answers.{IsBadHere, IsBadIn, IsOfRecords, IsNotFound, IsNotReplayed, IsUnread, IsCaused, Opens}
+use Rattle.log_replay.specs.Answers.{IsBadIn, IsOfRecords, IsNotFound, IsNotReplayed, IsUnread, IsCaused, Opens}
 use Rattle.log_replay.specs.Replayed.{makes_page}
-use Rattle.log_replay.specs.Standing.{HoldEnd}
+use Rattle.log_replay.specs.Devices.{HoldEnd}
 use Rattle.log_replay.specs.declared.found.Found.{Found}
 use Rattle.log_replay.specs.declared.found.NotReplayed.{NotReplayed}
 use Rattle.log_replay.specs.declared.found.NotReplayed.TheVariants as refusals
@@ -136,14 +136,3 @@ pub none_bad : (bs : List Block) (x : Result Found NotReplayed) → IfErr x IsOf
 none_bad bs (Ok f) k = tt
 none_bad bs (Err (refusals.LogBad block byte)) k = absurd k
 none_bad bs (Err e) k = tt
-
--- a block whose records, of whatever log up to it, weren't read is bad
-pub bad_in : (bs : List Block) (block : ℕ) (payload : List ℕ) (e : NotReplayed) → IsBadHere block payload e → payload ≡ payload_at bs block → block < length bs
-    → ((rs : List Record) → AreRecordsOf (take (suc block) bs) rs → AreLawful rs → (own : List Record) × IsUnread own e) → IsBadIn bs e
-bad_in bs block payload (refusals.LogBad b byte) here is within unread = record {
-  within = omega (arith, here.0, within);
-  from = here.1;
-  upto = let size : length payload ≡ length (payload_at bs b) = ap length is ∙ ap (λ (n : ℕ). length (payload_at bs n)) (sym here.0) in let most = here.2 in omega (arith, size, most);
-  unlawful = λ rs a lawful. (unread rs (subst (λ (n : ℕ). AreRecordsOf (take (suc n) bs) rs) here.0 a) lawful).1;
-}
-bad_in bs block payload e here is within unread = tt

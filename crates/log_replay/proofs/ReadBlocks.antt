@@ -1,39 +1,34 @@
 -- Reading the blocks of an open log.
-use Rattle.std.proofs.Common.{◌≡◌, ℕ, suc, ◌+◌, ◌-◌, ◌<◌, ◌≤◌, Bool, true, false, List, [], ◌∷◌, ◌++◌, length, get_or, take, refl, ◌∙◌, ap, subst, arith, length-take}
-use Rattle.std.specs.Prelude.{nat_le, map}
-use Rattle.std.specs.List.{All}
-use Rattle.std.proofs.lemmas.Bool.{leb-true, leb-false}
+use Rattle.std.proofs.Common.{◌≡◌, ℕ, suc, ◌+◌, ◌<◌, ◌≤◌, List, [], ◌∷◌, ◌++◌, length, get_or, take, refl, sym, ◌∙◌, ap, subst, arith, append_assoc, append-nil}
 use Rattle.media.specs.Kept.{Kept}
-use Rattle.log_blocks.specs.Log.{Block, first_lsn, next_lsn}
-use Rattle.log_blocks.specs.LogState.{LogState, IsDurable, AreNumbered, firsts, durable_lsn, payload_at}
+use Rattle.log_blocks.specs.Log.{Block, first_lsn}
+use Rattle.log_blocks.specs.LogState.{LogState, IsDurable, AreNumbered, counts, payload_at}
 use Rattle.log_blocks.specs.Opening.{places}
-use Rattle.log_manager.specs.Records.{AreRecordsOf, bytes_of}
-use Rattle.log_manager.proofs.Finding.{first_of}
-use Rattle.wal_record.specs.Rules.{HasSpelling}
+use Rattle.log_manager.specs.Payload.{IsPayloadOf}
+use Rattle.log_manager.specs.Records.{AreIn, AreRecordsOf, AreSpelled}
 use Rattle.wal_record.specs.Sound.{IsLawful, AreLawful}
 use Rattle.wal_record.specs.declared.record.Record.{Record}
 use Rattle.wal_record.proofs.Along.{AllAlong_less}
-use Rattle.log_replay.proofs.Blocks.{IsBefore, HasNext, next_block, all_read, blocks_are, firsts_are, payload_is, end_is, next_is}
+use Rattle.log_replay.specs.Answers.{AreTaken, IsBadByte, IsBadHere, IsBadIn, IsUnread}
+use Rattle.log_replay.specs.Replayed.{IsReplayOf}
+use Rattle.log_replay.specs.declared.found.NotReplayed.{NotReplayed}
+use Rattle.log_replay.specs.declared.found.NotReplayed.TheVariants as refusals
+use Rattle.log_replay.specs.declared.replaying.Replay.{Replay}
+use Rattle.log_replay.proofs.Blocks.{HasBlock, all_blocks, block_at, blocks_are, counts_are, next_is, payload_is, spelled_front, spelled_more}
+use Rattle.log_replay.proofs.Payload.{unread_all}
 
--- what was read of a block, and the LSN of its last record, are those of the next records
-pub record IsReadNext (bs : List Block) (m : ℕ) (rs : List Record) (n : ℕ) (front : List Record) (payload : List ℕ) (last : ℕ) : Type 0 where
-  pub own : List Record
-  pub more : List Record
-  pub is : rs ≡ (front ++ own) ++ more
-  pub spelled : All HasSpelling own
-  pub payload_is : payload ≡ bytes_of own
-  pub lawful : AreLawful (front ++ own)
-  pub last_is : last ≡ length front + length own
-  pub next : IsBefore bs m rs (n + 1) (front ++ own)
+-- what has been taken of the first blocks
+pub record AreReplayed (bs : List Block) (n : ℕ) (r : Replay) : Type 0 where
+  pub log : List Record
+  pub spelled : AreSpelled (take n bs) log
+  pub replays : IsReplayOf log r
+
+pub none_replayed : (bs : List Block) (r : Replay) → IsReplayOf [] r → AreReplayed bs 0 r
+none_replayed bs r o = record { log = []; spelled = refl; replays = o }
 
 -- as many blocks as when the log was opened
 pub same_count : {D : Type 0} (log now : LogState D) → now ≡ record log { device = now.device; ended = now.ended } → length now.places + length now.pending ≡ length log.places + length log.pending
 same_count log now same = ap (λ (l : LogState _). length l.places + length l.pending) same
-
--- the first blocks, as many as there are
-pub all_blocks : (bs : List Block) → take (length bs) bs ≡ bs
-all_blocks [] = refl
-all_blocks (b ∷ bs) = ap (λ (l : List Block). b ∷ l) (all_blocks bs)
 
 module _ {D : Type 0} (told : D → Kept) (may_leave : D → Kept → Type 0) (log now : LogState D) (bs : List Block) (d : IsDurable told may_leave log bs)
     (fresh : log.pending ≡ []) (same : now ≡ record log { device = now.device; ended = now.ended }) where
@@ -54,47 +49,74 @@ module _ {D : Type 0} (told : D → Kept) (may_leave : D → Kept → Type 0) (l
   unfolding start
   next_now rs a one numbered = ap (λ (l : LogState D). l.next) same ∙ next_is log start bs d.places_are fresh rs a d.stands.sequence.run one numbered
 
-  end_now : 0 < length bs → suc (durable_lsn log.places) ≡ next_lsn (first_lsn bs) bs
-  unfolding start
-  end_now some = end_is log start bs d.places_are fresh d.stands.sequence.run some
+  -- what is read of a block is its payload, and how many records it counts
+  pub block_now : (n : ℕ) → n < length now.places + length now.pending → HasBlock bs n
+  block_now n lt = block_at bs n (omega (arith, lt, count_now))
 
-  -- what is read of a block is its payload
-  pub payload_now : (n : ℕ) (payload items old : List ℕ) → payload ≡ items → old ≡ [] → items ≡ old ++ payload_at (bs ++ now.pending) n → payload ≡ payload_at bs n
-  payload_now n payload items old is empty read = is ∙ read ∙ ap (λ (l : List ℕ). l ++ payload_at (bs ++ now.pending) n) empty ∙ payload_is now start bs places_now pending_now n
+  pub payload_now : (n : ℕ) (payload items old : List ℕ) (h : HasBlock bs n) → payload ≡ items → old ≡ [] → items ≡ old ++ payload_at (bs ++ now.pending) n → payload ≡ h.block.payload
+  payload_now n payload items old h is empty read =
+      is ∙ read ∙ ap (λ (l : List ℕ). l ++ payload_at (bs ++ now.pending) n) empty ∙ payload_is now start bs places_now pending_now n ∙ h.payload
 
-  module _ (m : ℕ) (rs : List Record) (n : ℕ) (front : List Record) (at : IsBefore bs m rs n front) where
-    pub read_next : AreLawful rs → n < length now.places + length now.pending → n < m → (payload : List ℕ) → payload ≡ payload_at bs n
-        → (last end : ℕ) → (n + 1 < length now.places + length now.pending → last ≡ get_or (firsts now) (n + 1) 0 - 1) → (length now.places + length now.pending ≤ n + 1 → last ≡ end) → end ≡ durable_lsn log.places
-        → IsReadNext bs m rs n front payload last
-    read_next lawful lt le payload is last end inner final is_end =
-        let within : n < length bs = omega (arith, lt, count_now) in
-        let h = next_block bs m rs n front at d.stands.sequence.run within le in
-        record {
-          own = h.own;
-          more = h.more;
-          is = h.is;
-          spelled = h.spelled;
-          payload_is = is ∙ h.payload;
-          lawful = AllAlong_less IsLawful (front ++ h.own) h.more (subst AreLawful h.is lawful);
-          last_is = by h (nat_le (length bs) (suc n)) refl;
-          next = subst (λ (k : ℕ). IsBefore bs m rs k (front ++ h.own)) (let e : suc n ≡ n + 1 = omega arith in e) h.next;
-        }
-      where
-        by : (h : HasNext bs m rs n front) → (b : Bool) → nat_le (length bs) (suc n) ≡ b → last ≡ length front + length h.own
-        by h true e =
-            let le : length bs ≤ suc n = leb-true (length bs) (suc n) e in
-            let all = h.last le in
-            let count = count_now in
-            let whole = end_now (omega (arith, count, lt)) in
-            let f = final (omega (arith, count, le)) in
-            omega (arith, f, is_end, whole, all)
-        by h false e =
-            let less : suc n < length bs = leb-false (length bs) (suc n) e in
-            let count = count_now in
-            let f = inner (omega (arith, count, less)) in
-            let at_next : get_or (firsts now) (n + 1) 0 ≡ suc (length front + length h.own) =
-            ap (λ (l : List ℕ). get_or l (n + 1) 0) (firsts_are now start bs places_now pending_now) ∙ ap (λ (k : ℕ). get_or (map first_of bs) k 0) (let s : n + 1 ≡ suc n = omega arith in s) ∙ h.inner less in
-            omega (arith, f, at_next)
+  pub counted_now : (n count : ℕ) (h : HasBlock bs n) → count ≡ get_or (counts now) n 0 → count ≡ h.block.count
+  counted_now n count h is = is ∙ ap (λ (l : List ℕ). get_or l n 0) (counts_are now start bs places_now pending_now) ∙ h.count
 
-    pub all_now : length now.places + length now.pending ≤ n → rs ≡ front
-    all_now le = all_read bs m rs n front at (omega (arith, le, count_now, length-take m bs))
+-- one block more
+pub replayed_more : (bs : List Block) (n count : ℕ) (payload : List ℕ) (old new : Replay) (h : HasBlock bs n) → count ≡ h.block.count → payload ≡ h.block.payload → AreReplayed bs n old
+    → AreTaken count payload old new → AreReplayed bs (n + 1) new
+replayed_more bs n count payload old new h counted read so_far taken =
+    let own : IsPayloadOf taken.0 h.block.count h.block.payload = subst (λ (k : ℕ). IsPayloadOf taken.0 k h.block.payload) counted (subst (IsPayloadOf taken.0 count) read taken.1) in
+    let one : suc n ≡ n + 1 = omega arith in
+    record {
+      log = so_far.log ++ taken.0;
+      spelled = subst (λ (k : ℕ). AreSpelled (take k bs) (so_far.log ++ taken.0)) one
+          (subst (λ (l : List Block). AreSpelled l (so_far.log ++ taken.0)) (sym h.with_it) (spelled_more (take n bs) h.block so_far.log taken.0 so_far.spelled own));
+      replays = taken.2 so_far.log so_far.replays;
+    }
+
+-- all of them
+pub replayed_all : (bs : List Block) (n : ℕ) (r : Replay) → length bs ≤ n → AreReplayed bs n r → (rs : List Record) → AreRecordsOf bs rs → IsReplayOf rs r
+replayed_all bs n r le so_far rs a =
+    let whole = subst (λ (l : List Block). AreSpelled l so_far.log) (all_blocks bs n le) so_far.spelled in
+    let f = spelled_front a.before bs [] so_far.log rs whole (subst (λ (l : List Block). AreIn a.before l rs) (sym (append-nil bs)) a.records) in
+    subst (λ (l : List Record). IsReplayOf l r) (sym (f.2 ∙ ap (λ (l : List Record). so_far.log ++ l) f.3 ∙ append-nil so_far.log)) so_far.replays
+
+-- a block isn't read
+module _ (bs : List Block) (n count : ℕ) (payload : List ℕ) (r : Replay) (h : HasBlock bs n) (counted : count ≡ h.block.count) (read : payload ≡ h.block.payload) (so_far : AreReplayed bs n r)
+    (e : NotReplayed) (met : (log own : List Record) → IsReplayOf log r → IsPayloadOf own count payload → AreLawful (log ++ own) → IsUnread own e) where
+  own_unread : (before : ℕ) (more : List Block) (rs : List Record) → AreIn before (take n bs ++ h.block ∷ more) rs → AreLawful rs
+      → (own : List Record) × (back : List Record) × (rs ≡ (so_far.log ++ own) ++ back) × IsUnread own e
+  own_unread before more rs a lawful = by f.1 f.2 f.3
+    where
+      f : (last : ℕ) × (back : List Record) × (rs ≡ so_far.log ++ back) × AreIn last (h.block ∷ more) back
+      f = spelled_front before (take n bs) (h.block ∷ more) so_far.log rs so_far.spelled a
+
+      by : (back : List Record) → rs ≡ so_far.log ++ back → AreIn f.0 (h.block ∷ more) back → (own : List Record) × (back : List Record) × (rs ≡ (so_far.log ++ own) ++ back) × IsUnread own e
+      by back is (own, after, both, holds, rest) =
+          let whole : rs ≡ (so_far.log ++ own) ++ after = is ∙ ap (λ (l : List Record). so_far.log ++ l) both ∙ sym (append_assoc so_far.log own after) in
+          let mine : IsPayloadOf own count payload = subst (λ (k : ℕ). IsPayloadOf own k payload) (sym counted) (subst (IsPayloadOf own h.block.count) (sym read) holds.records) in
+          (own, after, whole, met so_far.log own so_far.replays mine (AllAlong_less IsLawful (so_far.log ++ own) after (subst AreLawful whole lawful)))
+
+  pub block_unread : (rs : List Record) → AreRecordsOf bs rs → AreLawful rs → IsUnread rs e
+  block_unread rs a lawful =
+      let u = own_unread a.before h.behind rs (subst (λ (l : List Block). AreIn a.before l rs) h.is a.records) lawful in
+      unread_all rs so_far.log u.0 u.1 e u.2 u.3
+
+  -- and is named as bad, with the byte
+  pub block_bad : IsBadHere n so_far.log count payload e → IsBadIn bs e
+  block_bad = by e refl
+    where
+      by : (f : NotReplayed) → e ≡ f → IsBadHere n so_far.log count payload f → IsBadIn bs f
+      by (refusals.LogBad number byte) is (same, bad) = record {
+        before = take n bs;
+        block = h.block;
+        behind = h.behind;
+        is = h.is;
+        number_is = h.number ∙ sym same;
+        log = so_far.log;
+        spelled = so_far.spelled;
+        bad = subst (λ (k : ℕ). IsBadByte so_far.log k h.block.payload byte) counted (subst (λ (p : List ℕ). IsBadByte so_far.log count p byte) read bad);
+        unlawful = λ rs a lawful.
+            let u = own_unread a.before [] rs (subst (λ (l : List Block). AreIn a.before l rs) (ap (λ (k : ℕ). take (suc k) bs) same ∙ h.with_it) a.records) lawful in
+            subst (IsUnread u.0) is u.3;
+      }
+      by f is here = tt

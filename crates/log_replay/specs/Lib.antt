@@ -1,4 +1,4 @@
-pub mod Standing
+pub mod Devices
 pub mod Counts
 pub mod Replayed
 pub mod Answers

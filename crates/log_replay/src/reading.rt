@@ -9,23 +9,24 @@ ghost use Rattle.wal_record.specs.Spelling.{spelling};
 ghost use Rattle.wal_record.specs.State.{KeepsState};
 ghost use Rattle.wal_record.specs.Sound.{AreLawful, IsSound};
 ghost use Rattle.wal_record.specs.declared.record.Record.{Record};
-ghost use Rattle.log_manager.specs.Records.{AreRecordsOf, bytes_of};
-ghost use Rattle.log_replay.specs.Answers.{IsBadHere, IsBadIn, IsCaused, IsLogFault, IsNotReplayed, IsUnread, Opens};
+ghost use Rattle.log_manager.specs.Payload.{IsPayloadOf, bytes_of};
+ghost use Rattle.log_manager.specs.Records.{AreRecordsOf};
+ghost use Rattle.log_replay.specs.Answers.{AreTaken, IsBadBehind, IsBadHere, IsBadIn, IsCaused, IsLogFault, IsNotReplayed, IsTaken, IsUnread, Opens, refusal_of};
 ghost use Rattle.log_replay.specs.Replayed.{HasReplayed, IsReplayOf};
-ghost use Rattle.log_replay.specs.Standing.{HoldEnd};
+ghost use Rattle.log_replay.specs.Devices.{HoldEnd};
 ghost use Rattle.log_replay.specs.declared.found.NotReplayed.TheVariants as refusals;
 
 use crate::found::{Found, NotReplayed};
 use crate::replaying::{NotTaken, Replay};
-use log_blocks::BlockLog;
+use log_blocks::{BlockLog, PAYLOAD_AT};
+use log_manager::{ends_at, record_from};
 use media::Disk;
 use operators::Operators;
-use record_codec::{RecordFault, decode};
 use std::alloc::Global;
 use store_model::{Fault, Lsn};
 
-/// The bytes of a block before its payload.
-const HEAD: u64 = 23;
+/// The most records that are counted: more are want of memory.
+const MOST_RECORDS: Lsn = Lsn::MAX;
 
 /// Reads all records of a log that was just opened, and gives what they make.
 pub fn replay<L: Disk>(
@@ -87,16 +88,15 @@ fn replay_all<L: Disk>(
     ensures fuse { Blames L.passes L.refused L.own log.old.device log.new.device (IsErrAnd result IsLogFault) }
 {
     let mut replay = Replay::new(alloc);
-    let end = log.durable_lsn();
     for block in 0..log.blocks() {
-        let last = last_in(log, block, end);
+        let count = log.count_of(block);
         let mut payload = Vec::new(alloc);
         match log.read_block(block, &mut payload) {
             Ok(()) => {}
             Err(Fault::LogFault) => return Err(NotReplayed::LogFault),
             Err(_) => return Err(NotReplayed::Memory),
         }
-        match replay_block(alloc, &mut replay, operators, block, &payload, last) {
+        match replay_block(alloc, &mut replay, operators, block, &payload, count) {
             Ok(()) => {}
             Err(refused) => return Err(refused),
         }
@@ -104,50 +104,35 @@ fn replay_all<L: Disk>(
     Ok(replay)
 }
 
-/// The LSN of the last record that a block counts, where the last one of the log has the LSN `end`.
-fn last_in<L: Disk>(log: &BlockLog<L>, block: u64, end: Lsn) -> Lsn
-    requires { block < length log.now.places + length log.now.pending }
-    ensures inner { block + 1 < length log.now.places + length log.now.pending → result ≡ slice_index_or (firsts log.now) (block + 1) 0 - 1 }
-    ensures last { length log.now.places + length log.now.pending ≤ block + 1 → result ≡ end }
-{
-    let blocks = log.blocks();
-    if block + 1 < blocks {
-        log.first_of(block + 1).saturating_sub(1)
-    } else {
-        end
-    }
-}
-
-/// The records of one block, the last of which has this LSN.
+/// The records of a block that counts so many.
 fn replay_block(
     alloc: Global,
     replay: &mut Replay,
     operators: &Operators,
     block: u64,
     payload: &[u8],
-    last: Lsn,
+    count: u16,
 ) -> Result<(), NotReplayed>
     requires { HasReplayed replay.old }
-    ensures replayed { OnOk result (HasReplayed replay.new) }
-    ensures met { (log own : List Record) → IsReplayOf log replay.old → All HasSpelling own → payload.now ≡ bytes_of own → AreLawful (log ++ own) → last ≡ length log + length own
-        → MatchResult result (λ _. IsReplayOf (log ++ own) replay.new) (IsUnread own) }
-    ensures bad { IfErr result (IsBadHere block payload.now) }
+    ensures taken { OnOk result (AreTaken count payload.now replay.old replay.new) }
+    ensures met { (log own : List Record) → IsReplayOf log replay.old → IsPayloadOf own count payload.now → AreLawful (log ++ own) → IfErr result (IsUnread own) }
+    ensures bad { (log : List Record) → IsReplayOf log replay.old → IfErr result (IsBadHere block log count payload.now) }
     ensures cause { IfErr result (IsCaused 0 0) }
 {
     let mut at = 0;
-    while at < payload.len() {
-        match replay_record(alloc, replay, operators, block, payload, at, last) {
-            Ok(length) => at += length,
+    for _ in 0..count {
+        match replay_record(alloc, replay, operators, block, payload, at) {
+            Ok(next) => at = next,
             Err(refused) => return Err(refused),
         }
     }
-    if replay.last != last {
-        return Err(bad(block, at));
+    match ends_at(block, payload, at) {
+        Ok(()) => Ok(()),
+        Err(fault) => Err(refusal(fault)),
     }
-    Ok(())
 }
 
-/// The record that begins at this byte of the payload. Gives its length.
+/// The record that begins at this byte of the payload. Gives where it ends.
 fn replay_record(
     alloc: Global,
     replay: &mut Replay,
@@ -155,41 +140,39 @@ fn replay_record(
     block: u64,
     payload: &[u8],
     at: usize,
-    last: Lsn,
 ) -> Result<usize, NotReplayed>
-    requires within { at < length payload.now }
+    requires within { at ≤ length payload.now }
     requires replayed { HasReplayed replay.old }
-    ensures within { IfOk result (λ n. (1 ≤ n) × (at + n ≤ length payload.now)) }
-    ensures replayed { OnOk result (HasReplayed replay.new) }
-    ensures met { (log : List Record) (r : Record) (rest : List ℕ) → IsReplayOf log replay.old → HasSpelling r → drop at payload.now ≡ spelling r ++ rest → AreLawful (log ++ r ∷ []) → length log < last
-        → MatchResult result (λ n. (n ≡ length (spelling r)) × IsReplayOf (log ++ r ∷ []) replay.new) (IsUnread (r ∷ [])) }
-    ensures bad { IfErr result (IsBadHere block payload.now) }
+    ensures within { IfOk result (λ next. next ≤ length payload.now) }
+    ensures taken { IfOk result (λ next. IsTaken payload.now at next replay.old replay.new) }
+    ensures met { (log : List Record) (r : Record) (rest : List ℕ) → IsReplayOf log replay.old → HasSpelling r → drop at payload.now ≡ spelling r ++ rest → AreLawful (log ++ r ∷ []) → IfErr result (IsUnread (r ∷ [])) }
+    ensures bad { (log front : List Record) → IsReplayOf (log ++ front) replay.old → All HasSpelling front → payload.now ≡ bytes_of front ++ drop at payload.now → IfErr result (IsBadBehind block log front payload.now) }
     ensures cause { IfErr result (IsCaused 0 0) }
 {
-    let (_, rest) = payload.split_at(at);
-    match decode(alloc, rest) {
-        Ok((entry, length)) => {
-            if replay.last >= last {
-                return Err(bad(block, at));
-            }
-            match replay.take(alloc, &entry, operators) {
-                Ok(()) => Ok(length),
-                Err(NotTaken::Memory) => Err(NotReplayed::Memory),
-                Err(NotTaken::Unlawful) => Err(bad(block, at)),
-                Err(NotTaken::NotBuilt) => Err(NotReplayed::NotBuilt),
-            }
-        }
-        Err(RecordFault::Memory) => Err(NotReplayed::Memory),
-        Err(RecordFault::Bad { byte }) => Err(bad(block, at + byte)),
+    let (entry, next) = match record_from(alloc, block, payload, at) {
+        Ok(read) => read,
+        Err(fault) => return Err(refusal(fault)),
+    };
+    if replay.last == MOST_RECORDS {
+        return Err(NotReplayed::Memory);
+    }
+    match replay.take(alloc, &entry, operators) {
+        Ok(()) => Ok(next),
+        Err(NotTaken::Memory) => Err(NotReplayed::Memory),
+        Err(NotTaken::Unlawful) => Err(NotReplayed::LogBad {
+            block,
+            byte: (PAYLOAD_AT + at) as u64,
+        }),
+        Err(NotTaken::NotBuilt) => Err(NotReplayed::NotBuilt),
     }
 }
 
-fn bad(block: u64, at: usize) -> NotReplayed
-    requires { at < 2 ^ 63 }
-    ensures { result ≡ refusals.LogBad block (at + 23) }
+/// What the fault of a payload is to an opening.
+fn refusal(fault: Fault) -> NotReplayed
+    ensures { result ≡ refusal_of fault }
 {
-    NotReplayed::LogBad {
-        block,
-        byte: HEAD + at as u64,
+    match fault {
+        Fault::LogBad { block, byte } => NotReplayed::LogBad { block, byte },
+        _ => NotReplayed::Memory,
     }
 }

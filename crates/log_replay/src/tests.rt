@@ -118,6 +118,10 @@ a purge of no tombstone; a5 8.1 8.0 2.1: 01 4.16384 | a5 8.2 8.0 2.1: 0a 4.1 8.1
 one record more than counted; a5 8.1 8.0 2.1: 01 4.16384 05 8.1 8.0; LogBad { block: 0, byte: 28 }
 one record less than counted; a5 8.1 8.0 2.2: 01 4.16384; LogBad { block: 0, byte: 28 }
 one more, and a block behind; a5 8.1 8.0 2.1: 01 4.16384 05 8.1 8.0 | a5 8.2 8.0 2.1: 05 8.1 8.0; LogBad { block: 0, byte: 28 }
+a surplus that is cut; a5 8.1 8.0 2.1: 01 4.16384 0500; LogBad { block: 0, byte: 28 }
+a surplus byte; a5 8.1 8.0 2.1: 01 4.16384 00; LogBad { block: 0, byte: 28 }
+a record that is cut; a5 8.1 8.0 2.1: 01 4.16384 | a5 8.2 8.0 2.1: 05 8.1 4.0; LogBad { block: 1, byte: 32 }
+a Format that a header names as the Checkpoint; a5 8.1 8.1 2.1: 01 4.16384; 1 1 0 16384
 no kind; a5 8.1 8.0 2.1: 11; LogBad { block: 0, byte: 23 }
 a cut field; a5 8.1 8.0 2.1: 01 4.16384 | a5 8.2 8.0 2.2: 05 8.1 8.0 05 8.1 4.0; LogBad { block: 1, byte: 49 }
 ";

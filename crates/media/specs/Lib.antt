@@ -1,6 +1,7 @@
 pub mod Cause
 pub mod Counted
 pub mod Crash
+pub mod Extent
 pub mod Fused
 pub mod Kept
 pub mod Images

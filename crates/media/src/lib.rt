@@ -13,12 +13,16 @@
 //! of each trait: a blown fuse refuses each counted call and stays blown, any other burns down by one and passes the call
 //! on, and such a call fails only where the device itself failed. So code that is generic over a device can tell the
 //! two apart.
+//!
+//! [`NeverFails`] wraps any of them too. Its model is where the bytes of a disk begin and end, and it promises that no
+//! call answers `Failed`, since its count of faults is the constant 0. What it holds it doesn't tell.
 #![tactic(auto)]
 
 mod devices;
 mod disk;
 mod fault;
 mod fuse;
+mod never_fails;
 mod pages;
 mod stream;
 mod vault;
@@ -27,6 +31,7 @@ pub use devices::Devices;
 pub use disk::Disk;
 pub use fault::Failed;
 pub use fuse::Fuse;
+pub use never_fails::NeverFails;
 pub use pages::{PageBytes, PageDevice};
 pub use stream::{Sink, Source, write_all};
 pub use vault::Vault;

@@ -1,10 +1,11 @@
 -- What a disk in memory keeps, call by call.
 use Rattle.std.proofs.Common.{◌≡◌, ℕ, zero, suc, ◌+◌, ◌-◌, ◌<◌, ◌≤◌, List, [], ◌∷◌, ◌++◌, length, drop, get_or, set, max, refl, sym, ◌∙◌, ap, subst, arith}
 use Rattle.std.specs.Prelude.{map}
-use Rattle.media.specs.Kept.{Kept, without}
-use Rattle.media_mem.specs.History.{Wrote, Time, IsKept, AreWithin, after, blank, grown, next, piece_of, replay, spans}
+use Rattle.media.specs.Kept.{Kept}
+use Rattle.media_mem.specs.History.{Wrote, IsKept, AreWithin, grown, piece_of, replay}
 use Rattle.media_mem.specs.Reach.{Piece, Reach}
-use Rattle.media_mem.proofs.Replaying.{after-push, spans-push, grown_above, length-replay, replay_reached, grown-shape, within-shape}
+use Rattle.media_mem.proofs.Again.{within_again, grown_again, replay_again}
+use Rattle.media_mem.proofs.Replaying.{grown_above, length-replay, replay_reached, within-shape}
 
 pub drop_cons : (ws : List Wrote) (i : ℕ) (w : Wrote) → i < length ws → w ≡ get_or ws i w → drop i ws ≡ w ∷ drop (i + 1) ws
 drop_cons [] i w lt is = absurd (omega (arith, lt))
@@ -23,41 +24,48 @@ room_next start len cap i ws w lt is room =
 pub within_next : (start len i : ℕ) (ws : List Wrote) (w : Wrote) → i < length ws → w ≡ get_or ws i w → AreWithin start len (drop i ws) → AreWithin start len (w ∷ drop (i + 1) ws)
 within_next start len i ws w lt is within = subst (AreWithin start len) (drop_cons ws i w lt is) within
 
--- a time has ended with what was kept of the writes
-pub kept_settled : (past past2 : List Time) (start upto : ℕ) (base base1 base2 now now2 : List ℕ) (writes ws writes2 : List Wrote) → IsKept past start base now writes
-    → record { start = start; bytes = base1 } ≡ replay ws (record { start = start; bytes = base }) → base2 ≡ drop (upto - start) base1 → now2 ≡ base2
-    → past2 ≡ past ++ (record { writes = ws; upto = upto }) ∷ [] → writes2 ≡ [] → upto + length now2 < 9223372036854775808 → IsKept past2 upto base2 now2 writes2
-kept_settled past past2 start upto base base1 base2 now now2 writes ws writes2 k made cut same pushed none fits =
-    let t : Time = record { writes = ws; upto = upto } in
-    let last : after blank past2 ≡ without (record { start = start; bytes = base1 }) upto =
-    ap (after blank) pushed ∙ after-push blank past t ∙ ap (λ (x : Kept). next x t) (sym k.synced) ∙ ap (λ (x : Kept). without x upto) (sym made) in
-    record {
-      synced = sym (last ∙ ap (λ (l : List ℕ). let x : Kept = record { start = upto; bytes = l } in x) (sym cut));
-      now_is = ap (λ (l : List ℕ). let x : Kept = record { start = upto; bytes = l } in x) same ∙ ap (λ (l : List Wrote). replay l (record { start = upto; bytes = base2 })) (sym none);
-      within = subst (AreWithin upto (length base2)) (sym none) tt;
-      size = fits;
-    }
-
-pub past_settled : (past past2 : List Time) (start upto : ℕ) (base now : List ℕ) (writes ws : List Wrote) → IsKept past start base now writes → map piece_of ws ≡ map piece_of writes
-    → past2 ≡ past ++ (record { writes = ws; upto = upto }) ∷ [] → spans blank past2 ≡ spans blank past ++ (record { start = start; base = base; writes = map piece_of writes }) ∷ []
-past_settled past past2 start upto base now writes ws k shape pushed =
-    ap (spans blank) pushed ∙ spans-push blank past (record { writes = ws; upto = upto })
-    ∙ (λ i. spans blank past ++ (record { start = (sym k.synced i).start; base = (sym k.synced i).bytes; writes = shape i }) ∷ [])
+-- a time has ended, and these bytes are kept
+pub kept_settled : (start : ℕ) (now : List ℕ) (writes : List Wrote) → writes ≡ [] → start + length now < 9223372036854775808 → IsKept start now now writes
+kept_settled start now writes none fits = record {
+  now_is = ap (λ (l : List Wrote). replay l (record { start = start; bytes = now })) (sym none);
+  within = subst (AreWithin start (length now)) (sym none) tt;
+  size = fits;
+}
 
 -- what a read gives is an outcome of a crash
-pub now_reached : (past : List Time) (start : ℕ) (base now : List ℕ) (writes : List Wrote) → IsKept past start base now writes
+pub now_reached : (start : ℕ) (base now : List ℕ) (writes : List Wrote) → IsKept start base now writes
     → Reach (map piece_of writes) (record { start = start; bytes = base }) (record { start = start; bytes = now })
-now_reached past start base now writes k =
+now_reached start base now writes k =
     subst (Reach (map piece_of writes) (record { start = start; bytes = base })) (sym k.now_is) (replay_reached writes (record { start = start; bytes = base }) k.within)
 
--- so is what is left of the writes when some of their bytes were lost
-pub torn_reached : (past : List Time) (start : ℕ) (base base1 now : List ℕ) (writes ws : List Wrote) → IsKept past start base now writes → map piece_of ws ≡ map piece_of writes
-    → record { start = start; bytes = base1 } ≡ replay ws (record { start = start; bytes = base })
-    → Reach (map piece_of writes) (record { start = start; bytes = base }) (record { start = start; bytes = base1 })
-torn_reached past start base base1 now writes ws k shape made =
-    subst (λ (l : List Piece). Reach l (record { start = start; bytes = base }) (record { start = start; bytes = base1 })) shape
-    (subst (Reach (map piece_of ws) (record { start = start; bytes = base })) (sym made)
-    (replay_reached ws (record { start = start; bytes = base }) (within-shape start (length base) writes ws (sym shape) k.within)))
+-- Of the writes some bytes were lost, and they are made again on what they have left.
+module _ (start : ℕ) (base now : List ℕ) (writes ws : List Wrote) (k : IsKept start base now writes) (shape : map piece_of ws ≡ map piece_of writes) where
+  synced : Kept
+  synced = record { start = start; bytes = base }
+
+  pub within_now : AreWithin start (length now) ws
+  unfolding synced
+  within_now = subst (λ (x : Kept). AreWithin start (length x.bytes) ws) (sym k.now_is) (within_again ws writes synced shape k.within)
+
+  pub grown_now : grown start (length now) ws ≡ length now
+  unfolding synced
+  grown_now = subst (λ (x : Kept). grown start (length x.bytes) ws ≡ length x.bytes) (sym k.now_is) (grown_again ws writes synced shape k.within)
+
+  again : replay ws (record { start = start; bytes = now }) ≡ replay ws synced
+  unfolding synced
+  again = ap (replay ws) k.now_is ∙ replay_again ws writes synced shape k.within
+
+  -- what is left then is an outcome of a crash, too
+  pub torn_reached : (bytes : List ℕ) → record { start = start; bytes = bytes } ≡ replay ws (record { start = start; bytes = now })
+      → Reach (map piece_of writes) (record { start = start; bytes = base }) (record { start = start; bytes = bytes })
+  unfolding synced
+  torn_reached bytes made =
+      subst (λ (l : List Piece). Reach l synced (record { start = start; bytes = bytes })) shape
+      (subst (Reach (map piece_of ws) synced) (sym (made ∙ again)) (replay_reached ws synced (within-shape start (length base) writes ws (sym shape) k.within)))
+
+  -- it has as many bytes
+  pub length-torn : (bytes : List ℕ) → record { start = start; bytes = bytes } ≡ replay ws (record { start = start; bytes = now }) → length bytes ≡ length now
+  length-torn bytes made = ap (λ (x : Kept). length x.bytes) made ∙ length-replay ws (record { start = start; bytes = now }) within_now ∙ grown_now
 
 pub map_none : (ws : List Wrote) → length ws ≡ 0 → map piece_of ws ≡ []
 map_none [] none = refl
@@ -72,16 +80,3 @@ pub map_set : (ws : List Wrote) (i : ℕ) (w w2 : Wrote) → i < length ws → w
 map_set [] i w w2 lt is same = absurd (omega (arith, lt))
 map_set (v ∷ ws) zero w w2 lt is same = ap (λ (p : Piece). p ∷ map piece_of ws) (same ∙ ap piece_of is)
 map_set (v ∷ ws) (suc i) w w2 lt is same = ap (λ (l : List Piece). piece_of v ∷ l) (map_set ws i w w2 (omega (arith, lt)) is same)
-
--- what a read gives has as many bytes as what is left of the writes
-pub length-torn : (past : List Time) (start : ℕ) (base base1 now : List ℕ) (writes ws : List Wrote) → IsKept past start base now writes → map piece_of ws ≡ map piece_of writes
-    → record { start = start; bytes = base1 } ≡ replay ws (record { start = start; bytes = base }) → length base1 ≡ length now
-length-torn past start base base1 now writes ws k shape made =
-    let b : Kept = record { start = start; bytes = base } in
-    ap (λ (x : Kept). length x.bytes) made ∙ length-replay ws b (within-shape start (length base) writes ws (sym shape) k.within)
-    ∙ grown-shape start (length base) ws writes shape ∙ sym (length-replay writes b k.within) ∙ sym (ap (λ (x : Kept). length x.bytes) k.now_is)
-
-pub none_cut : (start : ℕ) (bytes : List ℕ) → bytes ≡ drop (start - start) bytes
-none_cut start bytes =
-    let zero_is : 0 ≡ start - start = omega arith in
-    ap (λ n. drop n bytes) zero_is

@@ -2,8 +2,8 @@
 use Rattle.std.proofs.Common.{◌≡◌, ℕ, ◌+◌, ◌-◌, ◌<◌, ◌≤◌, List, [], ◌∷◌, ◌++◌, length, take, drop, max, refl, sym, ◌∙◌, ap, subst, arith, length-append, length-take, length-drop}
 use Rattle.std.specs.Prelude.{map}
 use Rattle.media.specs.Kept.{Kept, written}
-use Rattle.media_mem.specs.History.{Wrote, Time, IsKept, AreWithin, after, grown, next, piece_of, replay, spans}
-use Rattle.media_mem.specs.Reach.{Piece, Reach, Span}
+use Rattle.media_mem.specs.History.{Wrote, IsKept, AreWithin, grown, piece_of, replay}
+use Rattle.media_mem.specs.Reach.{Piece, Reach}
 use Rattle.media_mem.proofs.Reaching.{torn_written}
 
 pub length-written : (k : Kept) (at : ℕ) (bytes : List ℕ) → at - k.start ≤ length k.bytes → length (written k at bytes).bytes ≡ max (length k.bytes) (at - k.start + length bytes)
@@ -67,25 +67,15 @@ within-shape start len (w ∷ ws) (v ∷ vs) same within =
       subst (λ (p : Piece). AreWithin start (max len (p.at - start + p.size)) vs) first (within-shape start (max len (w.at - start + length w.bytes)) ws vs (ap (drop 1) same) within.2),
     )
 
-pub after-push : (k : Kept) (ts : List Time) (t : Time) → after k (ts ++ t ∷ []) ≡ next (after k ts) t
-after-push k [] t = refl
-after-push k (s ∷ ts) t = after-push (next k s) ts t
-
-pub spans-push : (k : Kept) (ts : List Time) (t : Time) → spans k (ts ++ t ∷ [])
-    ≡ spans k ts ++ (record { start = (after k ts).start; base = (after k ts).bytes; writes = map piece_of t.writes }) ∷ []
-spans-push k [] t = refl
-spans-push k (s ∷ ts) t = ap (λ (l : List Span). (record { start = k.start; base = k.bytes; writes = map piece_of s.writes }) ∷ l) (spans-push (next k s) ts t)
-
 -- one write more
-pub kept_more : (past : List Time) (start : ℕ) (base now now2 bytes : List ℕ) (writes : List Wrote) (at : ℕ) → IsKept past start base now writes → start ≤ at → at - start ≤ length now
+pub kept_more : (start : ℕ) (base now now2 bytes : List ℕ) (writes : List Wrote) (at : ℕ) → IsKept start base now writes → start ≤ at → at - start ≤ length now
     → now2 ≡ take (at - start) now ++ bytes ++ drop (at - start + length bytes) now → start + length now2 < 9223372036854775808
-    → IsKept past start base now2 (writes ++ (record { at = at; bytes = bytes }) ∷ [])
-kept_more past start base now now2 bytes writes at k from le done fits =
+    → IsKept start base now2 (writes ++ (record { at = at; bytes = bytes }) ∷ [])
+kept_more start base now now2 bytes writes at k from le done fits =
     let b : Kept = record { start = start; bytes = base } in
     let w : Wrote = record { at = at; bytes = bytes } in
     let size : length now ≡ grown start (length base) writes = ap (λ (x : Kept). length x.bytes) k.now_is ∙ length-replay writes b k.within in
     record {
-      synced = k.synced;
       now_is = (λ i. record { start = start; bytes = done i }) ∙ ap (λ (x : Kept). written x at bytes) k.now_is ∙ sym (replay-push writes w b);
       within = within-push start (length base) writes w k.within from (omega (arith, le, size));
       size = fits;

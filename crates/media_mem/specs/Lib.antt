@@ -1,4 +1,6 @@
+pub mod Ends
 pub mod History
+pub mod Past
 pub mod Reach
 pub mod Shelf
 pub mod Slots

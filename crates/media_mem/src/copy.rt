@@ -44,11 +44,3 @@ pub fn put_over(bytes: &mut Vec<u8>, at: usize, with: &[u8])
         Err(_) => unreachable!(),
     }
 }
-
-/// Puts as many other bytes in the place of those that are there.
-pub fn copy_over(bytes: &mut Vec<u8>, with: &[u8])
-    requires { length with.now ≡ length bytes.old.items }
-    ensures { bytes.new.items ≡ with.now }
-{
-    bytes.as_mut_slice().copy_from_slice(with);
-}

@@ -1,58 +1,47 @@
 //! A log disk in memory.
-ghost use Rattle.std.specs.Prelude.{◌≡◌, ◌⊎◌, ◌+◌, ◌-◌, ◌<◌, ◌≤◌, ◌^◌, ℕ, List, [], ◌∷◌, ◌++◌, length, take, drop, map, min, max, OnOk, OnErr, IfOk, vec_len, vec_capacity};
+ghost use Rattle.std.specs.Prelude.{◌≡◌, ◌⊎◌, ◌+◌, ◌-◌, ◌<◌, ◌≤◌, ◌^◌, ℕ, List, [], ◌∷◌, ◌++◌, length, take, drop, map, min, max, OnOk, OnErr, IfOk, vec_capacity};
 ghost use Rattle.media.specs.Cause.{Rose};
 ghost use Rattle.media.specs.Kept.{Kept, end_of, written, without};
-ghost use Rattle.media_mem.specs.History.{AreWithin, IsKept, Time, Wrote, grown, piece_of, replay};
+ghost use Rattle.media_mem.specs.History.{AreWithin, IsKept, Wrote, grown, piece_of, replay};
 ghost use Rattle.media_mem.specs.Reach.{MemSeen, Settles, kept_now, leaves, left_at, only_leaves, span_of};
 
-use crate::copy::{copy_out, copy_over, put_over};
+use crate::copy::{copy_out, put_over};
 use crate::faults::Faults;
-use crate::history::{Epoch, Write};
+use crate::history::{Content, Past, Write};
 use media::{Disk, Failed};
 use std::alloc::{AllocError, Global};
 use std::marker::Model;
-use std::mem;
 
-/// Keeps its bytes in memory, and the writes of each time between two syncs, from which follows what a crash at any
-/// moment might have left. So it takes memory for all bytes ever written.
+/// Keeps its bytes in memory, and the writes since the last sync. What a crash at an earlier moment might have left
+/// follows from the past, of which contracts alone speak.
 ///
 /// After a power cycle the first of the bytes written since the last sync are there, as many as asked, and the other
 /// bytes written are 0xFF.
 #[derive(Drop)]
 pub struct MemDisk {
     alloc: Global,
-    past: Vec<Epoch>,
-    start: u64,
-    /// What was synced last.
-    base: Vec<u8>,
-    /// The writes since then.
-    writes: Vec<Write>,
-    /// What a read gives.
-    bytes: Vec<u8>,
+    past: Past,
+    content: Content,
     faults: Faults,
 }
 
 impl Model for MemDisk {
-    ghost use Rattle.std.specs.Prelude.{◌<◌, ◌≤◌, length, map, vec_len, vec_capacity};
-    ghost use Rattle.media_mem.specs.History.{IsKept, blank, grown, piece_of, spans};
+    ghost use Rattle.std.specs.Prelude.{map};
+    ghost use Rattle.media_mem.specs.History.{IsKept, piece_of};
     ghost use Rattle.media_mem.specs.Reach.{MemSeen};
 
     ghost Value = { MemSeen };
 
     ghost view = { λ m. record {
-      start = m.start;
-      base = m.base.items;
-      now = m.bytes.items;
-      writes = map piece_of m.writes.items;
-      past = spans blank m.past.items;
+      start = m.content.start;
+      base = m.past.seen.base;
+      now = m.content.bytes.items;
+      writes = map piece_of m.content.writes.items;
+      past = m.past.seen.spans;
       faults = m.faults;
     } };
 
-    ghost invariant = { λ m. record {
-      kept : IsKept m.past.items m.start m.base.items m.bytes.items m.writes.items;
-      room : grown m.start (length m.base.items) m.writes.items ≤ vec_capacity m.base;
-      slot : 0 < length m.writes.items → vec_len m.past < vec_capacity m.past;
-    } };
+    ghost invariant = { λ m. IsKept m.content.start m.past.seen.base m.content.bytes.items m.content.writes.items };
 }
 
 impl MemDisk {
@@ -69,11 +58,12 @@ impl MemDisk {
     {
         MemDisk {
             alloc,
-            past: Vec::new(alloc),
-            start: 0,
-            base: Vec::new(alloc),
-            writes: Vec::new(alloc),
-            bytes: Vec::new(alloc),
+            past: Past::new(),
+            content: Content {
+                start: 0,
+                bytes: Vec::new(alloc),
+                writes: Vec::new(alloc),
+            },
             faults: Faults::new(calls),
         }
     }
@@ -92,7 +82,7 @@ impl MemDisk {
     pub fn bytes(&self) -> &[u8]
         ensures { result.now ≡ self.now.now }
     {
-        &self.bytes
+        &self.content.bytes
     }
 
     /// Counts a call, which fails where its number is in the list.
@@ -124,14 +114,11 @@ impl MemDisk {
         }) }
         ensures err { OnErr result (self.new ≡ self.old) }
     {
-        let off = (at - self.start) as usize;
+        let off = (at - self.content.start) as usize;
         let copy = bytes.to_vec(self.alloc)?;
-        self.past.reserve(1)?;
-        self.bytes.reserve(bytes.len())?;
-        self.base
-            .reserve((off + bytes.len()).saturating_sub(self.base.len()))?;
-        add(&mut self.writes, at, copy)?;
-        put_over(&mut self.bytes, off, bytes);
+        self.content.bytes.reserve(bytes.len())?;
+        add(&mut self.content.writes, at, copy)?;
+        put_over(&mut self.content.bytes, off, bytes);
         Ok(())
     }
 
@@ -140,9 +127,9 @@ impl MemDisk {
         ensures reached { leaves self.old (kept_now self.old) }
         ensures settled { Settles self.old self.new (kept_now self.old) }
     {
-        if !self.writes.is_empty() {
-            replay_on(&mut self.base, self.start, &self.writes);
-            end(self.alloc, self.start, &mut self.writes, &mut self.past);
+        if !self.content.writes.is_empty() {
+            self.past = self.past.then(&self.content);
+            self.content.writes.clear();
         }
     }
 
@@ -151,30 +138,30 @@ impl MemDisk {
         ensures reached { leaves self.old (kept_now self.new) }
         ensures settled { Settles self.old self.new (kept_now self.new) }
     {
-        if !self.writes.is_empty() {
-            tear(&mut self.writes, keep);
-            replay_on(&mut self.base, self.start, &self.writes);
-            copy_over(&mut self.bytes, &self.base);
-            end(self.alloc, self.start, &mut self.writes, &mut self.past);
+        if !self.content.writes.is_empty() {
+            tear(&mut self.content.writes, keep);
+            replay_on(
+                &mut self.content.bytes,
+                self.content.start,
+                &self.content.writes,
+            );
+            self.past = self.past.then(&self.content);
+            self.content.writes.clear();
         }
     }
 
     /// The front is forgotten, and what was written is kept.
-    fn forget(&mut self, upto: u64) -> Result<(), AllocError>
+    fn forget(&mut self, upto: u64)
         requires not_before { self.old.start ≤ upto }
         requires not_past { upto ≤ self.old.start + length self.old.now }
         ensures reached { leaves self.old (kept_now self.old) }
-        ensures ok { OnOk result (self.new ≡ record { start = upto; base = (without (kept_now self.old) upto).bytes; now = (without (kept_now self.old) upto).bytes; writes = []; past = self.old.past ++ span_of self.old ∷ []; faults = self.old.faults }) }
-        ensures err { OnErr result (self.new ≡ self.old) }
+        ensures cut { self.new ≡ record { start = upto; base = (without (kept_now self.old) upto).bytes; now = (without (kept_now self.old) upto).bytes; writes = []; past = self.old.past ++ span_of self.old ∷ []; faults = self.old.faults } }
     {
-        let off = (upto - self.start) as usize;
-        self.past.reserve(1)?;
-        replay_on(&mut self.base, self.start, &self.writes);
-        cut(&mut self.base, off);
-        cut(&mut self.bytes, off);
-        end(self.alloc, upto, &mut self.writes, &mut self.past);
-        self.start = upto;
-        Ok(())
+        let off = (upto - self.content.start) as usize;
+        cut(&mut self.content.bytes, off);
+        self.past = self.past.then(&self.content);
+        self.content.writes.clear();
+        self.content.start = upto;
     }
 }
 
@@ -186,27 +173,14 @@ fn add(writes: &mut Vec<Write>, at: u64, bytes: Vec<u8>) -> Result<(), AllocErro
     Ok(())
 }
 
-/// A time ends with these writes.
-fn end(alloc: Global, upto: u64, writes: &mut Vec<Write>, past: &mut Vec<Epoch>)
-    requires { vec_len past.old < vec_capacity past.old }
-    ensures writes { writes.new.items ≡ [] }
-    ensures past { past.new.items ≡ past.old.items ++ record { writes = writes.old.items; upto = upto } ∷ [] }
-{
-    let writes = mem::replace(writes, Vec::new(alloc));
-    match past.push(Epoch { writes, upto }) {
-        Ok(()) => {}
-        Err(_) => unreachable!(),
-    }
-}
-
-/// The writes are made on what was synced, without memory.
-fn replay_on(base: &mut Vec<u8>, start: u64, writes: &[Write])
-    requires within { AreWithin start (length base.old.items) writes.now }
-    requires room { grown start (length base.old.items) writes.now ≤ vec_capacity base.old }
-    ensures { record { start = start; bytes = base.new.items } ≡ replay writes.now (record { start = start; bytes = base.old.items }) }
+/// The writes are made again, without memory.
+fn replay_on(bytes: &mut Vec<u8>, start: u64, writes: &[Write])
+    requires within { AreWithin start (length bytes.old.items) writes.now }
+    requires room { grown start (length bytes.old.items) writes.now ≤ vec_capacity bytes.old }
+    ensures { record { start = start; bytes = bytes.new.items } ≡ replay writes.now (record { start = start; bytes = bytes.old.items }) }
 {
     for write in writes {
-        put_over(base, (write.at - start) as usize, &write.bytes);
+        put_over(bytes, (write.at - start) as usize, &write.bytes);
     }
 }
 
@@ -283,17 +257,17 @@ impl Disk for MemDisk {
     ghost only_now = { only_leaves };
 
     fn start(&self) -> u64 {
-        self.start
+        self.content.start
     }
 
     fn len(&self) -> u64 {
-        self.start + self.bytes.len() as u64
+        self.content.start + self.content.bytes.len() as u64
     }
 
     fn read_at(&mut self, at: u64, buf: &mut [u8]) -> Result<usize, Failed> {
         self.call()?;
-        let off = (at - self.start) as usize;
-        Ok(copy_out(&self.bytes, off, buf))
+        let off = (at - self.content.start) as usize;
+        Ok(copy_out(&self.content.bytes, off, buf))
     }
 
     fn write_at(&mut self, at: u64, bytes: &[u8]) -> Result<(), Failed> {
@@ -312,10 +286,8 @@ impl Disk for MemDisk {
 
     fn discard(&mut self, upto: u64) -> Result<(), Failed> {
         self.call()?;
-        match self.forget(upto) {
-            Ok(()) => Ok(()),
-            Err(_) => Err(self.failed()),
-        }
+        self.forget(upto);
+        Ok(())
     }
 
     fn power_cycle(&mut self, keep: u64) {

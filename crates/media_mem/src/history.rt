@@ -1,4 +1,8 @@
-//! The writes of a disk, and its times between two syncs.
+//! What a disk has at hand, and what it kept at each time between two syncs.
+ghost use Rattle.std.specs.Prelude.{◌≡◌, []};
+ghost use base.Fml.{ftrue};
+ghost use Rattle.media_mem.specs.Past.{PastSeen, past_code};
+
 use std::marker::Model;
 
 /// Bytes written at an offset.
@@ -16,17 +20,40 @@ impl Model for Write {
     ghost view = { λ w. record { at = w.at; bytes = w.bytes.items } };
 }
 
-/// A time between two syncs: what was kept of its writes, and where the disk starts then.
+/// What a disk has at hand.
 #[derive(Drop)]
-pub struct Epoch {
+pub struct Content {
+    pub start: u64,
+    /// What a read gives.
+    pub bytes: Vec<u8>,
+    /// The writes since the last sync.
     pub writes: Vec<Write>,
-    pub upto: u64,
 }
 
-impl Model for Epoch {
-    ghost use Rattle.media_mem.specs.History.{Time};
+/// The times between two syncs, and what was synced last. Contracts alone speak of it, so it takes no memory.
+#[derive(Drop)]
+pub struct Past {
+    pub ghost seen: { PastSeen } by { past_code },
+}
 
-    ghost Value = { Time };
+impl Model for Past {
+    ghost also_owns = { λ _. ftrue };
+}
 
-    ghost view = { λ e. record { writes = e.writes.items; upto = e.upto } };
+impl Past {
+    ghost use Rattle.media_mem.specs.Ends.{after_time};
+
+    /// Of a blank disk.
+    pub fn new() -> Past
+        ensures { result.seen ≡ record { spans = []; base = [] } }
+    {
+        Past {}
+    }
+
+    /// A time has ended, and these bytes are kept.
+    pub fn then(&self, _content: &Content) -> Past
+        ensures { result.seen ≡ after_time self.now.seen _content.now }
+    {
+        Past {}
+    }
 }

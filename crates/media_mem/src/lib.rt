@@ -15,7 +15,7 @@ mod source;
 mod vault;
 
 pub use disk::MemDisk;
-pub use media_steady::NeverFails;
+pub use media::NeverFails;
 pub use pages::MemPages;
 pub use sink::MemSink;
 pub use source::MemSource;

@@ -2,7 +2,7 @@
 ghost use Rattle.std.specs.Prelude.{◌≡◌, ◌++◌, ◌≤◌, ◌<◌, ◌+◌, ◌^◌, length, flat_map, ◌∷◌, []};
 ghost use Rattle.std.specs.List.{sum_by};
 ghost use Rattle.std.specs.Int.{w8, w16, w32};
-ghost use Rattle.wal_record.specs.State.{text_of, leaf_row_size, branch_row_size, rows_size, high_size, foster_size, state_size, KeepsState};
+ghost use Rattle.wal_record.specs.State.{text_of, leaf_row_size, branch_row_size, rows_size, high_size, foster_size, state_size, page_room, KeepsState};
 ghost use Rattle.wal_record.specs.Spelling.{number_bytes, text_bytes, value_bytes, maybe_bytes, list_bytes, flag_of, foster_bytes, leaf_row_bytes, branch_row_bytes, rows_bytes, state_bytes};
 
 use crate::draft::Draft;
@@ -118,7 +118,7 @@ fn put_branch_rows(draft: &mut Draft, rows: &List<BranchRow>)
 }
 
 fn put_rows(draft: &mut Draft, rows: &Rows)
-    requires few { rows_size rows.now ≤ 4051 }
+    requires few { rows_size rows.now ≤ page_room }
     requires room { length draft.old + 2 + rows_size rows.now ≤ 4064 }
     ensures { draft.new ≡ draft.old ++ rows_bytes rows.now }
 {

@@ -1,3 +1,4 @@
+//! Where each page's right is, and what was written of the page last.
 ghost use Rattle.std.specs.Prelude.{◌≡◌, ℕ, suc, ◌<◌, ◌≤◌, IfOk, IfSome, IfNone, Some, None};
 ghost use Rattle.page_index.specs.Index.{home_of, written_of, limit_of, IsIn, Rehomes, Notes};
 
@@ -78,7 +79,7 @@ impl<N: BookNames> PageIndex<N> {
         }
     }
 
-    // Where the lists have what is the page's, if they have it.
+    /// Where the lists have what is the page's, if they have it.
     fn place_of(&self, page: PageNo) -> Option<usize>
         ensures inside { IfSome result (λ place. (page ≡ suc place) × (place < limit_of self.now)) }
         ensures outside { IfNone result (1 ≤ page → limit_of self.now < page) }

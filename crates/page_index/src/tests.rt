@@ -1,3 +1,4 @@
+//! Rights given and taken.
 ghost use Rattle.std.specs.Prelude.{◌≡◌};
 
 use super::*;
@@ -15,8 +16,8 @@ fn a_place_takes_32_bytes(rt: HostRuntime) -> Result<(), Fail> {
     Ok(())
 }
 
-// Whether the right to page 2 of three is there before it is given, where it is given, and after it was taken; and what
-// pages 1 to 4 are written as.
+/// Whether the right to page 2 of three is there before it is given, where it is given, and after it was taken; and what
+/// pages 1 to 4 are written as.
 fn one_right<N: BookNames>(alloc: Global, shelf: Shelf) -> Result<([bool; 4], [Lsn; 5]), Memory>
     requires pages { shelf.pages ≡ N.pages }
     requires sessions { shelf.sessions ≡ N.sessions }

@@ -1,2 +1,4 @@
 pub mod Alone
+pub mod Composing
+pub mod Gaining
 pub mod Staying

@@ -1,6 +1,6 @@
 -- What a group may ask of the journal, at whatever moment it comes: that it can be filled in to be legal there, that a
 -- page is in hand whose answer is told, that there is room, and that nobody came first.
-use Rattle.std.specs.Prelude.{◌≡◌, ◌⊎◌, ℕ, suc, ◌+◌, ◌≤◌, ◌<◌, List, [], ◌∷◌, ◌++◌, length, Option, Some, None, Bool, true, false, ◌==◌, if◌then◌else◌, IsTrue}
+use Rattle.std.specs.Prelude.{◌≡◌, ◌⊎◌, ℕ, suc, ◌+◌, ◌^◌, ◌≤◌, ◌<◌, List, [], ◌∷◌, ◌++◌, length, Option, Some, None, Bool, true, false, ◌==◌, if◌then◌else◌, IsTrue}
 use Rattle.std.specs.List.{list_any}
 use mathlib.Core.List.{IsPrefix}
 use Rattle.books.specs.Rights.{PageClaim}
@@ -8,15 +8,16 @@ use Rattle.store_model.specs.Along.{along}
 use Rattle.store_model.specs.Range.{Interval, is_below, IsBelow}
 use Rattle.store_model.specs.declared.request.Request.{Request}
 use Rattle.store_model.specs.declared.request.Request.TheVariants as requests
+use Rattle.store_model.specs.declared.reply.Outcome.TheVariants as outcomes
 use Rattle.wal_record.specs.State.{leaf_rows, own_end}
-use Rattle.wal_record.specs.Chains.{finishes}
-use Rattle.wal_record.specs.OpenWrites.{open_writes, is_loser}
+use Rattle.wal_record.specs.Chains.{pages, finishes}
+use Rattle.wal_record.specs.OpenWrites.{open_writes, pending, is_loser}
 use Rattle.wal_record.specs.Upkeep.{unrestored}
 use Rattle.wal_record.specs.Checkpoints.{limit_of}
 use Rattle.wal_record.specs.Images.{image, OnPage, IsLeafOf}
 use Rattle.wal_record.specs.Sound.{UndoRule, used}
 use Rattle.wal_record.specs.History.{life_log}
-use Rattle.wal_record.specs.Legal.{IsLegal}
+use Rattle.wal_record.specs.Legal.{IsLegal, MayDecline, split_leaf}
 use Rattle.wal_record.specs.declared.page.PageState.{PageState}
 use Rattle.wal_record.specs.declared.page.Rows.TheVariants.{Leaf}
 use Rattle.wal_record.specs.declared.record.Record.{Record}
@@ -58,6 +59,13 @@ last_place is h = along (λ before n e. if is e then suc (length before) else n)
 pub record IsForestalled (opening : List Record) (h : List Entry) (pos : ℕ) (r : Record) : Type 0 where
   pub late : IsTimely opening h r → ⊥
   pub first : pos ≡ last_place (forestalls r) h
+
+-- another one can come before the record
+abbrev pub can_be_late : Record → Bool
+can_be_late (kinds.Undo u) = true
+can_be_late (kinds.End e) = true
+can_be_late (kinds.Restored r) = true
+can_be_late _ = false
 
 abbrev pub IsLate : List Record → List Entry → ℕ → List Record → Type 0
 IsLate opening h pos [] = ⊥
@@ -106,14 +114,26 @@ HasLeaf opening h _ _ a = Unit {0}
 
 -- ---- the whole
 
--- the group can be filled in so that the history goes on legally
+-- there are LSNs for three records more
+abbrev pub HasNumbers : List Record → List Entry → Type 0
+HasNumbers opening h = length (life_log opening h) + 3 < 2 ^ 63
+
+-- the group can be filled in so that the history goes on legally, and leaves no leaf split without the write that it was
+-- split for
 pub record MayFollow (opening : List Record) (h : List Entry) (g : Group) : Type 0 where
   pub new : ℕ
   pub recs : List Record
   pub filled : AreFilled new g.recs recs
   pub legal : IsLegal opening (h ++ group_entries (suc (length (life_log opening h))) recs g.said)
+  pub whole : split_leaf opening (h ++ group_entries (suc (length (life_log opening h))) recs g.said) ≡ None
+
+-- the request of a group may be declined for want of room
+abbrev pub MayBeDeclined : List Record → List Entry → Option Said → Type 0
+MayBeDeclined opening h None = Unit {0}
+MayBeDeclined opening h (Some s) = let log = life_log opening h in MayDecline opening h s.session s.tx s.request (outcomes.Full (pages log) (pending log))
 
 -- what the group asks at the moment at which it comes
 pub record IsAskable (opening : List Record) (h : List Entry) (a : Option PageClaim) (g : Group) : Type 0 where
   pub leaf : HasLeaf opening h g.recs g.said a
-  pub follows : Each (IsTimely opening h) g.recs → HasRoomFor opening h g → MayFollow opening h g
+  pub follows : Each (IsTimely opening h) g.recs → HasRoomFor opening h g → HasNumbers opening h → MayFollow opening h g
+  pub declines : LacksRoomFor opening h g → MayBeDeclined opening h g.said

@@ -1,6 +1,7 @@
 -- What rights claim, and when their claims agree with a history.
-use Rattle.std.specs.Prelude.{◌≡◌, List, Option, Some, None, IfSome}
+use Rattle.std.specs.Prelude.{◌≡◌, List, Option, Some, None, IfSome, IsTrue}
 use Rattle.books.specs.Rights.{PageClaim, SessionClaim, MaintClaim}
+use Rattle.wal_record.specs.Rules.{is_number, is_page}
 use Rattle.wal_record.specs.Books.{page_book, maintenance_book, session_entries, session_transaction}
 use Rattle.wal_record.specs.declared.record.Record.{Record}
 use Rattle.wal_record.specs.declared.entry.Entry.{Entry}
@@ -18,6 +19,16 @@ no_claims = record { a = None; b = None; c = None; s = None; m = None }
 
 abbrev pub session_alone : SessionClaim → Claims
 session_alone s = record { a = None; b = None; c = None; s = Some s; m = None }
+
+-- the number of the page and the LSN of its head are in their ranges
+abbrev pub IsInRange : PageClaim → Type 0
+IsInRange p = IsTrue (is_page p.page) × IsTrue (is_number p.lsn)
+
+-- those of each right to a page are
+pub record AreInRange (x : Claims) : Type 0 where
+  pub a : IfSome x.a IsInRange
+  pub b : IfSome x.b IsInRange
+  pub c : IfSome x.c IsInRange
 
 -- the right to a page has its head
 abbrev pub PageAgrees : (List Record → Type 0) → List Entry → PageClaim → Type 0

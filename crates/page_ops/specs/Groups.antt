@@ -15,6 +15,7 @@ use Rattle.store_model.specs.declared.reply.Outcome.{Outcome}
 use Rattle.page_ops.specs.declared.group.Said.{Said}
 use Rattle.page_ops.specs.declared.group.Group.{Group}
 use Rattle.page_ops.specs.Claims.{Claims}
+use Rattle.wal_record.specs.Checkpoints.{is_checkpoint}
 
 -- it holds of each item
 abbrev pub Each : {A : Type 0} → (A → Type 0) → List A → Type 0
@@ -110,10 +111,6 @@ abbrev pub is_write : Record → Bool
 is_write (kinds.Write w) = true
 is_write (kinds.Apply a) = true
 is_write _ = false
-
-abbrev pub is_checkpoint : Record → Bool
-is_checkpoint (kinds.Checkpoint c) = true
-is_checkpoint _ = false
 
 -- a Format stands in no group, and a Commit has a call of its own
 abbrev pub is_grouped : Record → Bool

@@ -2,6 +2,7 @@ pub mod Asking
 pub mod Causes
 pub mod Claims
 pub mod Desks
+pub mod Gains
 pub mod Groups
 pub mod Hands
 pub mod Names

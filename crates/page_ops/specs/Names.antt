@@ -11,7 +11,7 @@ pub record LedgerName : Type 0 where
 abbrev pub no_ledger : LedgerName
 no_ledger = record { name = 0; parts = 0 }
 
--- the names of a life's count, of its three books, and of its five ledgers
+-- the names of a life's count, of its three books, and of its six ledgers
 pub record LifeNames : Type 0 where
   pub count : TableId
   pub pages : TableId
@@ -22,10 +22,11 @@ pub record LifeNames : Type 0 where
   pub log_faults : LedgerName
   pub vault_faults : LedgerName
   pub data_faults : LedgerName
+  pub made : LedgerName
 
-abbrev pub life_names : TableId → TableId → TableId → TableId → LedgerName → LedgerName → LedgerName → LedgerName → LedgerName → LifeNames
-life_names count pages sessions maint entries session_entries log_faults vault_faults data_faults =
-    record { count = count; pages = pages; sessions = sessions; maint = maint; entries = entries; session_entries = session_entries; log_faults = log_faults; vault_faults = vault_faults; data_faults = data_faults }
+abbrev pub life_names : TableId → TableId → TableId → TableId → LedgerName → LedgerName → LedgerName → LedgerName → LedgerName → LedgerName → LifeNames
+life_names count pages sessions maint entries session_entries log_faults vault_faults data_faults made =
+    record { count = count; pages = pages; sessions = sessions; maint = maint; entries = entries; session_entries = session_entries; log_faults = log_faults; vault_faults = vault_faults; data_faults = data_faults; made = made }
 
 -- each ledger has this many parts
 pub record HasParts (names : LifeNames) (parts : ℕ) : Type 0 where
@@ -34,3 +35,4 @@ pub record HasParts (names : LifeNames) (parts : ℕ) : Type 0 where
   pub log_faults : names.log_faults.parts ≡ parts
   pub vault_faults : names.vault_faults.parts ≡ parts
   pub data_faults : names.data_faults.parts ≡ parts
+  pub made : names.made.parts ≡ parts

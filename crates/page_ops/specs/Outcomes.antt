@@ -3,6 +3,7 @@ use Rattle.std.specs.Prelude.{◌≡◌, ◌≢◌, ◌⊎◌, ℕ, suc, min, �
 use Rattle.std.specs.List.{list_any, All}
 use Rattle.std.specs.Option.{option_map}
 use Rattle.books.specs.Rights.{PageClaim, SessionClaim, MaintClaim}
+use Rattle.front.specs.Seen.{PassSeen}
 use Rattle.store_model.specs.Along.{along}
 use Rattle.store_model.specs.Range.{Interval, is_below}
 use Rattle.store_model.specs.declared.fault.Fault.{Fault}
@@ -13,8 +14,8 @@ use Rattle.store_model.specs.declared.request.Request.{Request}
 use Rattle.wal_record.specs.Rules.{HasSpelling}
 use Rattle.wal_record.specs.Chains.{pages, finishes, record_with}
 use Rattle.wal_record.specs.OpenWrites.{pending, is_loser, losers, open_list}
-use Rattle.wal_record.specs.Upkeep.{standing_runs, archived}
-use Rattle.wal_record.specs.Checkpoints.{commits, limit_of, analysis_of}
+use Rattle.wal_record.specs.Upkeep.{segment_of, unrestored, standing_runs, archived}
+use Rattle.wal_record.specs.Checkpoints.{commits, limit_of, page_head, analysis_of}
 use Rattle.wal_record.specs.History.{log_of, life_log, live_count}
 use Rattle.wal_record.specs.Locks.{Held, locks, conflict, blocks}
 use Rattle.wal_record.specs.declared.analysis.Run.{Run}
@@ -33,10 +34,13 @@ use Rattle.page_ops.specs.declared.outcome.Found.{Found}
 use Rattle.page_ops.specs.declared.outcome.Found.TheVariants as founds
 use Rattle.page_ops.specs.declared.outcome.Committed.{Committed}
 use Rattle.page_ops.specs.declared.outcome.Survey.{Survey}
+use Rattle.page_ops.specs.declared.outcome.Listed.{Listed}
+use Rattle.page_ops.specs.declared.outcome.Work.{Work}
 use Rattle.page_ops.specs.Names.{LedgerName}
+use Rattle.page_ops.specs.Causes.{IsOpen}
 use Rattle.page_ops.specs.Claims.{Claims}
 use Rattle.page_ops.specs.Groups.{AreFilled, made_by, group_entries, declined_entries}
-use Rattle.page_ops.specs.Asking.{HasRoomFor, LacksRoomFor, IsLate}
+use Rattle.page_ops.specs.Asking.{HasRoomFor, LacksRoomFor, can_be_late, IsLate}
 use Rattle.page_ops.specs.Seeing.{Known, Enters}
 
 -- ---- groups
@@ -68,12 +72,18 @@ abbrev pub new_place : Option ℕ → ℕ → Option ℕ → Option ℕ
 new_place None new old = old
 new_place (Some child) new old = Some new
 
--- Where the group isn't entered the rights are as before, but for the session's, where its request is declined.
+-- Where the group isn't entered the rights are as before. Where its request is declined, the right to its session is to
+-- the same session.
 abbrev pub KeepsRights : Result Entered Fault → Claims → Claims → Type 0
 KeepsRights (Ok (entered.At pos)) old new = Unit {0}
 KeepsRights (Ok other) old new = new ≡ old
-KeepsRights (Err (faults.Full pages_then pending_then at)) old new = new ≡ record old { s = new.s }
+KeepsRights (Err (faults.Full pages_then pending_then at)) old new = (new ≡ record old { s = new.s }) × SameHolders old new
 KeepsRights (Err fault) old new = new ≡ old
+
+-- where the group isn't entered, it is as it was
+abbrev pub KeepsGroup : Result Entered Fault → Group → Group → Type 0
+KeepsGroup (Ok (entered.At pos)) asked now = Unit {0}
+KeepsGroup _ asked now = now ≡ asked
 
 -- the group is filled in, and the right to the page that it makes is there
 pub record IsFilledIn (asked now : Group) (old new : Claims) : Type 0 where
@@ -82,17 +92,17 @@ pub record IsFilledIn (asked now : Group) (old new : Claims) : Type 0 where
   pub holders : SameHolders old new
   pub made : page_of new.c ≡ new_place (made_by asked.recs) child (page_of old.c)
 
--- its entries have LSNs from here on, and at the moment at which they came there was the room that was asked for
+-- its records have the LSNs from the group's on, and at the moment at which they came there was the room that was
+-- asked for
 pub record EntersGroup (opens : List Record → Type 0) (entries sessions : LedgerName) (asked now : Group) (result : Result Entered Fault) (old new : Known) : Type 0 where
-  pub lsn : ℕ
-  pub enters : Enters opens entries sessions old (answered lsn now.recs asked.said result) new
+  pub enters : Enters opens entries sessions old (answered now.lsn now.recs asked.said result) new
   pub room : OnEntered result ((opening : List Record) → opens opening → HasRoomFor opening enters.moment asked)
 
 -- what the answer says of the history that has then been seen
 abbrev pub IsAnswer : (List Record → Type 0) → List Entry → Group → Entered → Type 0
 IsAnswer opens h asked (entered.At pos) = pos ≡ length h
-IsAnswer opens h asked entered.NoRoom = (asked.said ≡ None) × ((opening : List Record) → opens opening → LacksRoomFor opening h asked)
-IsAnswer opens h asked (entered.Late pos) = (opening : List Record) → opens opening → IsLate opening h pos asked.recs
+IsAnswer opens h asked entered.NoRoom = (asked.said ≡ None) × (asked.room ≡ true) × ((opening : List Record) → opens opening → LacksRoomFor opening h asked)
+IsAnswer opens h asked (entered.Late pos) = IsTrue (list_any can_be_late asked.recs) × ((opening : List Record) → opens opening → IsLate opening h pos asked.recs)
 
 -- there is no room for the write: so many pages and pending writes there are
 abbrev pub IsFull : (List Record → Type 0) → List Entry → Group → Fault → Type 0
@@ -159,7 +169,8 @@ repairs page (Err fault) = []
 
 -- ---- commits
 
--- a Commit, and then its acknowledgement, perhaps with others' entries between; the log was then durable up to the Commit
+-- a Commit, and then its acknowledgement, perhaps with others' entries between; the pass has then seen that the log is
+-- durable up to the Commit
 pub record Commits (opens : List Record → Type 0) (ledger sessions : LedgerName) (s : SessionClaim) (answer : Committed) (old new : Known) : Type 0 where
   pub lsn : ℕ
   pub prev : ℕ
@@ -169,17 +180,19 @@ pub record Commits (opens : List Record → Type 0) (ledger sessions : LedgerNam
   pub acked : Enters opens ledger sessions between (entries.Acked s.session s.tx ∷ []) new
   pub pos : answer.pos ≡ length new.log
   pub number : (opening : List Record) → opens opening → answer.number ≡ commits (life_log opening between.log)
-  pub durable : lsn ≤ new.account.durable
+  pub durable : lsn ≤ new.durable
 
--- where the log disk failed, at most the Commit was entered
+-- Where the log disk failed, at this call or as another thread wrote the Commit, at most the Commit was entered, and
+-- only where nothing was known of an end.
 pub record MayCommit (opens : List Record → Type 0) (ledger sessions : LedgerName) (s : SessionClaim) (old new : Known) : Type 0 where
   pub lsn : ℕ
   pub prev : ℕ
-  pub may : Enters opens ledger sessions old [] new ⊎ Enters opens ledger sessions old (entries.Rec lsn (kinds.Commit (record { tx = s.tx; prev = prev })) ∷ []) new
+  pub may : Enters opens ledger sessions old [] new ⊎ (IsOpen old.account × Enters opens ledger sessions old (entries.Rec lsn (kinds.Commit (record { tx = s.tx; prev = prev })) ∷ []) new)
 
 abbrev pub CommitsOr : (List Record → Type 0) → LedgerName → LedgerName → SessionClaim → Result Committed Fault → Known → Known → Type 0
 CommitsOr opens ledger sessions s (Ok answer) old new = Commits opens ledger sessions s answer old new
 CommitsOr opens ledger sessions s (Err faults.LogFault) old new = MayCommit opens ledger sessions s old new
+CommitsOr opens ledger sessions s (Err (faults.Ended at)) old new = MayCommit opens ledger sessions s old new
 CommitsOr opens ledger sessions s (Err fault) old new = Enters opens ledger sessions old [] new
 
 -- ---- the log
@@ -204,34 +217,35 @@ is_repaired _ = false
 abbrev pub losers_left : List Record → List Entry → List ℕ
 losers_left opening h = filter (λ t. not (list_any (finishes t) (log_of h))) (losers opening)
 
-pub record IsSurvey (opens : List Record → Type 0) (h : List Entry) (x : Survey) : Type 0 where
-  pub analysis : (opening : List Record) → opens opening → x.analysis ≡ analysis_of (life_log opening h)
-  pub losers : (opening : List Record) → opens opening → x.losers ≡ losers_left opening h
-  pub undone : x.undone ≡ length (filter is_undo (log_of h))
-  pub repaired : x.repaired ≡ length (filter is_repaired h)
-  pub last : (opening : List Record) → opens opening → x.last ≡ length (life_log opening h)
+-- what a journal tells of the history that a pass has seen, and of the durable number that it has seen
+pub record IsSurvey (opens : List Record → Type 0) (seen : PassSeen Entry) (x : Survey) : Type 0 where
+  pub analysis : (opening : List Record) → opens opening → x.analysis ≡ analysis_of (life_log opening seen.log)
+  pub losers : (opening : List Record) → opens opening → x.losers ≡ losers_left opening seen.log
+  pub undone : x.undone ≡ length (filter is_undo (log_of seen.log))
+  pub repaired : x.repaired ≡ length (filter is_repaired seen.log)
+  pub last : (opening : List Record) → opens opening → x.last ≡ length (life_log opening seen.log)
   pub kept : x.first_kept ≤ suc x.durable
-  pub durable : x.durable ≤ x.last
+  pub durable : x.durable ≡ seen.durable
+  pub most : x.durable ≤ x.last
 
-abbrev pub is_checkpoint : Record → Bool
-is_checkpoint (kinds.Checkpoint c) = true
-is_checkpoint _ = false
+abbrev pub first_of : List ℕ → Option ℕ
+first_of [] = None
+first_of (x ∷ xs) = Some x
 
--- the LSN of the last checkpoint, 0 for none
-unfoldable pub last_checkpoint : List Record → ℕ
-last_checkpoint log = along (λ before n r. if is_checkpoint r then suc (length before) else n) 0 log
+-- the page's entry in the page recovery index, and whether its segment is unrestored
+pub record IsListed (opens : List Record → Type 0) (h : List Entry) (page : ℕ) (x : Listed) : Type 0 where
+  pub ends : (opening : List Record) → opens opening → x.ends ≡ page_head (life_log opening h) page
+  pub unrestored : (opening : List Record) → opens opening → x.unrestored ≡ list_any (λ s. s == segment_of page) (unrestored (life_log opening h))
 
--- the LSN of the oldest of these open writes, or this one
-abbrev pub oldest : List OpenWrite → ℕ → ℕ
-oldest [] other = other
-oldest (w ∷ ws) other = min w.lsn other
-
--- The recycle point: what stands before it is needed by no opening, no undo and no archive run. Without a checkpoint
--- all is needed.
-abbrev pub recycle_point : List Record → ℕ
-recycle_point log =
-    let needed = fold (λ n t. oldest (open_list log t) n) (suc (archived (standing_runs log))) (losers log) in
-    if last_checkpoint log == 0 then 1 else min (last_checkpoint log) needed
+-- The least loser that has no end yet, the least segment that is unrestored, how many runs stand, and the last LSN that
+-- they have; up to which LSN the log is durable, as the pass has seen.
+pub record IsWork (opens : List Record → Type 0) (seen : PassSeen Entry) (x : Work) : Type 0 where
+  pub loser : (opening : List Record) → opens opening → x.loser ≡ first_of (losers_left opening seen.log)
+  pub segment : (opening : List Record) → opens opening → x.segment ≡ first_of (unrestored (life_log opening seen.log))
+  pub runs : (opening : List Record) → opens opening → x.runs ≡ length (standing_runs (life_log opening seen.log))
+  pub archived : (opening : List Record) → opens opening → x.archived ≡ archived (standing_runs (life_log opening seen.log))
+  pub durable : x.durable ≡ seen.durable
+  pub most : (opening : List Record) → opens opening → x.durable ≤ length (life_log opening seen.log)
 
 -- the log has the record with this LSN, or this run has it
 abbrev pub IsFound : (List Record → Type 0) → List Entry → ℕ → Found → Type 0

@@ -4,6 +4,7 @@ use Rattle.std.specs.Prelude.{◌≡◌, ◌≢◌, ◌⊎◌, IsTrue, IfSome, S
 use Rattle.std.specs.List.{list_any, list_all}
 use Rattle.std.specs.Option.{option_map_or}
 use mathlib.Core.List.{IsPrefix}
+use Rattle.front.specs.Seen.{PassSeen}
 use Rattle.store_model.specs.Along.{along}
 use Rattle.wal_record.specs.Chains.{Link, link_of}
 use Rattle.wal_record.specs.History.{Beginning, beginnings, life_log}
@@ -18,7 +19,7 @@ use Rattle.page_ops.specs.Claims.{Claims, Agree, no_claims}
 
 -- ---- what is true of a history whenever the journal is free
 
--- Whatever log the life began with, the history is legal after it, and the log of the life sound and not empty. Each
+-- Whatever log the life began with, the history is legal after it, and the log of the life sound, and not empty. Each
 -- write was told, and each split of a leaf has the write that it was made for.
 pub record IsConsistent (opens : List Record → Type 0) (h : List Entry) : Type 0 where
   pub legal : (opening : List Record) → opens opening → IsLegal opening h
@@ -65,26 +66,27 @@ pub record Counted : Type 0 where
   pub amount : ℕ
 
 -- of an object through which a thread calls the journal: the entries entered through it, those among them that belong
--- to sessions, the faults of the log disk and of the vault at device calls made through it; the LSN up to which it
--- knows the log to be durable; and that LSN as the life ended, where it knows that the life has ended
+-- to sessions, the faults of the log disk and of the vault at device calls made through it, and the sessions and desks
+-- made through it; and the LSN up to which the log was durable as the life ended, where it knows that the life has ended
 pub record Account : Type 0 where
   pub entries : Counted
   pub session_entries : Counted
   pub log_faults : Counted
   pub vault_faults : Counted
-  pub durable : ℕ
+  pub made : Counted
   pub ended : Option ℕ
 
--- with what its pass has seen, and the claims of its rights
+-- with what its pass has seen, a beginning of the history and a durable number, and the claims of its rights
 pub record Known : Type 0 where
   pub account : Account
   pub log : List Entry
+  pub durable : ℕ
   pub claims : Claims
 
-abbrev pub known : Account → List Entry → Claims → Known
-known account log claims = record { account = account; log = log; claims = claims }
+abbrev pub known : Account → PassSeen Entry → Claims → Known
+known account seen claims = record { account = account; log = seen.log; durable = seen.durable; claims = claims }
 
--- parts don't change, counts don't fall, and a known end stays
+-- Parts don't change, counts don't fall, no session and no desk is made, and a known end stays.
 pub record Keeps (old new : Account) : Type 0 where
   pub entry_parts : new.entries.parts ≡ old.entries.parts
   pub session_parts : new.session_entries.parts ≡ old.session_entries.parts
@@ -92,7 +94,7 @@ pub record Keeps (old new : Account) : Type 0 where
   pub vault_parts : new.vault_faults.parts ≡ old.vault_faults.parts
   pub log_faults : old.log_faults.amount ≤ new.log_faults.amount
   pub vault_faults : old.vault_faults.amount ≤ new.vault_faults.amount
-  pub durable : old.durable ≤ new.durable
+  pub made : new.made ≡ old.made
   pub ended : IfSome old.ended (λ at. new.ended ≡ Some at)
 
 -- whoever has all parts of both ledgers of entries has entered all that its pass has seen
@@ -100,20 +102,21 @@ pub record HasTotals (entries sessions : LedgerName) (x : Account) (h : List Ent
   pub all : x.entries.parts ≡ entries.parts → length h ≡ x.entries.amount
   pub of_sessions : x.session_entries.parts ≡ sessions.parts → of_sessions h ≡ x.session_entries.amount
 
--- The call found the history at some moment, and added these entries. The caller has then seen it whole. The claims
--- agreed with it at that moment, and the new ones agree with it now.
+-- The call found the history at some moment, and added these entries. The caller has then seen it whole, and no smaller
+-- durable number than before. The claims agreed with it at that moment, and the new ones agree with it now.
 pub record Enters (opens : List Record → Type 0) (entries sessions : LedgerName) (old : Known) (es : List Entry) (new : Known) : Type 0 where
   pub moment : List Entry
   pub found : IsMoment opens old.log old.claims moment
   pub is : new.log ≡ moment ++ es
   pub now : IsMoment opens old.log new.claims new.log
+  pub durable : old.durable ≤ new.durable
   pub keeps : Keeps old.account new.account
   pub counted : new.account.entries.amount ≡ old.account.entries.amount + length es
   pub sessions_counted : new.account.session_entries.amount + of_sessions moment ≡ old.account.session_entries.amount + of_sessions new.log
   pub totals : HasTotals entries sessions new.account new.log
 
 -- the call adds nothing, and no right is handed in
-abbrev pub Looks : (List Record → Type 0) → LedgerName → LedgerName → Account → List Entry → Account → List Entry → Type 0
+abbrev pub Looks : (List Record → Type 0) → LedgerName → LedgerName → Account → PassSeen Entry → Account → PassSeen Entry → Type 0
 Looks opens entries sessions old seen new now = Enters opens entries sessions (known old seen no_claims) [] (known new now no_claims)
 
 -- ---- calls that enter several times
@@ -132,6 +135,7 @@ pub record Upholds (opens : List Record → Type 0) (entries sessions : LedgerNa
   pub among : IsAmong own gained
   pub kinds : IsTrue (list_all kind own)
   pub consistent : IsConsistent opens new.log
+  pub durable : old.durable ≤ new.durable
   pub keeps : Keeps old.account new.account
   pub counted : new.account.entries.amount ≡ old.account.entries.amount + length own
   pub sessions_counted : new.account.session_entries.amount ≡ old.account.session_entries.amount

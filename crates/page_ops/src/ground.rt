@@ -1,3 +1,4 @@
+//! The shared words of a life.
 use crate::life::Life;
 use books::BookTables;
 use front::Board;

@@ -1,3 +1,4 @@
+//! A page in hand.
 use crate::life::Life;
 use books::PageRight;
 use front::Pass;

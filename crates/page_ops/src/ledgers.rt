@@ -60,6 +60,17 @@ impl<N: Life> Ledger for DataFaults<N> {
     ghost parts = { N.data_faults.parts };
 }
 
+/// The ledger of the sessions and desks of the life. Its total is how many were made.
+pub struct Made<N> {
+    life: PhantomData<N>,
+}
+
+impl<N: Life> Ledger for Made<N> {
+    ghost name = { N.made.name };
+
+    ghost parts = { N.made.parts };
+}
+
 /// A ledger in which nobody counts yet.
 #[derive(Drop)]
 pub struct NewLedger<L: Ledger> {

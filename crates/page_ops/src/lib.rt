@@ -6,10 +6,10 @@
 //! may have begun. It has ghost members alone, so it costs nothing. Every token of a life, and every value that holds
 //! one, has that type parameter. A lock round such a value still tells which life it is of.
 //!
-//! - [`Unnamed`] is what a life is made from, before it has a name: a count, a shelf and five blank ledgers.
+//! - [`Unnamed`] is what a life is made from, before it has a name: a count, a shelf and six blank ledgers.
 //! - [`Unnamed::split`] makes of it the [`Ground`], which has the words that threads share, and the [`Tokens`]: the
-//!   front, a first pass, the three books and the five ledgers. The call that splits it picks the names from what it
-//!   splits, so no two lives share a count, a book or a ledger.
+//!   front, the mark, a first pass, the three books and the six ledgers. The call that splits it picks the names from
+//!   what it splits, so no two lives share a count, a book or a ledger.
 //! - [`Held`] is a page in somebody's hand, with the one right to it. [`Rights`] are what a call of the journal is handed.
 //! - [`Entering`] and [`Journaling`] are a thread's way to the journal, [`Pages`] is its way to the pages of a pool. Each
 //!   has the same contract whether one thread owns what lies behind it or threads share it under a lock.
@@ -18,10 +18,11 @@
 //! total is the sum of the shares' amounts, so whoever holds all parts of a ledger knows its total.
 //!
 //! The model of a call is what its caller knows (`specs/Seeing`): what its pass has seen of the history, what its rights
-//! claim, and its shares of the ledgers. What is promised:
+//! claim, and its shares of the ledgers. What several calls enter together is `specs/Gains`. What is promised:
 //!
 //! 1. Each call of the journal is one hold of its lock. It finds the history at some moment, adds exactly the entries that
-//!    its answer names, and shows the pass the whole history (`Enters`).
+//!    its answer names, and shows the pass the whole history (`Enters`). The durable number that the pass has seen never
+//!    falls; a flush, a recycling and a commit say how far it has risen.
 //! 2. Then the history is legal, the log of the life sound, and no group is half entered (`IsConsistent`).
 //! 3. The rights handed in agree with their books at that moment, and those handed back agree then (`Agree`). So what a
 //!    right stands for, nobody else has changed since.
@@ -51,9 +52,9 @@ pub use ground::Ground;
 pub use group::{Group, Said};
 pub use held::Held;
 pub use journaling::Journaling;
-pub use ledgers::{DataFaults, Entries, LogFaults, NewLedger, SessionEntries, VaultFaults};
+pub use ledgers::{DataFaults, Entries, LogFaults, Made, NewLedger, SessionEntries, VaultFaults};
 pub use life::Life;
-pub use outcome::{Committed, Entered, Found, Grant, Survey};
+pub use outcome::{Committed, Entered, Found, Grant, Listed, Survey, Work};
 pub use pages::Pages;
 pub use rights::Rights;
 pub use taken::Taken;

@@ -1,3 +1,4 @@
+//! The name of a life.
 use books::BookNames;
 use front::CountName;
 use std::marker::Brand;
@@ -26,6 +27,9 @@ pub trait Life: CountName + BookNames {
     /// The ledger of the data device's faults in this life.
     ghost data_faults: { LedgerName };
 
+    /// The ledger of the sessions and desks that were made.
+    ghost made: { LedgerName };
+
     /// The log disk's count of faults when the life began.
     ghost log_faults_before: { ℕ };
 
@@ -50,6 +54,8 @@ impl Life for Brand {
     ghost vault_faults = { no_ledger };
 
     ghost data_faults = { no_ledger };
+
+    ghost made = { no_ledger };
 
     ghost log_faults_before = { 0 };
 

@@ -1,7 +1,7 @@
 //! What the calls of a journal answer.
 
 use store_model::{List, Lsn, Pos, TxId};
-use wal_record::{Analysis, Record, Run};
+use wal_record::{Analysis, PageHead, Record, Run};
 
 /// What became of a group.
 #[derive(Debug, Drop)]
@@ -54,6 +54,30 @@ pub struct Survey {
     pub first_kept: Lsn,
     /// The last LSN.
     pub last: Lsn,
+    /// Up to which LSN the log is durable.
+    pub durable: Lsn,
+}
+
+/// What a bring needs to know of a page.
+#[derive(Drop)]
+pub struct Listed {
+    /// The ends of its traces.
+    pub ends: PageHead,
+    /// Whether its segment is unrestored.
+    pub unrestored: bool,
+}
+
+/// What a step of help may work on.
+#[derive(Drop)]
+pub struct Work {
+    /// The least loser that has no End.
+    pub loser: Option<TxId>,
+    /// The least segment that is unrestored.
+    pub segment: Option<u32>,
+    /// How many archive runs stand.
+    pub runs: u32,
+    /// The last LSN that they have.
+    pub archived: Lsn,
     /// Up to which LSN the log is durable.
     pub durable: Lsn,
 }

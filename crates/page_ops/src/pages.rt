@@ -1,6 +1,7 @@
+//! The way to the pages of a pool.
 ghost use Rattle.std.specs.Prelude.{◌≡◌, ℕ, List, Some, None, IsSome, true, false, ◌+◌, ◌-◌, ◌<◌, ◌^◌, min, OnOk, OnErr, IfOk, IfErr};
 ghost use Rattle.wal_record.specs.declared.record.Record.{Record};
-ghost use Rattle.page_ops.specs.Causes.{FailsToBring, FailsToReserve};
+ghost use Rattle.page_ops.specs.Causes.{FailsToBring, FailsToReserve, MeetsNoEnd};
 ghost use Rattle.page_ops.specs.Claims.{no_claims};
 ghost use Rattle.page_ops.specs.Desks.{Desk, IsMade, KeepsFaults};
 ghost use Rattle.page_ops.specs.Seeing.{Upholds, is_upkeep, known};
@@ -59,8 +60,9 @@ pub trait Pages<N: Life, J: Entering<N>> {
         requires made { IsMade N.opens pass.old.log page }
         ensures out { ((desk self.new).out ≡ 0) × ((desk self.new).reserves ≡ (desk self.old).reserves) }
         ensures faults { KeepsFaults (desk self.old).faults (desk self.new).faults }
-        ensures entered { Upholds N.opens N.entries N.session_entries is_upkeep (known (J.account journal.old) pass.old.log no_claims) (known (J.account journal.new) pass.new.log no_claims) }
-        ensures refused { IfErr result (FailsToBring N.opens N.log_faults (desk self.old).faults (desk self.new).faults (J.account journal.old) (J.account journal.new) pass.new.log) };
+        ensures entered { Upholds N.opens N.entries N.session_entries is_upkeep (known (J.account journal.old) pass.old no_claims) (known (J.account journal.new) pass.new no_claims) }
+        ensures open { OnOk result (MeetsNoEnd (J.account journal.old) (J.account journal.new)) }
+        ensures refused { IfErr result (FailsToBring N.opens N.log_faults N.made (desk self.old).faults (desk self.new).faults (J.account journal.old) (J.account journal.new) pass.new.log) };
 
     /// Drops the page in hand and brings it from its backup or from nothing, and its chain, without a look at the data
     /// device. After a refusal it is in no frame.
@@ -77,8 +79,9 @@ pub trait Pages<N: Life, J: Entering<N>> {
         ensures held { held.new ≡ None }
         ensures out { ((desk self.new).out ≡ 0) × ((desk self.new).reserves ≡ (desk self.old).reserves) }
         ensures faults { KeepsFaults (desk self.old).faults (desk self.new).faults }
-        ensures entered { Upholds N.opens N.entries N.session_entries is_upkeep (known (J.account journal.old) pass.old.log no_claims) (known (J.account journal.new) pass.new.log no_claims) }
-        ensures refused { IfErr result (FailsToBring N.opens N.log_faults (desk self.old).faults (desk self.new).faults (J.account journal.old) (J.account journal.new) pass.new.log) };
+        ensures entered { Upholds N.opens N.entries N.session_entries is_upkeep (known (J.account journal.old) pass.old no_claims) (known (J.account journal.new) pass.new no_claims) }
+        ensures open { OnOk result (MeetsNoEnd (J.account journal.old) (J.account journal.new)) }
+        ensures refused { IfErr result (FailsToBring N.opens N.log_faults N.made (desk self.old).faults (desk self.new).faults (J.account journal.old) (J.account journal.new) pass.new.log) };
 
     /// Puts the page back into its frame. It takes no memory.
     fn put_back<R: Wait>(&mut self, rt: &R, held: &mut Option<Held<N>>)
@@ -100,8 +103,9 @@ pub trait Pages<N: Life, J: Entering<N>> {
         ensures same { OnErr result ((desk self.new).reserves ≡ (desk self.old).reserves) }
         ensures out { (desk self.new).out ≡ (desk self.old).out }
         ensures faults { KeepsFaults (desk self.old).faults (desk self.new).faults }
-        ensures entered { Upholds N.opens N.entries N.session_entries is_upkeep (known (J.account journal.old) pass.old.log no_claims) (known (J.account journal.new) pass.new.log no_claims) }
-        ensures refused { IfErr result (FailsToReserve N.opens N.log_faults (desk self.old).faults (desk self.new).faults (J.account journal.old) (J.account journal.new) pass.new.log) };
+        ensures entered { Upholds N.opens N.entries N.session_entries is_upkeep (known (J.account journal.old) pass.old no_claims) (known (J.account journal.new) pass.new no_claims) }
+        ensures open { OnOk result (MeetsNoEnd (J.account journal.old) (J.account journal.new)) }
+        ensures refused { IfErr result (FailsToReserve N.opens N.log_faults N.made (desk self.old).faults (desk self.new).faults (J.account journal.old) (J.account journal.new) pass.new.log) };
 
     /// Puts a new page into the reserved frame. It takes no memory.
     fn put_new<R: Wait>(&mut self, rt: &R, held: &mut Option<Held<N>>)

@@ -1,9 +1,11 @@
+//! The rights that go with a group of records.
 use crate::life::Life;
 use books::{MaintRight, PageRight, SessionRight};
 use std::marker::Model;
 
 /// The rights that a call is handed, and hands back with their new numbers: to the pages that its records name, to the
-/// page that they make, to the session, and to maintenance. Contracts see what they claim.
+/// page that they make, to the session, and to maintenance. Contracts see what they claim. The numbers of pages and LSNs
+/// are in their ranges, also where the log isn't told.
 #[derive(Drop)]
 pub struct Rights<N: Life> {
     /// To a page that a record names.
@@ -19,11 +21,13 @@ pub struct Rights<N: Life> {
 }
 
 impl<N: Life> Model for Rights<N> {
-    ghost use Rattle.page_ops.specs.Claims.{Claims};
+    ghost use Rattle.page_ops.specs.Claims.{AreInRange, Claims};
 
     ghost Value = { Claims };
 
     ghost view = { λ r. record { a = r.a; b = r.b; c = r.c; s = r.s; m = r.m } };
+
+    ghost invariant = { λ r. AreInRange (record { a = r.a; b = r.b; c = r.c; s = r.s; m = r.m }) };
 }
 
 impl<N: Life> Rights<N> {

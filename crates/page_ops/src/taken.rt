@@ -1,3 +1,5 @@
+//! What came of taking a page.
+
 /// What came of taking a page.
 #[derive(Drop)]
 pub enum Taken<T> {

@@ -1,3 +1,4 @@
+//! A life is split and its tokens are used.
 ghost use Rattle.std.specs.Prelude.{◌≡◌, ◌+◌, ◌<◌, ◌^◌, [], ◌∷◌, length};
 ghost use Rattle.page_ops.specs.Names.{life_names};
 
@@ -16,7 +17,7 @@ use wal_record::Entry;
 
 const ROUNDS: u64 = 200;
 
-// The history of a stub life, which lies behind one lock.
+/// The history of a stub life, which lies behind one lock.
 #[derive(Drop)]
 struct Journal<'a, N: Life> {
     ground: &'a Ground<N>,
@@ -37,7 +38,7 @@ impl<'a, N: Life> Model for Journal<'a, N> {
     ghost invariant = { λ j. (length j.front ≡ j.count) × (j.entries.total ≡ j.count) };
 }
 
-// A thread of the stub life: its session's right, what it has seen, and how many entries it entered.
+/// A thread of the stub life: its session's right, what it has seen, and how many entries it entered.
 #[derive(Drop)]
 struct Worker<N: Life> {
     right: Option<SessionRight<N>>,
@@ -59,7 +60,7 @@ fn add<N: Life, A: Added<Entry>>(
 }
 
 impl<'a, N: Life> Journal<'a, N> {
-    // Enters an entry of the worker's session, and raises its right.
+    /// Enters an entry of the worker's session, and raises its right.
     fn enter(&mut self, worker: &mut Worker<N>) {
         let Some(right) = worker.right.take() else {
             return;
@@ -85,7 +86,7 @@ fn work<'a, N: Life>(rt: &impl Wait, journal: &Mutex<Journal<'a, N>>, worker: &m
     }
 }
 
-// What the history's length, the whole share and a last pass say, and each worker's right.
+/// What the history's length, the whole share and a last pass say, and each worker's right.
 fn on_ground<'a, N: Life + Send + Sync, R: Threads + Wait + Sync>(
     rt: &R,
     alloc: Global,
@@ -98,6 +99,7 @@ fn on_ground<'a, N: Life + Send + Sync, R: Threads + Wait + Sync>(
 {
     let Tokens {
         front,
+        mark: _,
         mut pass,
         books,
         entries,
@@ -105,6 +107,7 @@ fn on_ground<'a, N: Life + Send + Sync, R: Threads + Wait + Sync>(
         log_faults: _,
         vault_faults: _,
         data_faults: _,
+        made: _,
     } = tokens;
     let Books {
         pages: _,
@@ -160,7 +163,7 @@ fn stub_life<N: Life + Send + Sync, R: Threads + Wait + Sync>(
     alloc: Global,
     unnamed: Unnamed,
 ) -> Result<([u64; 2], Vec<u64>), Memory>
-    requires named { unnamed ≡ life_names N.count N.pages N.sessions N.maint N.entries N.session_entries N.log_faults N.vault_faults N.data_faults }
+    requires named { unnamed ≡ life_names N.count N.pages N.sessions N.maint N.entries N.session_entries N.log_faults N.vault_faults N.data_faults N.made }
     requires parts { N.entries.parts ≡ 3 }
 {
     let (ground, tokens) = unnamed.split::<N>();

@@ -1,11 +1,14 @@
+//! What a life is made from, and what it begins with.
 ghost use Rattle.std.specs.Prelude.{◌≡◌, [], IfOk};
 ghost use Rattle.page_ops.specs.Names.{life_names, HasParts};
 
 use crate::ground::Ground;
-use crate::ledgers::{DataFaults, Entries, LogFaults, NewLedger, SessionEntries, VaultFaults};
+use crate::ledgers::{
+    DataFaults, Entries, LogFaults, Made, NewLedger, SessionEntries, VaultFaults,
+};
 use crate::life::Life;
 use books::{Books, Shelf};
-use front::{Count, Front, Pass};
+use front::{Count, Front, Mark, Pass};
 use std::alloc::Global;
 use std::marker::Model;
 use std::sync::ledger::Blank;
@@ -22,6 +25,7 @@ pub struct Unnamed {
     log_faults: Blank,
     vault_faults: Blank,
     data_faults: Blank,
+    made: Blank,
 }
 
 impl Model for Unnamed {
@@ -39,6 +43,7 @@ impl Model for Unnamed {
       log_faults = record { name = u.log_faults.name; parts = u.log_faults.parts };
       vault_faults = record { name = u.vault_faults.name; parts = u.vault_faults.parts };
       data_faults = record { name = u.data_faults.name; parts = u.data_faults.parts };
+      made = record { name = u.made.name; parts = u.made.parts };
     } };
 }
 
@@ -46,6 +51,7 @@ impl Model for Unnamed {
 #[derive(Drop)]
 pub struct Tokens<N: Life> {
     pub front: Front<Entry, N>,
+    pub mark: Mark<Entry, N>,
     pub pass: Pass<Entry, N>,
     pub books: Books<N>,
     pub entries: NewLedger<Entries<N>>,
@@ -53,6 +59,7 @@ pub struct Tokens<N: Life> {
     pub log_faults: NewLedger<LogFaults<N>>,
     pub vault_faults: NewLedger<VaultFaults<N>>,
     pub data_faults: NewLedger<DataFaults<N>>,
+    pub made: NewLedger<Made<N>>,
 }
 
 impl Unnamed {
@@ -68,14 +75,16 @@ impl Unnamed {
             log_faults: Blank::new(parts),
             vault_faults: Blank::new(parts),
             data_faults: Blank::new(parts),
+            made: Blank::new(parts),
         })
     }
 
     /// The words to share, and what the life begins with.
     pub fn split<N: Life>(self) -> (Ground<N>, Tokens<N>)
-        requires named { self ≡ life_names N.count N.pages N.sessions N.maint N.entries N.session_entries N.log_faults N.vault_faults N.data_faults }
+        requires named { self ≡ life_names N.count N.pages N.sessions N.maint N.entries N.session_entries N.log_faults N.vault_faults N.data_faults N.made }
         ensures front { result.1.front ≡ [] }
-        ensures pass { result.1.pass.log ≡ [] }
+        ensures mark { result.1.mark ≡ 0 }
+        ensures pass { result.1.pass ≡ record { log = []; durable = 0 } }
         ensures pages { result.1.books.pages ≡ [] }
         ensures sessions { result.1.books.sessions ≡ [] }
         ensures maint { result.1.books.maint ≡ [] }
@@ -88,11 +97,13 @@ impl Unnamed {
             log_faults,
             vault_faults,
             data_faults,
+            made,
         } = self;
-        let (board, front, pass) = count.split::<N>();
+        let (board, front, mark, pass) = count.split::<N>();
         let (tables, books) = shelf.split::<N>();
         let tokens = Tokens {
             front,
+            mark,
             pass,
             books,
             entries: NewLedger::of(entries),
@@ -100,6 +111,7 @@ impl Unnamed {
             log_faults: NewLedger::of(log_faults),
             vault_faults: NewLedger::of(vault_faults),
             data_faults: NewLedger::of(data_faults),
+            made: NewLedger::of(made),
         };
         (Ground { board, tables }, tokens)
     }

@@ -1,0 +1,5 @@
+pub mod Sharing
+pub mod Staying
+pub mod Following
+pub mod Redoing
+pub mod RebuiltPages

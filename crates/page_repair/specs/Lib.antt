@@ -1,2 +1,4 @@
 pub mod Chains
+pub mod Images
 pub mod Supplies
+pub mod Rebuild

@@ -1,4 +1,5 @@
-ghost use Rattle.std.specs.Prelude.{◌≡◌, ◌+◌, ◌-◌, ◌^◌, ◌≤◌, ℕ, List, Option, Some, min, IsTrue, IfOk, IfErr, IfSome, OnOk};
+//! The records of a page, one by one.
+ghost use Rattle.std.specs.Prelude.{◌≡◌, ◌↔◌, ◌+◌, ◌-◌, ◌^◌, ◌≤◌, ℕ, List, Option, Some, min, IsTrue, IfOk, IfErr, IfSome, OnOk};
 ghost use Rattle.wal_record.specs.Chains.{names_at, record_with};
 ghost use Rattle.wal_record.specs.Rules.{HasSpelling};
 ghost use Rattle.wal_record.specs.State.{KeepsState};
@@ -50,7 +51,7 @@ pub trait Chain {
         requires named { (log : List Record) → answers self.old log → IsTrue (names_at log lsn page) }
         ensures found { (log : List Record) → answers self.old log → IfOk result (λ r. record_with log lsn ≡ Some r) }
         ensures spelling { IfOk result HasSpelling }
-        ensures answers { (log : List Record) → answers self.old log → answers self.new log }
+        ensures answers { (log : List Record) → answers self.old log ↔ answers self.new log }
         ensures counted { calls self.new ≡ calls self.old + 1 }
         ensures faults { KeepsFaults (faults self.old) (faults self.new) }
         ensures ended { IfSome (ended self.old) (λ at. (ended self.new ≡ Some at) × SaysEnd at result) }
@@ -67,7 +68,7 @@ pub trait Chain {
         requires last { (log : List Record) → answers self.old log → (1 ≤ backup) × (backup ≡ (page_backup log page).backup) }
         ensures found { (log : List Record) → answers self.old log → IfOk result (IsBackup log page) }
         ensures keeps { IfOk result (λ x. KeepsState x.state) }
-        ensures answers { (log : List Record) → answers self.old log → answers self.new log }
+        ensures answers { (log : List Record) → answers self.old log ↔ answers self.new log }
         ensures counted { calls self.new ≡ calls self.old }
         ensures faults { KeepsFaults (faults self.old) (faults self.new) }
         ensures ended { ended self.new ≡ ended self.old }

@@ -1,5 +1,6 @@
+//! What a pool gets from beyond its device.
 ghost use Rattle.std.specs.Prelude.{◌≡◌, ◌-◌, ◌^◌, ◌≤◌, ℕ, List, min, IfOk, IfErr, IfSome, OnOk};
-ghost use Rattle.page_ops.specs.Causes.{FailsToBring};
+ghost use Rattle.page_ops.specs.Causes.{FailsToBring, MeetsNoEnd};
 ghost use Rattle.page_ops.specs.Claims.{no_claims};
 ghost use Rattle.page_ops.specs.Desks.{Faults, IsMade, KeepsFaults};
 ghost use Rattle.page_ops.specs.Seeing.{Upholds, is_none, known};
@@ -44,8 +45,9 @@ pub trait Supply<N: Life, J: Journaling<N>> {
         ensures spoiled { D.tells → KeepsSpoiled D.spoiled page device.old device.new }
         ensures device { D.faults device.old ≤ D.faults device.new }
         ensures faults { KeepsFaults (faults self.old) (faults self.new) }
-        ensures entered { Upholds N.opens N.entries N.session_entries is_restored (known (J.account journal.old) pass.old.log no_claims) (known (J.account journal.new) pass.new.log no_claims) }
-        ensures refused { IfErr result (FailsToBring N.opens N.log_faults (faults self.old) (faults self.new) (J.account journal.old) (J.account journal.new) pass.new.log) };
+        ensures entered { Upholds N.opens N.entries N.session_entries is_restored (known (J.account journal.old) pass.old no_claims) (known (J.account journal.new) pass.new no_claims) }
+        ensures open { OnOk result (MeetsNoEnd (J.account journal.old) (J.account journal.new)) }
+        ensures refused { IfErr result (FailsToBring N.opens N.log_faults N.made (faults self.old) (faults self.new) (J.account journal.old) (J.account journal.new) pass.new.log) };
 
     /// The page at this head, from the base or else from its last backup, or from nothing where it has none, and from
     /// the records of its chain that came later. It enters nothing.
@@ -63,6 +65,7 @@ pub trait Supply<N: Life, J: Journaling<N>> {
         requires head { IsHead N.opens pass.old.log page head }
         ensures rebuilt { IfOk result (IsRebuilt N.opens pass.new.log page head) }
         ensures faults { KeepsFaults (faults self.old) (faults self.new) }
-        ensures entered { Upholds N.opens N.entries N.session_entries is_none (known (J.account journal.old) pass.old.log no_claims) (known (J.account journal.new) pass.new.log no_claims) }
-        ensures refused { IfErr result (FailsToBring N.opens N.log_faults (faults self.old) (faults self.new) (J.account journal.old) (J.account journal.new) pass.new.log) };
+        ensures entered { Upholds N.opens N.entries N.session_entries is_none (known (J.account journal.old) pass.old no_claims) (known (J.account journal.new) pass.new no_claims) }
+        ensures open { OnOk result (MeetsNoEnd (J.account journal.old) (J.account journal.new)) }
+        ensures refused { IfErr result (FailsToBring N.opens N.log_faults N.made (faults self.old) (faults self.new) (J.account journal.old) (J.account journal.new) pass.new.log) };
 }

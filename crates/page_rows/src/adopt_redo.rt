@@ -7,9 +7,9 @@ ghost use Rattle.page_rows.specs.Redo.{Changed, Always, with_branch_row};
 ghost use Rattle.page_rows.specs.Rows.{IsBranch, row_count, BranchGap};
 
 use crate::leaf_redo::has_own;
-use crate::sizes::{PAGE_ROOM, branch_row_bytes, state_bytes};
+use crate::sizes::{branch_row_bytes, state_bytes};
 use crate::spot::{Spot, branch_spot};
-use store_model::{Bound, Memory};
+use store_model::{Bound, Memory, STATE_BYTES};
 use wal_record::{Adopt, BranchRow, PageState, Rows};
 
 /// Redoes an adoption in the parent, which gets a row for the child.
@@ -59,7 +59,7 @@ fn put_branch_row(state: &mut PageState, i: usize, row: BranchRow) -> Result<boo
     ensures done { IfOk result (Changed Always (with_branch_row row i) state.old state.new) }
     ensures err { OnErr result (state.new ≡ state.old) }
 {
-    let free = PAGE_ROOM - state_bytes(state);
+    let free = STATE_BYTES - state_bytes(state);
     if branch_row_bytes(&row) > free {
         return Ok(false);
     }

@@ -1,4 +1,4 @@
-//! States again, in memory of their own.
+//! States, and parts of them, again, in memory of their own.
 ghost use Rattle.std.specs.Prelude.{◌≡◌, IfOk, OnOk};
 
 use std::alloc::Global;
@@ -19,7 +19,8 @@ pub fn copied_state(alloc: Global, state: &PageState) -> Result<PageState, Memor
     })
 }
 
-fn copied_bound(bound: &Bound) -> Bound
+/// The same bound again; it takes no memory.
+pub fn copied_bound(bound: &Bound) -> Bound
     ensures { result ≡ bound.now }
 {
     match bound.as_bytes() {
@@ -31,7 +32,8 @@ fn copied_bound(bound: &Bound) -> Bound
     }
 }
 
-fn copied_foster(foster: &Option<Foster>) -> Option<Foster>
+/// The same foster pointer again; it takes no memory.
+pub fn copied_foster(foster: &Option<Foster>) -> Option<Foster>
     ensures { result ≡ foster.now }
 {
     match foster {
@@ -58,7 +60,8 @@ fn copied_rows(alloc: Global, rows: &Rows) -> Result<Rows, Memory>
     }
 }
 
-fn copied_leaf_rows(alloc: Global, rows: &[LeafRow]) -> Result<List<LeafRow>, Memory>
+/// The same rows of a leaf again.
+pub fn copied_leaf_rows(alloc: Global, rows: &[LeafRow]) -> Result<List<LeafRow>, Memory>
     ensures { IfOk result (λ r. r ≡ rows.now) }
 {
     let mut again = List::new(alloc);
@@ -72,7 +75,8 @@ fn copied_leaf_rows(alloc: Global, rows: &[LeafRow]) -> Result<List<LeafRow>, Me
     Ok(again)
 }
 
-fn copied_branch_rows(alloc: Global, rows: &[BranchRow]) -> Result<List<BranchRow>, Memory>
+/// The same rows of a branch again.
+pub fn copied_branch_rows(alloc: Global, rows: &[BranchRow]) -> Result<List<BranchRow>, Memory>
     ensures { IfOk result (λ r. r ≡ rows.now) }
 {
     let mut again = List::new(alloc);

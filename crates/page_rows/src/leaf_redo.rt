@@ -8,12 +8,12 @@ ghost use Rattle.wal_record.specs.Images.{IsLeafOf, CanWrite, CanUndo, CanPurge,
 ghost use Rattle.page_rows.specs.Rows.{IsLeaf, IsSpot, row_count, IsWithin};
 ghost use Rattle.page_rows.specs.Redo.{Changed, Always, placed, with_row, live_in, CanApplyTo, Placed, IsNoLonger, is_tombstone};
 
-use crate::sizes::{PAGE_ROOM, leaf_row_bytes, state_bytes};
+use crate::sizes::{leaf_row_bytes, state_bytes};
 use crate::spot::{Spot, leaf_spot};
 use operators::Operators;
 use std::alloc::Global;
 use std::mem;
-use store_model::{Key, List, Memory, Value};
+use store_model::{Key, List, Memory, STATE_BYTES, Value};
 use wal_record::{Apply, LeafRow, PageState, Rows, Undo, Write};
 
 /// Redoes a write.
@@ -190,7 +190,7 @@ fn room_for(state: &PageState, spot: Spot, row: &LeafRow) -> usize
     if is_no_longer(state, spot, row) {
         0
     } else {
-        PAGE_ROOM - state_bytes(state)
+        STATE_BYTES - state_bytes(state)
     }
 }
 
@@ -209,7 +209,7 @@ fn is_no_longer(state: &PageState, spot: Spot, row: &LeafRow) -> bool
 
 /// Puts a row at the spot of its key, if that makes the rows no more than `free` bytes longer.
 fn place(rows: &mut List<LeafRow>, free: usize, spot: Spot, row: LeafRow) -> Result<bool, Memory>
-    requires small { free ≤ 4051 }
+    requires small { free ≤ page_room }
     requires place { IsWithin spot (length rows.old) }
     ensures done { IfOk result (Placed row spot free rows.old rows.new) }
     ensures err { OnErr result (rows.new ≡ rows.old) }

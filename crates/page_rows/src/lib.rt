@@ -9,7 +9,8 @@
 //! binary digits. The changes give exactly the rows that the definitions say, or leave the state as it was where memory
 //! runs out. [`free_bytes`] and [`split_point`] are the definitions of `wal_record`. [`redo`] answers true exactly where
 //! the record names the page and is applicable to its state, which is then what the definition `applied` makes of it;
-//! else it changes nothing. A state that keeps the rules of a state keeps them.
+//! else it changes nothing. A state that keeps the rules of a state keeps them. Copies are the same state, or part of one, or
+//! memory has run out.
 #![tactic(auto)]
 
 mod adopt_redo;
@@ -23,6 +24,7 @@ mod split_redo;
 mod spot;
 
 pub use change::{insert_at, replace_at, set_tombstone};
+pub use copied::{copied_bound, copied_branch_rows, copied_foster, copied_leaf_rows, copied_state};
 pub use records::{names, redo};
 pub use sizes::{free_bytes, split_point};
 pub use spot::{Spot, search};

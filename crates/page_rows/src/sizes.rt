@@ -3,18 +3,15 @@ ghost use Rattle.std.specs.Prelude.{◌≡◌, ◌≤◌, map};
 ghost use Rattle.std.specs.List.{sum_by};
 ghost use Rattle.wal_record.specs.State.{leaf_row_size, branch_row_size, row_sizes, rows_size, high_size, foster_size, state_size, page_room, free_bytes, split_point};
 
-use store_model::Bound;
+use store_model::{Bound, STATE_BYTES};
 use wal_record::{BranchRow, Foster, LeafRow, PageState, Rows};
-
-/// The bytes that a state may have.
-pub(crate) const PAGE_ROOM: usize = 4051;
 
 /// How many bytes a state may grow by.
 pub fn free_bytes(state: &PageState) -> u32
     requires { state_size state.now ≤ page_room }
     ensures { result ≡ free_bytes state.now }
 {
-    (PAGE_ROOM - state_bytes(state)) as u32
+    (STATE_BYTES - state_bytes(state)) as u32
 }
 
 /// How many bytes a state has.

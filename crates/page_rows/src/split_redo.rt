@@ -11,10 +11,10 @@ ghost use Rattle.wal_record.specs.declared.page.Rows.TheVariants.{Leaf, Branch};
 
 use crate::copied::copied_state;
 use crate::same::{same_bound, same_branch_rows, same_foster, same_leaf_rows, same_state};
-use crate::sizes::{PAGE_ROOM, branch_rows_bytes, high_bytes, leaf_rows_bytes};
+use crate::sizes::{branch_rows_bytes, high_bytes, leaf_rows_bytes};
 use std::alloc::Global;
 use std::mem;
-use store_model::{Bound, Key, List, Memory, PageNo};
+use store_model::{Bound, Key, List, Memory, PageNo, STATE_BYTES};
 use wal_record::{BranchRow, Foster, Grow, LeafRow, PageState, Rows, Split};
 
 /// Makes the new page of a split or of a grown root.
@@ -49,7 +49,7 @@ pub(crate) fn split(alloc: Global, state: &mut PageState, split: &Split) -> bool
     let Some(key) = Key::new(child.low.text()) else {
         return false;
     };
-    if halved_bytes(state, &key, kept) > PAGE_ROOM {
+    if halved_bytes(state, &key, kept) > STATE_BYTES {
         return false;
     }
     keep_first(alloc, &mut state.rows, kept);

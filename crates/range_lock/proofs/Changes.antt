@@ -1,9 +1,9 @@
 -- What a change of one table does to all that is held.
 use Rattle.std.proofs.Common.{◌≡◌, ℕ, Bool, true, false, cond, List, [], ◌∷◌, ◌++◌, map, Option, Some, None, Result, Ok, Err, refl, sym, ap, subst, ◌∙◌, inl, inr}
-use Rattle.std.specs.Prelude.{◌⊎◌, ◌↔◌, ◌≢◌, flat_map, unwrap_or, OnOk, OnErr}
+use Rattle.std.specs.Prelude.{◌⊎◌, ◌↔◌, ◌≢◌, ◌||◌, not, flat_map, unwrap_or, OnOk, OnErr}
 use Rattle.std.specs.List.{list_any}
-use Rattle.std.specs.Ordering.{nat_cmp, is_eq, eq_by_cmp}
-use Rattle.std.specs.Cmp.{tied_itself}
+use Rattle.std.specs.Ordering.{nat_cmp, is_eq, eq_by_cmp, ordering_then, match_ordering}
+use Rattle.std.specs.Cmp.{tied_itself, nat_cmp_total}
 use Rattle.std.specs.Cmp.Lexicographic.{slice_cmp, nat_list_cmp_total}
 use Rattle.std.specs.BTreeMap as tree
 use Rattle.std.specs.BTreeMap.{BTreeMap, is_at, insert_entry}
@@ -11,7 +11,10 @@ use Rattle.std.specs.Map.{lookup, remove_entry}
 use Rattle.std.proofs.lemmas.Map.Lookups.{exact_unsigned}
 use Rattle.store_model.proofs.Bools.{not_both, false_unless}
 use Rattle.std.specs.BTreeSet as sorted
-use Rattle.std.specs.BTreeSet.{BTreeSet}
+use Rattle.std.specs.BTreeSet.{BTreeSet, insert_key}
+use Rattle.std.specs.Set.{remove_key}
+use Rattle.std.specs.declared.cmp.Ordering.{Ordering}
+use Rattle.std.specs.declared.cmp.Ordering.TheVariants.{Less, Equal, Greater}
 use Rattle.store_model.specs.Range.{Interval}
 use Rattle.store_model.specs.declared.range.Mode.{Mode}
 use Rattle.store_model.specs.declared.range.Mode.TheVariants.{Shared, Exclusive}
@@ -76,6 +79,9 @@ at_most (Err e) old new k ok err l g = inr (subst (IsAmong l) err g)
 
 -- ---- locks on keys, held in one mode
 
+tied_point : (k : PointLock) → is_at (point_cmp k) k ≡ true
+tied_point k = ap (λ (o : Ordering). is_eq (ordering_then o (nat_cmp k.tx k.tx))) (tied_itself nat_list_cmp_total k.key) ∙ ap is_eq (tied_itself nat_cmp_total k.tx)
+
 under : (b : Bool) (k q : PointLock) (o : Bool) → is_at (point_cmp k) q ≡ b → cond b true o ≡ true → (q ≡ k) ⊎ (o ≡ true)
 under true k q o at h = inl (sym (exact_point k q (is_equal (point_cmp k q) at)))
 under false k q o at h = inr h
@@ -89,6 +95,29 @@ has_new s n k up q = (
   λ h. under (is_at (point_cmp k) q) k q (sorted.contains point_cmp s q) refl (sym (up.0 q) ∙ h),
   λ g. elim g [ inl e ↦ subst (Has n) (sym e) up.1 | inr h ↦ up.0 q ∙ keeps (is_at (point_cmp k) q) _ h ],
 )
+
+-- a new one that is taken out again
+undone : (k : PointLock) (ks : List PointLock) → list_any (is_at (point_cmp k)) ks ≡ false → remove_key (is_at (point_cmp k)) (insert_key point_cmp ks k) ≡ ks
+undone k [] none = ap (λ (b : Bool). cond {A = List PointLock} b [] (k ∷ [])) (tied_point k)
+undone k (x ∷ xs) none = by (point_cmp k x) refl none (undone k xs)
+  where
+    by : (o : Ordering) → point_cmp k x ≡ o → (is_eq o || list_any (is_at (point_cmp k)) xs) ≡ false → (list_any (is_at (point_cmp k)) xs ≡ false → remove_key (is_at (point_cmp k)) (insert_key point_cmp xs k) ≡ xs)
+        → remove_key (is_at (point_cmp k)) (match_ordering o (k ∷ x ∷ xs) (x ∷ xs) (x ∷ insert_key point_cmp xs k)) ≡ x ∷ xs
+    by Less e n rest = ap (λ (b : Bool). cond {A = List PointLock} b (x ∷ xs) (k ∷ remove_key (is_at (point_cmp k)) (x ∷ xs))) (tied_point k)
+    by Equal e n rest = absurd cc
+    by Greater e n rest = ap (λ (o : Ordering). cond {A = List PointLock} (is_eq o) (insert_key point_cmp xs k) (x ∷ remove_key (is_at (point_cmp k)) (insert_key point_cmp xs k))) e ∙ ap (λ (l : List PointLock). x ∷ l) (rest n)
+
+-- the insertion told that it is new
+pub was_new : (added there : Bool) → added ≡ not there → added ≡ true → there ≡ false
+was_new added false e n = refl
+was_new added true e n = absurd (let f : false ≡ true = sym e ∙ n in cc)
+
+-- the same keys hold the same locks
+pub same_points : (s n : BTreeSet PointLock) → n.keys ≡ s.keys → (p : PointLock) → Has n p → Has s p
+same_points s n e p h = subst (λ (ks : List PointLock). list_any (is_at (point_cmp p)) ks ≡ true) e h
+
+pub taken_out : (k : PointLock) (old mid new : List PointLock) → list_any (is_at (point_cmp k)) old ≡ false → mid ≡ insert_key point_cmp old k → new ≡ remove_key (is_at (point_cmp k)) mid → new ≡ old
+taken_out k old mid new none put out = out ∙ ap (remove_key (is_at (point_cmp k))) put ∙ undone k old none
 
 -- after an insertion, or one for which memory ran out
 pub has_after : {A E : Type 0} (r : Result A E) (s n : BTreeSet PointLock) (k : PointLock) → OnOk r ((q : PointLock) → Has n q ↔ ((q ≡ k) ⊎ Has s q)) → OnErr r (n.keys ≡ s.keys)

@@ -6,3 +6,4 @@ pub mod Changes
 pub mod Points
 pub mod Cuts
 pub mod Holding
+pub mod Words

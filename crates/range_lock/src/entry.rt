@@ -1,11 +1,43 @@
 //! The locks as the tables keep them.
+ghost use Rattle.std.proofs.Common.{rules};
+ghost use Rattle.std.specs.Cmp.{partial_order_from_own_ties};
+ghost use Rattle.std.specs.Cmp.Rules.{comparing};
+ghost use Rattle.std.specs.Cmp.Lexicographic.{slice_cmp};
+ghost use Rattle.std.specs.Ordering.{nat_cmp, on, then_cmp, as_partial_cmp};
+
+use crate::order::compare_texts;
+use std::cmp::Ordering;
 use store_model::{Key, KeyRange, Mode, TxId};
 
-/// A transaction's lock on a single key.
-#[derive(PartialEq, Eq, PartialOrd, Ord, Drop)]
+/// A transaction's lock on a single key. These locks are ordered by key, then by transaction.
+#[derive(PartialEq, Eq, Drop)]
 pub struct PointLock {
     pub key: Key,
     pub tx: TxId,
+}
+
+impl Ord for PointLock {
+    ghost cmp = { then_cmp (on (λ l. l.key) (slice_cmp nat_cmp)) (on (λ l. l.tx) nat_cmp) };
+
+    ghost total = { Prim.search (comparing, rules) };
+
+    ghost matches_partial_cmp = { Prim.search (comparing, rules) };
+
+    ghost matches_eq = { Prim.search (comparing, rules) };
+
+    fn cmp(&self, other: &PointLock) -> Ordering {
+        compare_texts(self.key.as_bytes(), other.key.as_bytes()).then(self.tx.cmp(&other.tx))
+    }
+}
+
+impl PartialOrd for PointLock {
+    ghost partial_cmp = { as_partial_cmp (then_cmp (on (λ l. l.key) (slice_cmp nat_cmp)) (on (λ l. l.tx) nat_cmp)) };
+
+    ghost laws = { partial_order_from_own_ties (Prim.search (comparing, rules)) (Prim.search (comparing, rules)) };
+
+    fn partial_cmp(&self, other: &PointLock) -> Option<Ordering> {
+        Some(self.cmp(other))
+    }
 }
 
 /// A lock on a wider range.

@@ -53,12 +53,17 @@ pub fn put_point(
     // The keys of the locks in the other mode are listed still.
     ensures stays { (p : PointLock) → is_listed keys.old p ≡ true → is_listed keys.new p ≡ true }
 {
-    let lock = PointLock { key, tx };
-    if !points.contains(&lock) {
-        list_key(alloc, keys, tx, &lock.key)?;
-        points.insert(lock)?;
+    let listed = key.copied();
+    if !points.insert(PointLock { key, tx })? {
+        return Ok(());
     }
-    Ok(())
+    match list_key(alloc, keys, tx, &listed) {
+        Ok(()) => Ok(()),
+        Err(_) => {
+            points.remove(&PointLock { key: listed, tx });
+            Err(AllocError)
+        }
+    }
 }
 
 fn has_point(points: &BTreeSet<PointLock>, key: &Key, tx: TxId) -> bool

@@ -10,11 +10,11 @@ ghost use Rattle.wal_record.specs.declared.record.Unfinished.{Unfinished};
 ghost use Rattle.wal_record.specs.declared.record.PageLsn.{PageLsn};
 
 use state_codec::{
-    FieldFault, HIGHEST, key_at, lsn_or_none_at, number_at, page_count_at, u16_at, u32_at,
-    u32_in_front, u64_in_front,
+    FieldFault, key_at, lsn_or_none_at, number_at, page_count_at, u16_at, u32_at, u32_in_front,
+    u64_in_front,
 };
 use std::alloc::Global;
-use store_model::List;
+use store_model::{HIGHEST, List};
 use wal_record::{OpenWrite, PageHead, PageLsn, Run, Unfinished};
 
 fn rises_above_open_write(before: &[OpenWrite], n: u64) -> bool

@@ -15,6 +15,10 @@ use wal_record::{
     RunDone, Split, Undo, Write, Written,
 };
 
+/// Room for the longest record of a row, so that its bytes are never moved while it is spelled. Longer records, those
+/// with lists or a page's state, make more room.
+const ROOM: usize = 640;
+
 fn put_format(out: &mut Vec<u8>, found: &Format) -> Result<(), AllocError>
     ensures { OnOk result (out.new.items ≡ out.old.items ++ spelling (kinds.Format found.now)) }
 {
@@ -209,7 +213,7 @@ pub fn encode(alloc: Global, found: &Record, out: &mut Vec<u8>) -> Result<(), Me
     ensures ok { OnOk result (out.new.items ≡ out.old.items ++ spelling found.now) }
     ensures err { OnErr result (out.new.items ≡ out.old.items) }
 {
-    let mut bytes = Vec::new(alloc);
+    let mut bytes = Vec::with_capacity(alloc, ROOM)?;
     put_record(&mut bytes, found)?;
     out.extend_from_slice(&bytes)?;
     Ok(())

@@ -1,6 +1,6 @@
 -- The page of a life that begins.
-use Rattle.std.proofs.Common.{◌≡◌, ℕ, List, [], refl, sym, ap, ◌∙◌, arith, append-nil}
-use Rattle.std.specs.Prelude.{◌-◌, length}
+use Rattle.std.proofs.Common.{◌≡◌, ℕ, List, [], sym, ap, ◌∙◌, arith, append-nil}
+use Rattle.std.specs.Prelude.{◌-◌}
 use Rattle.media.specs.declared.disk.Disk.{Ghosts}
 use Rattle.held_leaf.specs.Leaf.{IsOnly}
 use Rattle.log_manager.specs.Managed.{Managed}

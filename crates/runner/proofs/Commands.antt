@@ -19,9 +19,7 @@ use Rattle.store_model.specs.declared.request.Request.TheVariants as requests
 use Rattle.store_model.specs.declared.reply.Reply.TheVariants as replies
 use Rattle.store_model.specs.declared.reply.Outcome.TheVariants as outcomes
 use Rattle.store_model.specs.declared.range.Mode.TheVariants.{Shared, Exclusive}
-use Rattle.wal_record.specs.State.{is_key, is_value, live, leaf_rows, state_size, page_room, row_of, put_row}
-use Rattle.wal_record.specs.Chains.{pages}
-use Rattle.wal_record.specs.OpenWrites.{pending}
+use Rattle.wal_record.specs.State.{is_key, is_value, live, state_size, page_room}
 use Rattle.wal_record.specs.Checkpoints.{commits, limit_of}
 use Rattle.wal_record.specs.History.{log_of, life_log}
 use Rattle.wal_record.specs.Left.{IsLeft, acknowledges, is_commit_of}
@@ -35,7 +33,7 @@ use Rattle.wal_record.specs.declared.entry.Entry.TheVariants.{Rec, Lock, Said, D
 use Rattle.log_laws.specs.Beginnings.{is_commit}
 use Rattle.held_leaf.specs.Entries.{put_entries as told_put}
 use Rattle.life_laws.specs.Calm.{Opened, Calm, only_leaf}
-use Rattle.life_laws.specs.Commands.{begun, with_write, with_row, written, committing, get_entries, put_entries, full_entries, commit_entries}
+use Rattle.life_laws.specs.Commands.{begun, with_write, with_row, writing, committing, get_entries, put_entries, full_entries, commit_entries}
 use Rattle.life_laws.proofs.CalmSteps.{calm_begin, calm_get, calm_put, calm_declined, calm_commit, calm_committed}
 use Rattle.life_laws.proofs.CalmLives.{calm_right}
 use Rattle.life_laws.proofs.CalmLog.{all_own, limit_kept}
@@ -49,11 +47,10 @@ use Rattle.script.specs.declared.command.Device.TheVariants.{Log}
 use Rattle.runner.specs.Active.{is_active, opened_by, Writes, Begins, HasPut, IsOpened}
 use Rattle.runner.specs.Leaf.{rows_of, page_live}
 use Rattle.runner.specs.LogDisk.{Keeps, HoldsOne, Leaves, lsn_from}
-use Rattle.runner.specs.Machine.{actives, IsFused, In, IsCalm, Runs, IsOver, LivesOn, Adds}
+use Rattle.runner.specs.Machine.{actives, IsFused, In, Runs, IsOver, LivesOn, Adds}
 use Rattle.transcript.specs.Printing.{escaped, shown}
 use Rattle.runner.specs.Refusals.{RefusesAt, CutAt, HasNoPlace, IsRequestNotBuilt}
-use Rattle.runner.specs.Session.{write_record}
-use Rattle.runner.specs.Turns.{Turn, Life, Active, Stage, Left, Done, LogFault, Ended, Commits, CutCommit, IsEnd, IsEndedAt, lives_of, last_of, without, IsAid, HasRoom, IsRightLife, turn, stage_step, longer, is_known, is_lawful, no_life, tx_of, log_of_life, Answers, EndedRow, IsNoStop}
+use Rattle.runner.specs.Turns.{Turn, Life, Active, Stage, LeftBy, Done, LogFault, Ended, Commits, CutCommit, IsEnd, IsEndedAt, lives_of, last_after, without, IsAid, HasRoom, IsRightLife, turn, stage_step, longer, is_known, is_lawful, no_life, tx_of, log_of_life, Answers, EndedRow, IsNoStop}
 use Rattle.runner.specs.Text.{lines, head}
 use Rattle.runner.specs.declared.session.Session.{Session}
 use Rattle.runner.specs.Standing.{Standing}
@@ -127,20 +124,20 @@ fitting : (x : Option PageState) (s : PageState) → x ≡ Some s → OnPage (λ
 fitting x s e (s', e', size) = subst (λ (y : PageState). state_size y ≤ page_room) (some_same s' s (sym e' ∙ e)) size
 
 -- a put that is redone on a leaf with all keys
-did_fit : (w : Record) (page page' : Option PageState) (o : Opened) (top : ℕ) (rows : List LeafRow) (key value : List ℕ) → w ≡ written o top rows key value → page ≡ Some (only_leaf rows) → Redone w 1 page page' true
+did_fit : (w : Record) (page page' : Option PageState) (o : Opened) (top : ℕ) (rows : List LeafRow) (key value : List ℕ) → w ≡ writing o top rows key value → page ≡ Some (only_leaf rows) → Redone w 1 page page' true
     → (page' ≡ Some (only_leaf (with_row rows key value))) × (state_size (only_leaf (with_row rows key value)) ≤ page_room)
 unfolding applied
 did_fit w page page' o top rows key value is leaf redone =
-    let made : applied (written o top rows key value) 1 (Some (only_leaf rows)) ≡ Some (only_leaf (with_row rows key value)) = refl in
+    let made : applied (writing o top rows key value) 1 (Some (only_leaf rows)) ≡ Some (only_leaf (with_row rows key value)) = refl in
     let same : applied w 1 page ≡ Some (only_leaf (with_row rows key value)) = (λ i. applied (is i) 1 (leaf i)) ∙ made in
     (redone.1 ∙ same, fitting (applied w 1 page) (only_leaf (with_row rows key value)) same redone.0.applicable.fits)
 
-not_fit : (w : Record) (page : Option PageState) (o : Opened) (top : ℕ) (rows : List LeafRow) (key value : List ℕ) → w ≡ written o top rows key value → page ≡ Some (only_leaf rows) → (IsRedoable w 1 page → ⊥)
+not_fit : (w : Record) (page : Option PageState) (o : Opened) (top : ℕ) (rows : List LeafRow) (key value : List ℕ) → w ≡ writing o top rows key value → page ≡ Some (only_leaf rows) → (IsRedoable w 1 page → ⊥)
     → page_room < state_size (only_leaf (with_row rows key value))
 unfolding applied CanApply
 not_fit w page o top rows key value is leaf not = by (nat_le (state_size (only_leaf (with_row rows key value))) page_room) refl
   where
-    redoable : state_size (only_leaf (with_row rows key value)) ≤ page_room → IsRedoable (written o top rows key value) 1 (Some (only_leaf rows))
+    redoable : state_size (only_leaf (with_row rows key value)) ≤ page_room → IsRedoable (writing o top rows key value) 1 (Some (only_leaf rows))
     redoable size = record {
       names = refl;
       applicable = record {
@@ -150,7 +147,7 @@ not_fit w page o top rows key value is leaf not = by (nat_le (state_size (only_l
     }
 
     by : (b : Bool) → nat_le (state_size (only_leaf (with_row rows key value))) page_room ≡ b → page_room < state_size (only_leaf (with_row rows key value))
-    by true e = absurd (not (subst (λ (x : Record). IsRedoable x 1 page) (sym is) (subst (λ (x : Option PageState). IsRedoable (written o top rows key value) 1 x) (sym leaf) (redoable (leb-true _ _ e)))))
+    by true e = absurd (not (subst (λ (x : Record). IsRedoable x 1 page) (sym is) (subst (λ (x : Option PageState). IsRedoable (writing o top rows key value) 1 x) (sym leaf) (redoable (leb-true _ _ e)))))
     by false e = leb-false _ _ e
 
 -- ---- in a life
@@ -367,7 +364,7 @@ module _ {D : Type 0} (L : Ghosts D) where
           }
 
       module _ (none : log.ended ≡ None) (key value : List ℕ) (w : Record) (writes : Writes standing.session standing.head key (page_live standing.page key) value w) where
-        w_is : w ≡ written o standing.head (rows_of standing.page) key value
+        w_is : w ≡ writing o standing.head (rows_of standing.page) key value
         w_is = subst (λ (x : Option Session). Writes x standing.head key (page_live standing.page key) value w) has writes
 
         calm_here : (t : L.tells) → Calm h.here.opening h.here.history (rows_of standing.page) standing.head (Some o) standing.next standing.commits (running none).lsn
@@ -403,7 +400,7 @@ module _ {D : Type 0} (L : Ghosts D) where
             let r = running none in
             let es = put_entries o standing.head (rows_of standing.page) r.lsn key value in
             let lock : Entry = Lock z.tx (point key) Exclusive in
-            let write : Entry = Rec (r.lsn + 1) (written o standing.head (rows_of standing.page) key value) in
+            let write : Entry = Rec (r.lsn + 1) (writing o standing.head (rows_of standing.page) key value) in
             let c : Command = commands.Ask name (requests.Put key value) in
             let t : Turn = turn c es Done in
             let z' = has_put log.next z standing'.session (subst (λ (x : Option Session). HasPut log.next x standing'.session) has put) in
@@ -444,9 +441,9 @@ module _ {D : Type 0} (L : Ghosts D) where
                       limit = limit ∙ c.limit;
                       first = ap (λ (x : LogState D). lsn_from x.places) added.is ∙ c.first;
                       durable = c.durable;
-                      waiting = c.waiting ++ written o standing.head (rows_of standing.page) key value ∷ [];
-                      whole = log_of_append h.here.history es ∙ ap (λ (rs : List Record). rs ++ written o standing.head (rows_of standing.page) key value ∷ []) c.whole ∙ append_assoc c.durable c.waiting (written o standing.head (rows_of standing.page) key value ∷ []);
-                      uncommitted = list_any-append is_commit c.waiting (written o standing.head (rows_of standing.page) key value ∷ []) ∙ ap (λ (b : Bool). b || false) c.uncommitted;
+                      waiting = c.waiting ++ writing o standing.head (rows_of standing.page) key value ∷ [];
+                      whole = log_of_append h.here.history es ∙ ap (λ (rs : List Record). rs ++ writing o standing.head (rows_of standing.page) key value ∷ []) c.whole ∙ append_assoc c.durable c.waiting (writing o standing.head (rows_of standing.page) key value ∷ []);
+                      uncommitted = list_any-append is_commit c.waiting (writing o standing.head (rows_of standing.page) key value ∷ []) ∙ ap (λ (b : Bool). b || false) c.uncommitted;
                       stands = subst (λ (x : Record). IsLogOf L.told L.may_leave log' (h.here.opening ++ c.durable) (c.waiting ++ x ∷ [])) w_is (adds u (h.here.opening ++ c.durable) c.waiting c.stands);
                     };
               });
@@ -505,7 +502,7 @@ module _ {D : Type 0} (L : Ghosts D) where
             (whole_commit t [] refl ∙ ap (λ (rs : List Record). c.durable ++ rs) (sym (take_drop n w)) ∙ sym (append_assoc c.durable (take n w) (drop n w)))
 
         module _ (left : (t : L.tells) → RecordsLeft L.told L.may_leave (h.here.opening ++ (r.calm t).durable) ((r.calm t).waiting ++ committing o ∷ []) mid new) where
-          holds_then : (t : L.tells) (k : Kept) → StandsForMoreRecords (first_kept mid) (h.here.opening ++ (r.calm t).durable) ((r.calm t).waiting ++ committing o ∷ []) (left t).done k → HoldsOne (Left after) k
+          holds_then : (t : L.tells) (k : Kept) → StandsForMoreRecords (first_kept mid) (h.here.opening ++ (r.calm t).durable) ((r.calm t).waiting ++ committing o ∷ []) (left t).done k → HoldsOne (LeftBy after) k
           holds_then t k m =
               let c = r.calm t in
               let w = c.waiting ++ committing o ∷ [] in
@@ -565,7 +562,7 @@ module _ {D : Type 0} (L : Ghosts D) where
                 entries = e ∷ [];
                 fits = record { goes = h.goes; lawful = lawful_here; row = (not_ended none, subst (λ (x : Option ℕ). CutCommit x (e ∷ [])) (sym tx_here) (r.lsn + 1, z.last, refl)) };
                 right = λ t. subst (λ (x : Option Life). All IsRightLife (lives_of x s.past)) (sym life) (right_more L s.past after (h.past t) (right_then t));
-                leaves = λ t. subst (λ (x : Option Life). Keeps L (HoldsOne (last_of x s.last)) new.device) (sym life) (over_then t).keeps;
+                leaves = λ t. subst (λ (x : Option Life). Keeps L (HoldsOne (last_after x s.last)) new.device) (sym life) (over_then t).keeps;
               }
 
         -- it is acknowledged
@@ -642,7 +639,7 @@ module _ {D : Type 0} (L : Ghosts D) where
             let c = runs.calm t in
             record { page = c.page; calm = c.calm; seen = c.seen; last = c.last; place = c.place; limit = c.limit; first = c.first; durable = c.durable; waiting = c.waiting; whole = c.whole; uncommitted = c.uncommitted; stands = still t (h.here.opening ++ c.durable) c.waiting c.stands };
       }
-      lives_still (Some n) over = λ t. record { right = (over t).right; keeps = keeps_same L (HoldsOne (Left h.here)) log.device new (same t) nomore (over t).keeps }
+      lives_still (Some n) over = λ t. record { right = (over t).right; keeps = keeps_same L (HoldsOne (LeftBy h.here)) log.device new (same t) nomore (over t).keeps }
 
       pub did_fuse : (device : Device) (calls : ℕ) (out : List ℕ) → device ≡ Log → out ≡ codes "fuse log " ++ decimal calls ++ codes "\n" → Adds L.tells (In L (record log { device = new }) standing) s (commands.Fuse device calls) out
       did_fuse device calls out log_is is = record {

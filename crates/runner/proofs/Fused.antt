@@ -1,12 +1,11 @@
 -- The log disk in its fuse, and without it.
-use Rattle.std.proofs.Common.{◌≡◌, ◌≢◌, ℕ, ◌+◌, ap, List, [], Option, Some, None, true, refl, sym, subst, inl, inr}
-use Rattle.std.specs.List.{All}
+use Rattle.std.proofs.Common.{◌≡◌, ◌≢◌, ℕ, ◌+◌, List, [], Option, Some, None, true, refl, sym, subst, inl, inr}
 use Rattle.std.proofs.lemmas.List.Elements.{All-nil}
 use Rattle.media.specs.Kept.{Kept}
 use Rattle.media.specs.Fused.{Fused}
 use Rattle.media.specs.declared.disk.Disk.{Ghosts}
 use Rattle.log_blocks.specs.Log.{StandsFor}
-use Rattle.log_replay.specs.Standing.{DevicesStandFor}
+use Rattle.log_replay.specs.Devices.{DevicesStandFor}
 use Rattle.wal_record.specs.declared.record.Record.{Record}
 use Rattle.script.specs.declared.command.Command.{Command}
 use Rattle.script.specs.declared.command.Command.TheVariants as commands
@@ -14,7 +13,7 @@ use Rattle.runner.specs.declared.status.Status.{Status}
 use Rattle.runner.specs.declared.status.Status.TheVariants as statuses
 use Rattle.runner.specs.Causes.{IsAsked}
 use Rattle.runner.specs.Clause.{OfCommand, NotBuiltLine, Ended, Headline}
-use Rattle.runner.specs.LogDisk.{View, IsWhole, seen, StandsOn, Keeps, HoldsOne, Leaves}
+use Rattle.runner.specs.LogDisk.{View, IsWhole, seen, Keeps, HoldsOne}
 use Rattle.runner.specs.Machine.{Out}
 use Rattle.runner.specs.Refusals.{IsNotBuilt}
 use Rattle.runner.specs.Turns.{Turn, Stage, Found, IsRightLife, begin_stage, is_lawful, stage}

@@ -1,5 +1,5 @@
 -- Records of blocks, and LSNs.
-use Rattle.std.proofs.Common.{◌≡◌, ℕ, zero, suc, ◌+◌, ◌≤◌, Bool, true, false, List, [], ◌∷◌, ◌++◌, refl, sym, ap, ◌∙◌, arith, length, length-append, take, drop, map}
+use Rattle.std.proofs.Common.{◌≡◌, ℕ, zero, suc, ◌+◌, ◌≤◌, Bool, true, false, List, [], ◌∷◌, ◌++◌, refl, ap, ◌∙◌, arith, length, length-append, take, drop, map}
 use Rattle.std.specs.Prelude.{◌||◌, slice_index_or}
 use Rattle.std.specs.List.{list_any}
 use Rattle.media.specs.Kept.{Kept}
@@ -33,7 +33,7 @@ first_kept_is log n = by log.places log.pending n.run n.next
 
 pub next_of : (n k : ℕ) (bs : List Block) (rs : List Record) → AreIn k bs rs → next_lsn n bs ≡ n + length rs
 next_of n k [] rs none = omega (arith, ap length none)
-next_of n k (b ∷ bs) rs (own, more, whole, holds, rest) = next_of (n + b.count) b.checkpoint bs more rest ∙ omega (arith, holds.count, ap length whole, length-append own more)
+next_of n k (b ∷ bs) rs (own, more, whole, holds, rest) = next_of (n + b.count) b.checkpoint bs more rest ∙ omega (arith, holds.records.count_is, ap length whole, length-append own more)
 
 -- behind the durable records come those that wait
 pub next_is : {D : Type 0} (told : D → Kept) (may_leave : D → Kept → Type 0) (log : LogState D) (stable waiting : List Record) → IsLogOf told may_leave log stable waiting → log.next ≡ durable_lsn log.places + length waiting + 1

@@ -1,24 +1,28 @@
 -- What holds at any place of a run: lives are right, and the log disk keeps a log that may be found.
-use Rattle.std.proofs.Common.{◌≡◌, ℕ, ◌≤◌, List, [], ◌∷◌, ◌++◌, Option, Some, None, refl, sym, ap, subst, ◌∙◌, arith, append_assoc, take, drop}
-use Rattle.std.specs.List.{All}
+use Rattle.std.proofs.Common.{◌≡◌, ℕ, ◌≤◌, List, [], ◌∷◌, ◌++◌, Option, Some, None, refl, sym, ap, subst, ◌∙◌, append_assoc}
+use Rattle.std.specs.List.{All, list_any}
+use Rattle.std.proofs.lemmas.List.Folds.{list_any-append}
 use Rattle.std.proofs.lemmas.List.Elements.{All-cons, All-nil, All-append}
 use Rattle.media.specs.Crash.{Only, NoMore, LeavesOnly}
 use Rattle.media.specs.Kept.{Kept}
 use Rattle.media.specs.declared.disk.Disk.{Ghosts}
-use Rattle.log_blocks.specs.Log.{Block, first_lsn}
+use Rattle.log_blocks.specs.Log.{first_lsn}
 use Rattle.log_blocks.specs.LogState.{LogState}
 use Rattle.log_manager.specs.Records.{StandsForRecords}
 use Rattle.log_replay.proofs.WholeLogs.{hold_whole}
 use Rattle.wal_record.specs.Left.{IsLeft}
-use Rattle.wal_record.specs.Sound.{IsSound}
+use Rattle.wal_record.specs.History.{life_log}
+use Rattle.wal_record.specs.Sound.{IsLawful, AreLawful, HasRoom, IsSound}
+use Rattle.wal_record.proofs.Along.{AllAlong_less}
 use Rattle.wal_record.specs.declared.record.Record.{Record}
-use Rattle.life_laws.specs.CalmLaw.{IsRight}
-use Rattle.life_laws.proofs.CalmLives.{calm_right}
+use Rattle.life_laws.specs.Calm.{splits_page}
+use Rattle.life_laws.proofs.Leaving.{either_false, has_room}
+use Rattle.life_laws.proofs.CalmLives.{calm_right, calm_sound}
 use Rattle.runner.specs.Active.{opened_by}
 use Rattle.runner.specs.Leaf.{rows_of}
 use Rattle.runner.specs.LogDisk.{View, Whole, Form, IsWhole, StandsOn, Keeps, HoldsOne, lsn_from}
 use Rattle.runner.specs.Machine.{Out, In, Safe, IsCalm, IsOver, LivesOn}
-use Rattle.runner.specs.Turns.{Life, Stage, Last, Left, IsRightLife, lives_of, last_of}
+use Rattle.runner.specs.Turns.{Life, Stage, LeftBy, IsRightLife, lives_of, last_after}
 use Rattle.runner.specs.Standing.{Standing}
 use Rattle.runner.proofs.Lists.{first_is}
 
@@ -51,7 +55,7 @@ pub stands_on : (log : List Record) (k : Kept) → IsSound log → (s : StandsFo
 stands_on log k sound s one = record { sound = sound; bs = s.bs; stands = s.stands; records = hold_whole log s.bs s.records one }
 
 -- a member of what a stop may leave of a life
-pub left_stands : (l : Life) (own : List Record) (k : Kept) → IsLeft l.opening l.history own → (s : StandsForRecords (l.opening ++ own) k) → first_lsn s.bs ≡ 1 → HoldsOne (Left l) k
+pub left_stands : (l : Life) (own : List Record) (k : Kept) → IsLeft l.opening l.history own → (s : StandsForRecords (l.opening ++ own) k) → first_lsn s.bs ≡ 1 → HoldsOne (LeftBy l) k
 left_stands l own k left s one = (l.opening ++ own, (own, left, refl), stands_on (l.opening ++ own) k left.sound s one)
 
 -- ---- lives
@@ -61,14 +65,23 @@ module _ {D : Type 0} (L : Ghosts D) where
     pub calm_is_right : IsRightLife l
     calm_is_right = calm_right l.opening l.history (rows_of standing.page) standing.head (opened_by standing.session) standing.next standing.commits lsn c.calm
 
+    -- without splits there is room at each place
+    durable_room : HasRoom (l.opening ++ c.durable)
+    durable_room =
+        let parts : life_log l.opening l.history ≡ (l.opening ++ c.durable) ++ c.waiting = ap (λ (rs : List Record). l.opening ++ rs) c.whole ∙ sym (append_assoc l.opening c.durable c.waiting) in
+        let sound = calm_sound l.opening l.history (rows_of standing.page) standing.head (opened_by standing.session) standing.next standing.commits lsn c.calm in
+        let unsplit = sym (ap (list_any splits_page) parts ∙ list_any-append splits_page (l.opening ++ c.durable) c.waiting) ∙ c.calm.log.whole in
+        has_room (l.opening ++ c.durable) (AllAlong_less IsLawful (l.opening ++ c.durable) c.waiting (subst AreLawful parts sound))
+        (either_false (list_any splits_page (l.opening ++ c.durable)) (list_any splits_page c.waiting) unsplit).0
+
     pub calm_left : IsLeft l.opening l.history c.durable
-    calm_left = calm_is_right.behind c.durable c.waiting c.whole c.uncommitted
+    calm_left = calm_is_right.behind c.durable c.waiting c.whole c.uncommitted durable_room
 
     first_here : first_lsn c.stands.bs ≡ 1
     first_here = sym (first_is (L.told log.device).start c.stands.bs) ∙ ap lsn_from (sym c.stands.durable.places_are) ∙ c.first
 
-    pub calm_keeps : Keeps L (HoldsOne (Left l)) log.device
-    calm_keeps = keeps_only L (HoldsOne (Left l)) log.device (left_stands l c.durable (L.told log.device) calm_left (record { bs = c.stands.bs; stands = c.stands.durable.stands; records = c.stands.records }) first_here) c.stands.durable.only
+    pub calm_keeps : Keeps L (HoldsOne (LeftBy l)) log.device
+    calm_keeps = keeps_only L (HoldsOne (LeftBy l)) log.device (left_stands l c.durable (L.told log.device) calm_left (record { bs = c.stands.bs; stands = c.stands.durable.stands; records = c.stands.records }) first_here) c.stands.durable.only
 
   pub over : (log : LogState D) (standing : Standing) (l : Life) (e : Option ℕ) → LivesOn L log standing l e → L.tells → IsOver L log l
   over log standing l None h t = record { right = calm_is_right log standing l h.lsn (h.calm t); keeps = calm_keeps log standing l h.lsn (h.calm t) }
@@ -77,7 +90,7 @@ module _ {D : Type 0} (L : Ghosts D) where
   pub safe_out : (disk : D) (s : Stage) → Out L disk s → Safe L disk s
   safe_out disk s h = record {
     right = λ t. subst (λ (x : Option Life). All IsRightLife (lives_of x s.past)) (sym h.life) (h.past t);
-    leaves = λ t. subst (λ (x : Option Life). Keeps L (HoldsOne (last_of x s.last)) disk) (sym h.life) (h.keeps t);
+    leaves = λ t. subst (λ (x : Option Life). Keeps L (HoldsOne (last_after x s.last)) disk) (sym h.life) (h.keeps t);
     goes = h.goes;
     fuse = h.fused.fuse;
   }
@@ -89,7 +102,7 @@ module _ {D : Type 0} (L : Ghosts D) where
   pub safe_in : (log : LogState D) (standing : Standing) (s : Stage) → In L log standing s → Safe L log.device s
   safe_in log standing s h = record {
     right = λ t. subst (λ (x : Option Life). All IsRightLife (lives_of x s.past)) (sym h.life) (right_more s.past h.here (h.past t) (over log standing h.here log.ended h.lives t).right);
-    leaves = λ t. subst (λ (x : Option Life). Keeps L (HoldsOne (last_of x s.last)) log.device) (sym h.life) (over log standing h.here log.ended h.lives t).keeps;
+    leaves = λ t. subst (λ (x : Option Life). Keeps L (HoldsOne (last_after x s.last)) log.device) (sym h.life) (over log standing h.here log.ended h.lives t).keeps;
     goes = h.goes;
     fuse = h.fused.fuse;
   }

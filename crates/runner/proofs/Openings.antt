@@ -1,18 +1,18 @@
 -- Openings and formats of a disk that keeps a log that may be found.
-use Rattle.std.proofs.Common.{◌≡◌, ◌≢◌, ℕ, zero, suc, ◌+◌, ◌<◌, ◌≤◌, true, false, List, [], ◌∷◌, ◌++◌, Option, Some, None, refl, sym, ap, subst, ◌∙◌, arith, ◌⊎◌, inl, inr, ⊎_elim, append-nil, length, length-append, take, Result, Ok, Err}
+use Rattle.std.proofs.Common.{◌≡◌, ◌≢◌, ℕ, zero, suc, ◌+◌, ◌<◌, ◌≤◌, true, List, [], ◌∷◌, ◌++◌, Option, refl, sym, ap, subst, ◌∙◌, arith, ◌⊎◌, inl, inr, ⊎_elim, append-nil, length, length-append, take, Result, Ok, Err}
 use Rattle.std.specs.Prelude.{IfOk}
-use Rattle.media.specs.Crash.{NoMore, Only}
+use Rattle.media.specs.Crash.{NoMore}
 use Rattle.media.specs.Counted.{Blames}
 use Rattle.media.specs.Kept.{Kept}
 use Rattle.media.specs.declared.disk.Disk.{Ghosts}
-use Rattle.log_blocks.specs.Log.{Block, StandsFor, IsRun, Behind, open_gate, body, blocks, first_lsn, next_lsn}
+use Rattle.log_blocks.specs.Log.{Block, StandsFor, IsRun, open_gate, body, blocks, first_lsn}
 use Rattle.log_blocks.specs.LogState.{LogState, IsDurable, durable_lsn}
-use Rattle.log_blocks.specs.Opening.{IsBadAt, IsLogFault, RoseFor, TellsFault, places}
+use Rattle.log_blocks.specs.Opening.{IsBadAt, IsLogFault, TellsFault, places}
 use Rattle.log_manager.specs.Managed.{HasMore, RecordsLeft, first_kept}
 use Rattle.log_manager.specs.Records.{AreIn, AreRecordsOf, IsLogOf, StandsForRecords, StandsForMoreRecords}
 use Rattle.log_replay.specs.Answers.{Opens, IsNotReplayed}
 use Rattle.log_replay.specs.Answers.{IsLogFault as IsReplayFault}
-use Rattle.log_replay.specs.Standing.{HoldEnd, IsUnbuilt}
+use Rattle.log_replay.specs.Devices.{HoldEnd}
 use Rattle.log_replay.specs.declared.found.Found.{Found}
 use Rattle.log_replay.specs.declared.found.NotReplayed.{NotReplayed}
 use Rattle.log_replay.specs.declared.found.NotReplayed.TheVariants as whys
@@ -20,22 +20,19 @@ use Rattle.store_model.specs.declared.fault.Fault.{Fault}
 use Rattle.store_model.specs.declared.fault.Fault.TheVariants as faults
 use Rattle.wal_record.specs.Rules.{is_limit}
 use Rattle.wal_record.specs.Sound.{IsSound}
-use Rattle.wal_record.specs.declared.page.LeafRow.{LeafRow}
-use Rattle.wal_record.specs.declared.page.PageState.{PageState}
 use Rattle.wal_record.specs.declared.record.Record.{Record}
-use Rattle.life_laws.specs.Calm.{Calm, first_log, only_leaf}
+use Rattle.life_laws.specs.Calm.{first_log}
 use Rattle.life_laws.proofs.Leaving.{has_room}
 use Rattle.life_laws.proofs.Start.{calm_start}
 use Rattle.runner.specs.LogDisk.{StandsOn, Keeps, HoldsOne, IsFormatted, lsn_from}
 use Rattle.runner.specs.Causes.{Shows}
 use Rattle.runner.specs.Machine.{IsCalm}
 use Rattle.runner.specs.Openings.{IsMade, IsFirst, IsNotMade, IsNotBegun, IsBegun, IsFault, MadeStatus, ReadStatus, ReplayStatus}
-use Rattle.runner.specs.Refusals.{FindsLog, FindsUnbuilt}
-use Rattle.runner.specs.Turns.{Last, Left, Formatted, Unformatted, MayFind}
+use Rattle.runner.specs.Turns.{Last, LeftBy, Formatted, Unformatted, MayFind}
 use Rattle.runner.specs.Standing.{Standing}
 use Rattle.runner.specs.declared.status.Status.{Status}
 use Rattle.runner.specs.declared.status.Status.TheVariants as statuses
-use Rattle.runner.proofs.Lists.{first_is, first_kept_is, next_is, next_of}
+use Rattle.runner.proofs.Lists.{first_kept_is, next_is, next_of}
 use Rattle.runner.proofs.Lives.{calm_keeps, keeps_map, keeps_same, keeps_only, stands_on}
 
 -- the laws on blocks that are used: the kept bytes stand for one list of blocks at most, and where they stand for one, no
@@ -72,7 +69,7 @@ no_records log h = h.is ∙ (λ i. nothing h.dropped (omega (arith, h.first)) i 
 some_records : (log : List Record) (b : Block) (bs : List Block) → IsRun (first_lsn (b ∷ bs)) (b ∷ bs) → HoldEnd log (b ∷ bs) → log ≢ []
 some_records log b bs run h none =
     let own = h.records.records in
-    omega (arith, run.1.count.0, own.3.count, ap length own.2, length-append own.0 own.1, ap length (sym h.is ∙ none), length-append h.dropped h.kept)
+    omega (arith, run.1.count.0, own.3.records.count_is, ap length own.2, length-append own.0 own.1, ap length (sym h.is ∙ none), length-append h.dropped h.kept)
 
 -- all records of the log are kept
 all_kept : (log : List Record) (bs : List Block) → AreRecordsOf bs log → HoldEnd log bs → first_lsn bs ≡ 1
@@ -282,7 +279,7 @@ replay_fault line whys.NotBuilt status is = ((λ f. absurd f), (λ e. let x : st
 -- no block without records
 no_blocks : (n k : ℕ) (bs : List Block) → IsRun n bs → AreIn k bs [] → bs ≡ []
 no_blocks n k [] run r = refl
-no_blocks n k (b ∷ bs) run (own, more, whole, holds, rest) = absurd (omega (arith, run.1.count.0, holds.count, ap length whole, length-append own more))
+no_blocks n k (b ∷ bs) run (own, more, whole, holds, rest) = absurd (omega (arith, run.1.count.0, holds.records.count_is, ap length whole, length-append own more))
 
 pub first_flushed : {D : Type 0} (L : Ghosts D) (limit : ℕ) (old mid new : LogState D) → old.next ≡ 1 → HasMore (first_log limit) old mid → IsLogOf L.told L.may_leave old [] [] → IsLogOf L.told L.may_leave mid [] (first_log limit) → (left : RecordsLeft L.told L.may_leave [] (first_log limit) mid new) → (least : ℕ) → least ≤ durable_lsn new.places → IsFirst L.told L.may_leave limit least new.device
 first_flushed L limit old mid new next added stands stands_mid left least reached =
@@ -302,6 +299,6 @@ nothing_left (r ∷ own) lost e = absurd cc
 -- a life that has only begun leaves the log that it found
 pub begun_keeps : {D : Type 0} (L : Ghosts D) (log : LogState D) (standing : Standing) (last : Last) → IsBegun L log standing last → Keeps L (HoldsOne last) log.device
 begun_keeps L log standing last k =
-    keeps_map L (HoldsOne (Left (record { opening = k.opening; history = [] }))) (HoldsOne last) log.device
+    keeps_map L (HoldsOne (LeftBy (record { opening = k.opening; history = [] }))) (HoldsOne last) log.device
     (λ c h. (h.0, subst (MayFind last) (sym (h.1.2 ∙ ap (λ (own : List Record). k.opening ++ own) (nothing_left h.1.0 h.1.1.lost h.1.1.whole) ∙ append-nil k.opening)) k.found, h.2))
     (calm_keeps L log standing (record { opening = k.opening; history = [] }) (length k.opening) k.calm)

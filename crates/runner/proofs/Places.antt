@@ -1,5 +1,5 @@
 -- What holds at the place of a run.
-use Rattle.std.proofs.Common.{◌≡◌, ℕ, List, refl, subst, ◌∙◌}
+use Rattle.std.proofs.Common.{◌≡◌, ℕ, refl, subst, ◌∙◌}
 use Rattle.media.specs.Objects.{Stored, Absent, Unsynced, Synced, MayLeave}
 use Rattle.store_model.specs.declared.object.ObjectName.{ObjectName}
 use Rattle.media.specs.declared.disk.Disk.{Ghosts}

@@ -1,5 +1,5 @@
 -- A run, turn by turn.
-use Rattle.std.proofs.Common.{◌≡◌, ◌≢◌, ℕ, ◌+◌, Bool, true, false, List, [], ◌∷◌, ◌++◌, Option, Some, None, Err, refl, sym, ap, subst, ◌∙◌, arith, inl, inr, append_assoc, append-nil, length, length-append}
+use Rattle.std.proofs.Common.{◌≡◌, ◌≢◌, ℕ, ◌+◌, true, false, List, [], ◌∷◌, ◌++◌, Option, Some, None, Err, refl, sym, ap, subst, ◌∙◌, arith, inl, inr, append_assoc, append-nil, length, length-append}
 use Rattle.std.specs.Prelude.{◌⊎◌}
 use Rattle.std.specs.List.{All}
 use Rattle.std.proofs.lemmas.List.Elements.{All-nil}
@@ -15,7 +15,7 @@ use Rattle.runner.specs.declared.status.Status.TheVariants as statuses
 use Rattle.runner.specs.Lines.{Reader, to_come, first_reader, IsBounded, IsLine, IsNoLine}
 use Rattle.runner.specs.Built.{is_built}
 use Rattle.runner.specs.Causes.{LineCause}
-use Rattle.runner.specs.Turns.{Turn, Stage, Cut, turn, stage, begin_stage, Fits, IsRightLife, MayFind, lives, is_lawful}
+use Rattle.runner.specs.Turns.{Turn, Stage, Cut, turn, stage, begin_stage, Fits, IsRightLife, lives, is_lawful}
 use Rattle.runner.specs.Text.{text, lines}
 use Rattle.runner.specs.Refusals.{RefusesAt, CutAt, IsOpen, IsFormat, IsNotBuilt, IsSplit}
 use Rattle.runner.specs.Machine.{Safe, Out, Adds}

@@ -1,9 +1,9 @@
 -- How long the records are that a run enters.
-use Rattle.std.proofs.Common.{◌≡◌, ℕ, ◌+◌, ◌≤◌, Bool, true, List, [], ◌∷◌, ◌++◌, Option, Some, None, refl, ap, subst, sym, ◌∙◌, arith, length, length-append, nat_le, suc}
+use Rattle.std.proofs.Common.{◌≡◌, ℕ, ◌+◌, ◌≤◌, Bool, List, [], ◌∷◌, ◌++◌, Option, Some, None, refl, subst, sym, ◌∙◌, arith, length, length-append, nat_le, suc}
 use Rattle.std.specs.Prelude.{IsTrue}
 use Rattle.std.proofs.lemmas.Bool.{leb-true}
 use Rattle.std.specs.Int.{w16, w32, w64, to_be_bytes}
-use Rattle.log_manager.specs.Records.{bytes_of}
+use Rattle.log_manager.specs.Payload.{bytes_of}
 use Rattle.wal_record.specs.Spelling.{spelling, number_bytes, text_bytes, value_bytes, maybe_bytes}
 use Rattle.wal_record.specs.State.{is_key}
 use Rattle.wal_record.specs.Rules.{HasSpelling, is_maybe_value}
@@ -13,7 +13,6 @@ use Rattle.wal_record.specs.declared.record.Record.{Record}
 use Rattle.wal_record.specs.declared.record.Record.TheVariants as kinds
 use Rattle.store_model.proofs.Bools.{both_true}
 use Rattle.runner.specs.Active.{Writes}
-use Rattle.runner.specs.Session.{write_record}
 use Rattle.runner.specs.declared.session.Session.{Session}
 
 length-maybe : (v : Option (List ℕ)) → IsTrue (is_maybe_value v) → length (maybe_bytes value_bytes v) ≤ 259

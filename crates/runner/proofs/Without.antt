@@ -1,9 +1,7 @@
 -- What each command does where no life is open, over any stage.
-use Rattle.std.proofs.Common.{◌≡◌, ◌≢◌, ℕ, ◌+◌, ◌<◌, ◌≤◌, Bool, true, false, List, [], ◌∷◌, ◌++◌, Option, Some, None, refl, sym, ap, subst, ◌∙◌, arith, ◌⊎◌, inl, inr, ⊎_elim, append-nil, length}
-use Rattle.std.specs.Prelude.{codes, ◌^◌, min}
-use Rattle.std.specs.List.{All}
+use Rattle.std.proofs.Common.{◌≡◌, ◌≢◌, ℕ, ◌+◌, ◌<◌, ◌≤◌, Bool, true, false, List, [], ◌∷◌, ◌++◌, Option, None, refl, sym, ap, subst, ◌∙◌, arith, ◌⊎◌, ⊎_elim, append-nil, length}
+use Rattle.std.specs.Prelude.{codes, ◌^◌}
 use Rattle.std.specs.Fmt.{decimal}
-use Rattle.std.specs.Global.{Vec}
 use Rattle.media.specs.Cause.{Rose}
 use Rattle.media.specs.Counted.{Blames}
 use Rattle.media.specs.Crash.{NoMore, Only}
@@ -12,7 +10,6 @@ use Rattle.log_blocks.specs.LogState.{LogState}
 use Rattle.wal_record.specs.Rules.{is_limit}
 use Rattle.wal_record.specs.Checkpoints.{commits}
 use Rattle.wal_record.specs.History.{life_log}
-use Rattle.wal_record.specs.declared.record.Record.{Record}
 use Rattle.script.specs.declared.command.Command.{Command}
 use Rattle.script.specs.declared.command.Command.TheVariants as commands
 use Rattle.script.specs.declared.command.Device.{Device}
@@ -21,16 +18,15 @@ use Rattle.runner.specs.declared.at.At.{At}
 use Rattle.runner.specs.declared.at.At.TheVariants as places
 use Rattle.runner.specs.declared.at.Stepped.{Stepped}
 use Rattle.runner.specs.declared.at.Stepped.TheVariants as steps
-use Rattle.runner.specs.declared.session.Session.{Session}
 use Rattle.runner.specs.Standing.{Standing}
 use Rattle.runner.specs.declared.status.Status.{Status}
 use Rattle.runner.specs.declared.status.Status.TheVariants as statuses
 use Rattle.runner.specs.Causes.{LifeCause, LogCause, SteppedCause, Shows, disk_at}
 use Rattle.runner.specs.LogDisk.{View, Whole, Form, IsWhole, seen, Keeps, HoldsOne, Leaves}
-use Rattle.runner.specs.Machine.{actives, IsFused, Out, In, IsCalm, Safe, Adds, IsAt, Steps, Refuses}
+use Rattle.runner.specs.Machine.{actives, IsFused, Out, In, Safe, Adds, IsAt, Steps, Refuses}
 use Rattle.runner.specs.Openings.{Makes, IsMade, IsNotMade, IsBegun, IsNotBegun}
-use Rattle.runner.specs.Refusals.{RefusesAt, CutAt}
-use Rattle.runner.specs.Turns.{Turn, Life, Active, Stage, Last, Formatted, Unformatted, MayFind, Done, LogFault, Cut, IsEnd, IsRightLife, turn, stage_step, room_of, no_life, is_lawful, lives_of, last_of}
+use Rattle.runner.specs.Refusals.{RefusesAt}
+use Rattle.runner.specs.Turns.{Life, Stage, Last, Unformatted, Done, LogFault, IsEnd, turn, room_of, no_life, is_lawful, last_after}
 use Rattle.runner.specs.Text.{lines}
 use Rattle.runner.proofs.Lists.{some_commits, commits_of_some}
 use Rattle.runner.proofs.Commands.{runs_on}
@@ -68,8 +64,8 @@ module _ {D F : Type 0} (L : Ghosts D) (inside : F → Stage → Type 0) (disk :
   pub bad_room : (limit : Option ℕ) (line : ℕ) → is_limit (room_of limit) ≡ false → RefusesAt L disk s (commands.Format limit) line (statuses.Script line)
   bad_room limit line e = (refl, rw (lawful_out) e, out_leaves)
 
-  leaves_as : (left : D) (last : Last) → (L.tells → Keeps L (HoldsOne last) left) → L.tells → Keeps L (HoldsOne (last_of s.life last)) left
-  leaves_as left last k t = subst (λ (x : Option Life). Keeps L (HoldsOne (last_of x last)) left) (sym h.life) (k t)
+  leaves_as : (left : D) (last : Last) → (L.tells → Keeps L (HoldsOne last) left) → L.tells → Keeps L (HoldsOne (last_after s.life last)) left
+  leaves_as left last k t = subst (λ (x : Option Life). Keeps L (HoldsOne (last_after x last)) left) (sym h.life) (k t)
 
   no_end : (n : Option ℕ) → IsEnd s.life n
   no_end n = subst (λ (x : Option Life). IsEnd x n) (sym h.life) tt
@@ -203,7 +199,7 @@ did_stop L disk left s safe keep out may only renewed is = record {
     ended = refl;
     goes = safe.goes;
     fused = record { fuse = safe.fuse; renewed = λ e. renewed safe.fuse };
-    keeps = λ t. keeps_only L (HoldsOne (last_of s.life s.last)) left ((safe.leaves t).crash (L.told left) (may t)) (only t);
+    keeps = λ t. keeps_only L (HoldsOne (last_after s.life s.last)) left ((safe.leaves t).crash (L.told left) (may t)) (only t);
   };
   lines = is;
 }

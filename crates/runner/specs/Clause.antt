@@ -16,7 +16,6 @@ use Rattle.runner.specs.Status.{cuts}
 use Rattle.runner.specs.Text.{text}
 use Rattle.runner.specs.declared.status.Status.{Status}
 use Rattle.runner.specs.declared.status.Status.TheVariants as statuses
-use Rattle.runner.specs.declared.at.At.{At}
 use Rattle.runner.specs.declared.turns.Turned.{Turned}
 use Rattle.runner.specs.declared.turns.Turned.TheVariants as results
 use Rattle.runner.specs.declared.living.Lived.{Lived}

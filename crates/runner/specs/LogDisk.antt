@@ -4,10 +4,10 @@ use Rattle.media.specs.Kept.{Kept}
 use Rattle.media.specs.declared.disk.Disk.{Ghosts}
 use Rattle.log_blocks.specs.declared.header.Place.{Place}
 use Rattle.log_blocks.specs.Log.{Block, StandsFor, open_gate}
-use Rattle.log_replay.specs.Standing.{HoldEnd}
+use Rattle.log_replay.specs.Devices.{HoldEnd}
 use Rattle.wal_record.specs.Sound.{IsSound}
 use Rattle.wal_record.specs.declared.record.Record.{Record}
-use Rattle.runner.specs.Turns.{Stage, Last, MayFind, last_of}
+use Rattle.runner.specs.Turns.{Stage, Last, MayFind, last_after}
 
 -- whether what the disk keeps is looked at, which disks of some types tell, or the form of a run alone
 pub data View (T : Type 0) : Type 0 where
@@ -40,7 +40,7 @@ HoldsOne last k = (log : List Record) × MayFind last log × StandsOn log k
 
 -- behind these turns the disk keeps a log that may be found: of an open life a member of what a stop may leave
 abbrev pub Leaves : {D : Type 0} → Ghosts D → D → Stage → Type 0
-Leaves L disk s = L.tells → Keeps L (HoldsOne (last_of s.life s.last)) disk
+Leaves L disk s = L.tells → Keeps L (HoldsOne (last_after s.life s.last)) disk
 
 -- an open gate, and something behind it
 pub record IsFormatted (k : Kept) : Type 0 where

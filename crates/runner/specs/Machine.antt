@@ -9,10 +9,8 @@ use Rattle.log_manager.specs.Records.{IsLogOf}
 use Rattle.wal_record.specs.Checkpoints.{limit_of, commits}
 use Rattle.wal_record.specs.History.{log_of, life_log}
 use Rattle.wal_record.specs.declared.record.Record.{Record}
-use Rattle.wal_record.specs.declared.entry.Entry.{Entry}
 use Rattle.log_laws.specs.Beginnings.{is_commit}
 use Rattle.life_laws.specs.Calm.{Calm, only_leaf}
-use Rattle.life_laws.specs.CalmLaw.{IsRight}
 use Rattle.script.specs.declared.command.Command.{Command}
 use Rattle.runner.specs.declared.at.At.{At}
 use Rattle.runner.specs.declared.at.At.TheVariants.{Outside, Inside}
@@ -28,7 +26,7 @@ use Rattle.runner.specs.Leaf.{rows_of}
 use Rattle.runner.specs.LogDisk.{Keeps, HoldsOne, Leaves, lsn_from}
 use Rattle.runner.specs.Refusals.{RefusesAt}
 use Rattle.runner.specs.Text.{lines}
-use Rattle.runner.specs.Turns.{Turn, Life, Active, Stage, Left, stage_step, FitsAt, IsRightLife, lives}
+use Rattle.runner.specs.Turns.{Turn, Life, Active, Stage, LeftBy, stage_step, FitsAt, IsRightLife, lives}
 
 abbrev pub actives : Option Session → List Active
 actives None = []
@@ -78,7 +76,7 @@ pub record Runs {D : Type 0} (L : Ghosts D) (log : LogState D) (standing : Stand
 -- a life that has ended
 pub record IsOver {D : Type 0} (L : Ghosts D) (log : LogState D) (l : Life) : Type 0 where
   pub right : IsRightLife l
-  pub keeps : Keeps L (HoldsOne (Left l)) log.device
+  pub keeps : Keeps L (HoldsOne (LeftBy l)) log.device
 
 abbrev pub LivesOn : {D : Type 0} → Ghosts D → LogState D → Standing → Life → Option ℕ → Type 0
 LivesOn L log standing l None = Runs L log standing l

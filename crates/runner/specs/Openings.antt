@@ -1,5 +1,5 @@
 -- Openings and formats of a disk that keeps a log that may be found.
-use Rattle.std.specs.Prelude.{◌≡◌, ℕ, List, [], length, Option, None}
+use Rattle.std.specs.Prelude.{◌≡◌, ℕ, List, [], length}
 use Rattle.media.specs.declared.disk.Disk.{Ghosts}
 use Rattle.media.specs.Kept.{Kept}
 use Rattle.log_blocks.specs.LogState.{LogState}
@@ -10,7 +10,6 @@ use Rattle.store_model.specs.declared.fault.Fault.{Fault}
 use Rattle.store_model.specs.declared.fault.Fault.TheVariants as faults
 use Rattle.life_laws.specs.Calm.{first_log}
 use Rattle.wal_record.specs.declared.record.Record.{Record}
-use Rattle.runner.specs.declared.session.Session.{Session}
 use Rattle.runner.specs.Standing.{Standing}
 use Rattle.runner.specs.declared.status.Status.{Status}
 use Rattle.runner.specs.declared.status.Status.TheVariants as statuses

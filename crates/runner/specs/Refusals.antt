@@ -1,5 +1,5 @@
 -- Why a command ends the run, by what the turns before it leave.
-use Rattle.std.specs.Prelude.{◌≡◌, ◌≢◌, ◌<◌, ℕ, List, [], Option, Some, None, true, false}
+use Rattle.std.specs.Prelude.{◌≡◌, ◌≢◌, ◌<◌, ℕ, List, [], Some, None, true, false}
 use Rattle.std.specs.List.{All}
 use Rattle.media.specs.declared.disk.Disk.{Ghosts}
 use Rattle.store_model.specs.declared.request.Request.{Request}
@@ -11,7 +11,7 @@ use Rattle.wal_record.specs.declared.record.Record.{Record}
 use Rattle.wal_record.specs.declared.entry.Entry.{Entry}
 use Rattle.life_laws.specs.Calm.{only_leaf}
 use Rattle.life_laws.specs.Commands.{with_row}
-use Rattle.log_replay.specs.Standing.{IsUnbuilt}
+use Rattle.log_replay.specs.Devices.{IsUnbuilt}
 use Rattle.script.specs.declared.command.Device.{Device}
 use Rattle.script.specs.declared.command.Device.TheVariants.{Log}
 use Rattle.script.specs.declared.command.Command.{Command}

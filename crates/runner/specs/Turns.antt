@@ -58,18 +58,18 @@ pub data Last : Type 0 where
   Found : List Record → Last
   Formatted : ℕ → Last
   Unformatted : Last → ℕ → Last
-  Left : Life → Last
+  LeftBy : Life → Last
 
 -- the logs that the disk may hold then; a format that failed has made its log where none was, or nothing
 abbrev pub MayFind : Last → List Record → Type 0
 MayFind (Found log) rs = rs ≡ log
 MayFind (Formatted limit) rs = rs ≡ first_log limit
 MayFind (Unformatted before limit) rs = MayFind before rs ⊎ (MayFind before [] × (rs ≡ first_log limit))
-MayFind (Left l) rs = (own : List Record) × IsLeft l.opening l.history own × (rs ≡ l.opening ++ own)
+MayFind (LeftBy l) rs = (own : List Record) × IsLeft l.opening l.history own × (rs ≡ l.opening ++ own)
 
-abbrev pub last_of : Option Life → Last → Last
-last_of None last = last
-last_of (Some l) last = Left l
+abbrev pub last_after : Option Life → Last → Last
+last_after None last = last
+last_after (Some l) last = LeftBy l
 
 -- ---- what the turns so far leave
 
@@ -123,7 +123,7 @@ lives_of (Some l) past = past ++ l ∷ []
 
 -- a stop ends the life, and renews the fuse
 abbrev pub stopped : Stage → Stage
-stopped s = record { last = last_of s.life s.last; past = lives_of s.life s.past; life = None; active = []; armed = false; ended = None; cut = s.cut }
+stopped s = record { last = last_after s.life s.last; past = lives_of s.life s.past; life = None; active = []; armed = false; ended = None; cut = s.cut }
 
 abbrev pub done_stage : Stage → Command → List Entry → List Record → Stage
 done_stage s commands.Nothing es found = s

@@ -52,6 +52,7 @@ impl<'a, N: Life, L: Disk> OpenLife<'a, N, L> {
         let (log, found) = opened.into_parts();
         let Tokens {
             front,
+            mark: _,
             pass,
             books,
             entries: _,
@@ -59,6 +60,7 @@ impl<'a, N: Life, L: Disk> OpenLife<'a, N, L> {
             log_faults: _,
             vault_faults: _,
             data_faults: _,
+            made: _,
         } = tokens;
         let Books {
             pages,

@@ -69,7 +69,7 @@ fn run_named<N: Life, S: Source, K: Sink, V: Vault, L: Disk>(
     unnamed: Unnamed,
     opened: Opened<L>,
 ) -> Lived<L>
-    requires named { unnamed ≡ life_names N.count N.pages N.sessions N.maint N.entries N.session_entries N.log_faults N.vault_faults N.data_faults }
+    requires named { unnamed ≡ life_names N.count N.pages N.sessions N.maint N.entries N.session_entries N.log_faults N.vault_faults N.data_faults N.made }
     requires opens { (opening : List Record) → (N.opens opening ↔ BeginsOn L.Disk opened opening) }
     ensures turns { (v : View L.tells) (log : List Record) (left told : Option (List ℕ)) (turns : List Turn) → Between (IsWhole v) log (In (seen L.Disk v) opened.log.log opened.standing) left told input.old turns (S.left source.old) (K.told sink.old)
         → LivedTo (seen L.Disk v) log left told input.new (S.left source.new) (K.told sink.new) result }

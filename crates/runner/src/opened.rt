@@ -1,5 +1,6 @@
 //! A log on which a life may begin.
-ghost use Rattle.std.specs.Prelude.{◌≡◌};
+ghost use Rattle.std.specs.Prelude.{◌≡◌, IsTrue};
+ghost use Rattle.wal_record.specs.Rules.{is_number};
 ghost use Rattle.wal_record.specs.State.{KeepsState};
 ghost use Rattle.runner.specs.Session.{IsNumbered};
 ghost use Rattle.runner.specs.Standing.{beginning};
@@ -17,7 +18,8 @@ pub struct Opened<L: Disk> {
 }
 
 impl<L: Disk> Model for Opened<L> {
-    ghost use Rattle.std.specs.Prelude.{◌<◌, ◌^◌};
+    ghost use Rattle.std.specs.Prelude.{◌<◌, ◌^◌, IsTrue};
+    ghost use Rattle.wal_record.specs.Rules.{is_number};
     ghost use Rattle.wal_record.specs.State.{KeepsState};
     ghost use Rattle.runner.specs.Session.{IsNumbered};
     ghost use Rattle.runner.specs.Standing.{Beginning, beginning};
@@ -26,14 +28,15 @@ impl<L: Disk> Model for Opened<L> {
 
     ghost view = { λ o. beginning o.log o.found };
 
-    ghost invariant = { λ o. KeepsState o.found.page × IsNumbered o.found.next × (o.found.limit < 2 ^ 32) };
+    ghost invariant = { λ o. KeepsState o.found.page × IsNumbered o.found.next × IsTrue (is_number o.found.head) × (o.found.limit < 2 ^ 32) };
 }
 
 impl<L: Disk> Opened<L> {
-    /// What was found in this log, where the next number of a transaction isn't used up.
+    /// What was found in this log, where the next number of a transaction isn't used up, and the page has a record.
     pub fn new(log: LogManager<L>, found: Found) -> Opened<L>
         requires rules { KeepsState found.page }
         requires number { IsNumbered found.next }
+        requires head { IsTrue (is_number found.head) }
         ensures { result ≡ beginning log found }
     {
         Opened { log, found }
@@ -51,6 +54,7 @@ impl<L: Disk> Opened<L> {
         ensures is { self ≡ beginning result.0 result.1 }
         ensures rules { KeepsState result.1.page }
         ensures number { IsNumbered result.1.next }
+        ensures head { IsTrue (is_number result.1.head) }
     {
         let Opened { log, found } = self;
         (log, found)

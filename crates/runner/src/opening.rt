@@ -146,7 +146,7 @@ fn begin<L: Disk>(alloc: Global, log: BlockLog<L>, found: Found) -> Result<Opene
     ensures first { IfOk result (λ life. (life.standing.session ≡ None) × (life.log.log.ended ≡ None) × (life.log.log.device ≡ log.device)) }
     ensures not { IfErr result (λ r. (r.disk ≡ log.device) × (r.status ≡ statuses.Memory)) }
 {
-    if found.head >= MOST || found.next >= MOST {
+    if found.head == 0 || found.head >= MOST || found.next >= MOST {
         return Err(NotOpened {
             disk: log.into_device(),
             status: Status::Memory,

@@ -1,3 +1,4 @@
+//! Worked scripts, and random ones beside an ordered map.
 ghost use Rattle.std.specs.Prelude.{◌≡◌, ◌<◌};
 ghost use Rattle.operators.specs.Means.{made_by};
 

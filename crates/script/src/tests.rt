@@ -1,3 +1,4 @@
+//! Lines of each kind, and lines that are none.
 use super::*;
 use std::test::Fail;
 use store_model::Request;

@@ -24,7 +24,7 @@ use Rattle.store_model.specs.Along as Along
 use Rattle.log_laws.proofs.Pending.{pending_change}
 use Rattle.life_laws.proofs.Start.{nothing_told, nothing_legal}
 use Rattle.page_ops.specs.Seeing.{IsConsistent, is_of_session, of_sessions}
-use Rattle.small_journal.specs.History.{Numbers, BooksOf, AreKept, IsFresh, AreBegun, HasNone, IsKept, Opens, purge_entry}
+use Rattle.small_journal.specs.History.{Numbers, BooksOf, AreKept, IsFresh, AreBegun, HasNone, IsKept, IsBounded, Opens, purge_entry}
 use Rattle.small_journal.proofs.Commits.{commits_more, none_above, none_purged}
 use Rattle.small_journal.proofs.Sessions.{fresh_after}
 
@@ -60,6 +60,7 @@ kept_pages opens h n ps ps' ss ms total of_session right first second k there no
       pending = k.pending;
       commits = k.commits;
       number = k.number;
+      least = k.least;
       room = k.room;
       unnamed = k.unnamed;
       unwritten = k.unwritten;
@@ -82,6 +83,7 @@ kept_sessions opens h n ps ss ss' ms total of_session right first second k there
       pending = k.pending;
       commits = k.commits;
       number = k.number;
+      least = k.least;
       room = k.room;
       unnamed = k.unnamed;
       unwritten = k.unwritten;
@@ -104,6 +106,7 @@ kept_maint opens h n ps ss ms ms' total of_session right first second k there no
       pending = k.pending;
       commits = k.commits;
       number = k.number;
+      least = k.least;
       room = k.room;
       unnamed = k.unnamed;
       unwritten = k.unwritten;
@@ -121,6 +124,10 @@ kept_watched opens h h' n ps ps' ss ss' ms ms' total total' of_session of_sessio
     subst (λ (x : List Entry × List BookEntry × List BookEntry × ℕ × ℕ). IsKept opens x.0 n (record { pages = x.1; sessions = ss'; maint = x.2 }) x.3 x.4)
     (λ i. (sym same i, sym others.0 i, sym others.1 i, sym totals.0 i, sym totals.1 i))
     (kept_sessions opens h n ps ss ss' ms total of_session (session_entry s) entries tx k there now one two)
+
+-- the last LSN may rise, while the mark's number stays
+pub bounded : (opens : List Record → Type 0) (limit mark mark' last last' : ℕ) → IsBounded opens limit mark last → mark' ≡ mark → last ≤ last' → IsBounded opens limit mark' last'
+bounded opens limit mark mark' last last' b same later = record { known = b.known; within = let m = b.within in omega (arith, m, same, later) }
 
 -- ---- a session more
 
@@ -144,6 +151,7 @@ kept_opened opens h last count made waiting finished session tx live total of_se
       pending = k.pending;
       commits = k.commits;
       number = k.number;
+      least = k.least;
       room = record { last = k.room.last; entries = k.room.entries; commits = k.room.commits };
       unnamed = k.unnamed;
       unwritten = k.unwritten;
@@ -242,6 +250,7 @@ module _ (opens : List Record → Type 0) (h : List Entry) (n : Numbers) (b : Bo
     entries = omega (arith, k.entries, length-append h (purge_entry (n.last + 1) page prev ∷ []));
     commits = λ opening stands. k.commits opening stands ∙ sym (ap commits (longer opening) ∙ commits_more (life_log opening h) (own ∷ []) ∙ omega arith);
     number = λ opening stands. k.number opening stands ∙ ap (λ (m : ℕ). suc (max (greatest opening) m)) (sym (begun_push h (purge_entry (n.last + 1) page prev)));
+    least = k.least;
     room = let live = k.begun.most in record { last = omega (arith, low, live); entries = omega (arith, few, live); commits = k.room.commits };
     unnamed = λ opening stands t above. subst (λ (l : List Record). HasNone l t) (sym (longer opening)) (none_purged (life_log opening h) page prev t (k.unnamed opening stands t above));
     unwritten = λ opening stands t live.
@@ -329,9 +338,9 @@ none_begun next = record {
   most = omega arith;
 }
 
-pub kept_new : (opens : List Record → Type 0) (b : BooksOf) (ss : List BookEntry) (last made waiting finished next : ℕ) → AreKept opens [] b → b.sessions ≡ [] → ss ≡ b.sessions ++ entry 0 0 0 ∷ [] → last < 2 ^ 64 → finished < 2 ^ 64 → ((opening : List Record) → opens opening → Opens opening last made waiting finished next)
+pub kept_new : (opens : List Record → Type 0) (b : BooksOf) (ss : List BookEntry) (last made waiting finished next : ℕ) → AreKept opens [] b → b.sessions ≡ [] → ss ≡ b.sessions ++ entry 0 0 0 ∷ [] → last < 2 ^ 63 → finished < 2 ^ 64 → 1 ≤ next → ((opening : List Record) → opens opening → Opens opening last made waiting finished next)
     → IsKept opens [] (record { last = last; entries = 0; pages = made; pending = waiting; commits = finished; session = 1; tx = next; live = 0 }) (record b { sessions = ss }) 0 0
-kept_new opens b ss last made waiting finished next books none spare top most opened =
+kept_new opens b ss last made waiting finished next books none spare top most least opened =
     let is : ss ≡ [] ++ entry 0 0 0 ∷ [] = spare ∙ ap (λ (es : List BookEntry). es ++ entry 0 0 0 ∷ []) none in
     let same : (opening : List Record) → life_log opening [] ≡ opening = λ opening. append-nil opening in
     record {
@@ -348,6 +357,7 @@ kept_new opens b ss last made waiting finished next books none spare top most op
       pending = λ opening stands. (opened opening stands).pending ∙ ap pending (sym (same opening));
       commits = λ opening stands. (opened opening stands).commits ∙ ap commits (sym (same opening));
       number = λ opening stands. let n = (opened opening stands).number in let z = nothing_begun in omega (arith, n, z);
+      least = least;
       room = record { last = omega (arith, top); entries = omega arith; commits = omega (arith, most) };
       unnamed = λ opening stands t above. let n = (opened opening stands).number in subst (λ (l : List Record). HasNone l t) (sym (same opening)) (none_above opening t (omega (arith, n, above)));
       unwritten = λ opening stands t live. absurd (idle (sym (nothing_live t) ∙ live));

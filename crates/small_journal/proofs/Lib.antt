@@ -1,8 +1,10 @@
 pub mod Beginnings
 pub mod Commits
-pub mod Sessions
+pub mod Declining
+pub mod Entering
+pub mod Entries
 pub mod Keeping
 pub mod Own
-pub mod Entries
-pub mod Entering
+pub mod Puts
 pub mod Recycling
+pub mod Sessions

@@ -9,7 +9,7 @@ use Rattle.books.specs.Booking.{entry, entry_of, replaced}
 use Rattle.books.specs.declared.entry.BookEntry.{BookEntry}
 use Rattle.books.specs.Rights.{SessionClaim, session_entry}
 use Rattle.store_model.specs.declared.request.Request.{Request}
-use Rattle.store_model.specs.declared.reply.Outcome.TheVariants as outcomes
+use Rattle.store_model.specs.declared.reply.Outcome.{Outcome}
 use Rattle.wal_record.specs.Books.{maintenance_step, belongs, session_entries, unless_over, session_transaction}
 use Rattle.wal_record.specs.Chains.{head, pages, greatest}
 use Rattle.wal_record.specs.Checkpoints.{commits, limit_of}
@@ -103,7 +103,7 @@ begun_in (b ∷ bs) s t o = by (eqb b.session s) (eqb b.tx t) o (begun_in bs s t
     by true false o more = more o
     by false false o more = more o
 
-begun_by : (h : List Entry) (s t : ℕ) → is_owner h s t ≡ true → is_begun h t ≡ true
+pub begun_by : (h : List Entry) (s t : ℕ) → is_owner h s t ≡ true → is_begun h t ≡ true
 begun_by h s t o = begun_in (beginnings h) s t o
 
 -- no session has more entries than the history
@@ -145,6 +145,7 @@ module _ (opens : List Record → Type 0) (h : List Entry) (n : Numbers) (b : Bo
         pending = λ opening stands. k.pending opening stands ∙ ap pending (sym (same opening));
         commits = λ opening stands. k.commits opening stands ∙ ap commits (sym (same opening));
         number = number;
+        least = let first = k.least in omega (arith, first, above);
         room = room;
         unnamed = λ opening stands x high. subst (λ (l : List Record). HasNone l x) (sym (same opening)) (k.unnamed opening stands x (omega (arith, above, high)));
         unwritten = λ opening stands x live. subst (λ (l : List Record). HasNone l x) (sym (same opening)) (unwritten opening stands x live);
@@ -213,15 +214,15 @@ module _ (opens : List Record → Type 0) (h : List Entry) (n : Numbers) (b : Bo
 
   -- ---- a refusal
 
-  module _ (request : Request) where
+  module _ (request : Request) (why : Outcome) where
     abbrev refusal : Entry
-    refusal = Declined s.session s.tx request outcomes.OpRefused
+    refusal = Declined s.session s.tx request why
 
     abbrev declined : List Entry
     declined = h ++ refusal ∷ []
 
     abbrev IsLawful : Type 0
-    IsLawful = (opening : List Record) → opens opening → MayDecline opening h s.session s.tx request outcomes.OpRefused
+    IsLawful = (opening : List Record) → opens opening → MayDecline opening h s.session s.tx request why
 
     pub declined_consistent : IsLawful → IsConsistent opens declined
     declined_consistent lawful = consistent_entry opens h refusal k.consistent refl refl (λ log. refl) lawful
@@ -360,6 +361,7 @@ module _ (opens : List Record → Type 0) (h : List Entry) (n : Numbers) (b : Bo
       pending = λ opening stands. k.pending opening stands ∙ sym (ap pending (done_log opening) ∙ pending_committed (life_log opening h) s.tx (k.unwritten opening stands s.tx live));
       commits = λ opening stands. between_commits opening stands ∙ ap commits (sym (log_same opening between acked refl));
       number = λ opening stands. k.number opening stands ∙ ap (λ (m : ℕ). suc (max (greatest opening) m)) (sym (begun_push between acked ∙ begun_push h commit));
+      least = k.least;
       room = record { last = let r = k.room.last in omega (arith, r, less); entries = let r = k.room.entries in omega (arith, r, less); commits = let r = k.room.commits in omega (arith, r, less) };
       unnamed = λ opening stands t high. none_done opening t (λ same. let none = k.begun.below t high in let is = one in let at = ap (λ (x : ℕ). times x (beginnings h)) same in absurd (omega (arith, none, is, at))) (k.unnamed opening stands t high);
       unwritten = λ opening stands t is. unwritten_done opening stands t (eqb s.tx t) refl (sym (done_phase t) ∙ is);

@@ -10,7 +10,7 @@ use Rattle.wal_record.specs.declared.record.Record.{Record}
 use Rattle.wal_record.specs.declared.record.Record.TheVariants as kinds
 use Rattle.wal_record.proofs.Along.{by_pushes}
 use Rattle.wal_record.proofs.Pushes.{open_list_push}
-use Rattle.page_ops.specs.Outcomes.{last_checkpoint, oldest, recycle_point}
+use Rattle.wal_record.specs.Checkpoints.{last_checkpoint, oldest, recycle_point}
 
 -- each open write has an LSN
 abbrev ArePlaced : List OpenWrite → Type 0

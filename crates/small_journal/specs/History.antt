@@ -1,22 +1,29 @@
 -- What a small journal keeps of its history.
-use Rattle.std.specs.Prelude.{◌≡◌, ◌≢◌, ℕ, suc, max, ◌+◌, ◌*◌, ◌^◌, ◌<◌, ◌≤◌, List, [], ◌∷◌, ◌++◌, length, filter, Option, Some, None, Bool, true, false, ◌&&◌, ◌==◌, IsTrue}
+use Rattle.std.specs.Prelude.{◌≡◌, ◌≢◌, ℕ, suc, max, ◌+◌, ◌*◌, ◌^◌, ◌<◌, ◌≤◌, List, [], ◌∷◌, ◌++◌, length, filter, Option, Some, None, Bool, true, false, ◌&&◌, ◌==◌, IsTrue, IsSome}
 use Rattle.std.specs.List.{list_any}
+use Rattle.std.specs.Option.{option_map}
+use Rattle.books.specs.Rights.{SessionClaim}
+use Rattle.store_model.specs.declared.fault.Fault.{Fault}
+use Rattle.store_model.specs.declared.fault.Fault.TheVariants as faults
 use Rattle.books.specs.Booking.{entry_of}
 use Rattle.books.specs.declared.entry.BookEntry.{BookEntry}
 use Rattle.wal_record.specs.Books.{page_book, maintenance_book, session_entries, session_transaction}
 use Rattle.wal_record.specs.Chains.{pages, last, finishes, greatest}
-use Rattle.wal_record.specs.Checkpoints.{commits}
+use Rattle.wal_record.specs.Checkpoints.{commits, limit_of}
 use Rattle.wal_record.specs.OpenWrites.{open_writes, pending}
 use Rattle.wal_record.specs.History.{life_log, Phase, Live, Acknowledged, phase, is_live, Beginning, beginnings, greatest_begun, last_begun}
 use Rattle.wal_record.specs.declared.record.Record.{Record}
 use Rattle.wal_record.specs.declared.record.Record.TheVariants as kinds
 use Rattle.wal_record.specs.declared.entry.Entry.{Entry}
-use Rattle.wal_record.specs.declared.entry.Entry.TheVariants.{Rec}
+use Rattle.wal_record.specs.declared.entry.Entry.TheVariants.{Rec, Declined}
+use Rattle.store_model.specs.declared.request.Request.{Request}
+use Rattle.store_model.specs.declared.reply.Outcome.TheVariants as outcomes
 use Rattle.wal_record.specs.declared.record.Purge.{Purge}
 use Rattle.wal_record.specs.Sound.{IsSound}
 use Rattle.page_ops.specs.Claims.{Claims}
 use Rattle.page_ops.specs.declared.group.Group.{Group}
-use Rattle.page_ops.specs.Seeing.{IsConsistent, of_sessions}
+use Rattle.page_ops.specs.Groups.{declined_entries}
+use Rattle.page_ops.specs.Seeing.{Account, IsConsistent, of_sessions}
 
 -- the numbers that it counts: the last LSN, the entries, the pages, the pending writes and the commits of the log; the
 -- next session, the next transaction, and how many transactions are live
@@ -78,9 +85,10 @@ pub record HasNone (log : List Record) (t : ℕ) : Type 0 where
   pub unfinished : list_any (finishes t) log ≡ false
   pub unwritten : open_writes log t ≡ []
 
--- There is room in the counters for the commit of each live transaction, which enters a record and two entries.
+-- There is room in the counters and for LSNs for the commit of each live transaction, which enters a record and two
+-- entries.
 pub record HasRoom (n : Numbers) : Type 0 where
-  pub last : n.last + n.live < 2 ^ 64
+  pub last : n.last + n.live < 2 ^ 63
   pub entries : n.entries + 2 * n.live < 2 ^ 64
   pub commits : n.commits + n.live < 2 ^ 64
 
@@ -93,6 +101,7 @@ pub record IsKept (opens : List Record → Type 0) (h : List Entry) (n : Numbers
   pub pending : (opening : List Record) → opens opening → n.pending ≡ pending (life_log opening h)
   pub commits : (opening : List Record) → opens opening → n.commits ≡ commits (life_log opening h)
   pub number : (opening : List Record) → opens opening → n.tx ≡ suc (max (greatest opening) (greatest_begun h))
+  pub least : 1 ≤ n.tx
   pub room : HasRoom n
   -- no transaction writes: neither those to come nor the live ones have a record
   pub unnamed : (opening : List Record) → opens opening → (t : ℕ) → n.tx ≤ t → HasNone (life_log opening h) t
@@ -103,6 +112,22 @@ pub record IsKept (opens : List Record → Type 0) (h : List Entry) (n : Numbers
   pub counted : total ≡ length h
   pub sessions_counted : of_session ≡ of_sessions h
 
+-- the limit of each log with which the life may have begun, none of which is empty
+abbrev pub IsLimit : (List Record → Type 0) → ℕ → Type 0
+IsLimit opens limit = (opening : List Record) → opens opening → (opening ≢ []) × (limit ≡ limit_of opening)
+
+-- the limit is that, and the log isn't durable beyond its last LSN
+pub record IsBounded (opens : List Record → Type 0) (limit mark last : ℕ) : Type 0 where
+  pub known : IsLimit opens limit
+  pub within : mark ≤ last
+
+abbrev pub session_of : Option SessionClaim → Option ℕ
+session_of s = option_map (λ (x : SessionClaim). x.session) s
+
+-- a request, declined for want of room
+abbrev pub full_entry : ℕ → ℕ → Request → ℕ → ℕ → Entry
+full_entry session tx request made waiting = Declined session tx request (outcomes.Full made waiting)
+
 -- the purge of a page, whose record before has this LSN
 abbrev pub purge_entry : ℕ → ℕ → ℕ → Entry
 purge_entry lsn page prev = Rec lsn (kinds.Purge (record { page = page; page_prev = prev }))
@@ -111,13 +136,13 @@ purge_entry lsn page prev = Rec lsn (kinds.Purge (record { page = page; page_pre
 pub record AsksPurge (g : Group) (page : ℕ) : Type 0 where
   pub purge : Purge
   pub same : purge.page ≡ page
-  pub is : g ≡ record { recs = kinds.Purge purge ∷ []; said = None; room = false }
+  pub is : g ≡ record { recs = kinds.Purge purge ∷ []; said = None; room = false; lsn = g.lsn }
 
 -- the purge is filled in and entered, and the first right raised
 pub record EntersPurge (page prev : ℕ) (asked now : Group) (old new : Claims) (h after : List Entry) : Type 0 where
   pub lsn : ℕ
   pub history : after ≡ h ++ purge_entry lsn page prev ∷ []
-  pub group : now ≡ record { recs = kinds.Purge (record { page = page; page_prev = prev }) ∷ []; said = None; room = false }
+  pub group : now ≡ record { recs = kinds.Purge (record { page = page; page_prev = prev }) ∷ []; said = None; room = false; lsn = lsn }
   pub rights : new ≡ record old { a = Some (record { page = page; lsn = lsn }) }
 
 -- a sound log that isn't empty, with these numbers of records, pages, pending writes and commits, and this number above all its transactions
@@ -129,3 +154,20 @@ pub record Opens (opening : List Record) (last made waiting finished next : ℕ)
   pub pending : waiting ≡ pending opening
   pub commits : finished ≡ commits opening
   pub number : next ≡ suc (greatest opening)
+
+-- there is no room for the write of the group, so its request is declined, by the right to its session
+pub record IsDeclined (opens : List Record → Type 0) (g : Group) (made waiting at : ℕ) (old new : Claims) (a b : Account) (h after : List Entry) : Type 0 where
+  pub said : IsSome g.said
+  pub room : g.room ≡ true
+  pub history : after ≡ h ++ declined_entries g.said (outcomes.Full made waiting)
+  pub place : at ≡ length after
+  pub full : (opening : List Record) → opens opening → (made ≡ pages (life_log opening h)) × (waiting ≡ pending (life_log opening h)) × (limit_of (life_log opening h) < made + waiting + 2)
+  pub rights : new ≡ record old { s = new.s }
+  pub holder : session_of new.s ≡ session_of old.s
+  pub counted : b ≡ record a { entries = record { parts = a.entries.parts; amount = a.entries.amount + 1 }; session_entries = record { parts = a.session_entries.parts; amount = a.session_entries.amount + 1 } }
+
+-- or nothing changes, for want of memory
+abbrev pub IsRefused : (List Record → Type 0) → Group → Fault → Claims → Claims → Account → Account → List Entry → List Entry → Type 0
+IsRefused opens g (faults.Full made waiting at) old new a b h after = IsDeclined opens g made waiting at old new a b h after
+IsRefused opens g faults.Memory old new a b h after = (new ≡ old) × (b ≡ a) × (after ≡ h)
+IsRefused opens g fault old new a b h after = ⊥

@@ -1,14 +1,16 @@
 //! The calls of `Journaling`. No transaction writes here, so none has a record before its commit.
-ghost use Rattle.std.specs.Prelude.{◌≡◌, ◌+◌, ◌<◌, ◌≤◌, List, [], length, Some, None, IfOk, IfErr, OnOk, OnErr};
+ghost use Rattle.std.specs.Prelude.{◌≡◌, ◌+◌, ◌<◌, ◌≤◌, List, [], length, Some, None, IfOk, IfErr, OnOk, OnErr, IsTrue};
 ghost use Rattle.store_model.specs.declared.reply.Outcome.TheVariants as outcomes;
 ghost use Rattle.wal_record.specs.History.{life_log};
 ghost use Rattle.wal_record.specs.Legal.{MayDecline};
+ghost use Rattle.wal_record.specs.Rules.{is_number};
 ghost use Rattle.wal_record.specs.declared.record.Record.{Record};
 ghost use Rattle.wal_record.specs.declared.entry.Entry.{Entry};
-ghost use Rattle.page_ops.specs.Causes.{Ends, FailsToEnter, IsOpen, NoOther, OrTooMany};
+ghost use Rattle.page_ops.specs.Causes.{Ends, FailsToEnter, IsOpen, NoOther, OrTooMany, with_one};
 ghost use Rattle.page_ops.specs.Claims.{SessionAgrees, session_alone};
-ghost use Rattle.page_ops.specs.Outcomes.{Commits, IsCrowd, begun, recycle_point, refused};
+ghost use Rattle.page_ops.specs.Outcomes.{Commits, IsCrowd, begun, refused};
 ghost use Rattle.page_ops.specs.Seeing.{Enters, IsMoment, Looks, known};
+ghost use Rattle.wal_record.specs.Checkpoints.{recycle_point};
 
 use crate::counts::Counts;
 use crate::history::{History, MOST};
@@ -18,7 +20,7 @@ use page_ops::{Committed, Life};
 use store_model::{Fault, Lsn, Outcome, Pos, Request, TxId};
 use wal_record::{Commit, Entry, Record};
 
-// So many transactions are live at most.
+/// So many transactions are live at most.
 const MOST_LIVE: u32 = 64;
 
 impl<'a, N: Life> History<'a, N> {
@@ -34,7 +36,7 @@ impl<'a, N: Life> History<'a, N> {
         ensures right { s.new ≡ s.old }
         ensures counts { counts.new ≡ counts.old }
         ensures pass { pass.new.log ≡ self.old }
-        ensures seen { Enters N.opens N.entries N.session_entries (known counts.old pass.old.log (session_alone s.old)) [] (known counts.new pass.new.log (session_alone s.new)) }
+        ensures seen { Enters N.opens N.entries N.session_entries (known counts.old pass.old (session_alone s.old)) [] (known counts.new pass.new (session_alone s.new)) }
         ensures fresh { IsOpen counts.old }
     {
         let (entries, tx) = (s.entries(), s.tx());
@@ -48,9 +50,11 @@ impl<'a, N: Life> History<'a, N> {
         pass: &mut Pass<Entry, N>,
         counts: &mut Counts<N>,
     ) -> Result<SessionRight<N>, Fault>
-        ensures seen { Looks N.opens N.entries N.session_entries counts.old pass.old.log counts.new pass.new.log }
+        ensures seen { Looks N.opens N.entries N.session_entries (record counts.old { made = counts.new.made }) pass.old counts.new pass.new }
+        ensures made { counts.new.made ≡ with_one counts.old.made result }
         ensures new { IfOk result (λ s. (s.entries ≡ 0) × (s.tx ≡ 0) × SessionAgrees pass.new.log s) }
         ensures refused { IfErr result (FailsToEnter NoOther) }
+        ensures ends { Ends N.opens N.log_faults N.made counts.old counts.new pass.new.log result }
     {
         self.look(pass, counts);
         if self.next_session == u32::MAX {
@@ -58,6 +62,7 @@ impl<'a, N: Life> History<'a, N> {
         }
         let (number, ground) = (self.next_session, self.stand.ground);
         self.next_session += 1;
+        self.stand.made.add(&mut counts.made, 1);
         let right = self
             .stand
             .books
@@ -74,12 +79,13 @@ impl<'a, N: Life> History<'a, N> {
         counts: &mut Counts<N>,
     ) -> Result<TxId, Fault>
         requires free { s.old.tx ≡ 0 }
-        ensures entered { Enters N.opens N.entries N.session_entries (known counts.old pass.old.log (session_alone s.old)) (begun s.old.session result) (known counts.new pass.new.log (session_alone s.new)) }
+        ensures entered { Enters N.opens N.entries N.session_entries (known counts.old pass.old (session_alone s.old)) (begun s.old.session result) (known counts.new pass.new (session_alone s.new)) }
         ensures right { IfOk result (λ tx. s.new ≡ record { session = s.old.session; entries = s.old.entries + 1; tx = tx }) }
+        ensures number { IfOk result (λ tx. IsTrue (is_number tx)) }
         ensures same { OnErr result (s.new ≡ s.old) }
         ensures crowd { IfErr result (IsCrowd pass.new.log) }
         ensures refused { IfErr result (FailsToEnter OrTooMany) }
-        ensures ends { Ends N.opens N.log_faults counts.old counts.new pass.new.log result }
+        ensures ends { Ends N.opens N.log_faults N.made counts.old counts.new pass.new.log result }
     {
         self.watch_session(s, pass, counts);
         if self.live == MOST_LIVE {
@@ -110,11 +116,11 @@ impl<'a, N: Life> History<'a, N> {
         counts: &mut Counts<N>,
     ) -> Result<Pos, Fault>
         requires lawful { (opening : List Record) (h : List Entry) → N.opens opening → IsMoment N.opens pass.old.log (session_alone s.old) h → MayDecline opening h s.old.session s.old.tx request outcomes.OpRefused }
-        ensures entered { Enters N.opens N.entries N.session_entries (known counts.old pass.old.log (session_alone s.old)) (refused s.old.session s.old.tx request result) (known counts.new pass.new.log (session_alone s.new)) }
+        ensures entered { Enters N.opens N.entries N.session_entries (known counts.old pass.old (session_alone s.old)) (refused s.old.session s.old.tx request result) (known counts.new pass.new (session_alone s.new)) }
         ensures right { s.new ≡ record { session = s.old.session; entries = s.old.entries + length (refused s.old.session s.old.tx request result); tx = s.old.tx } }
         ensures place { IfOk result (λ pos. pos ≡ length pass.new.log) }
         ensures refused { IfErr result (FailsToEnter NoOther) }
-        ensures ends { Ends N.opens N.log_faults counts.old counts.new pass.new.log result }
+        ensures ends { Ends N.opens N.log_faults N.made counts.old counts.new pass.new.log result }
     {
         self.watch_session(s, pass, counts);
         if self.count >= MOST {
@@ -141,9 +147,9 @@ impl<'a, N: Life> History<'a, N> {
         counts: &mut Counts<N>,
     ) -> Committed
         requires active { 0 < s.old.tx }
-        ensures entered { Commits N.opens N.entries N.session_entries s.old result (known counts.old pass.old.log (session_alone s.old)) (known counts.new pass.new.log (session_alone s.new)) }
+        ensures entered { Commits N.opens N.entries N.session_entries s.old result (known counts.old pass.old (session_alone s.old)) (known counts.new pass.new (session_alone s.new)) }
         ensures right { s.new ≡ record { session = s.old.session; entries = s.old.entries + 2; tx = 0 } }
-        ensures fresh { IsOpen counts.old × (counts.new.ended ≡ None) }
+        ensures fresh { IsOpen counts.old × IsOpen counts.new }
     {
         self.watch_session(s, pass, counts);
         let (session, tx, lsn) = (s.session(), s.tx(), self.last + 1);
@@ -160,7 +166,7 @@ impl<'a, N: Life> History<'a, N> {
         self.commits += 1;
         self.live -= 1;
         self.stand.front.meet(&ground.board, pass);
-        counts.durable = counts.durable.max(lsn);
+        self.stand.mark.store(&ground.board, lsn, pass);
         Committed {
             pos: self.count,
             number: self.commits,
@@ -170,19 +176,29 @@ impl<'a, N: Life> History<'a, N> {
     /// As `Journaling::recycle`. Nothing is kept, and so nothing is forgotten: the log goes on from its first LSN.
     #[tactic(auto, using(crate::proofs::Recycling::keeps_first))]
     pub fn recycle(&mut self, pass: &mut Pass<Entry, N>, counts: &mut Counts<N>) -> Lsn
-        ensures seen { Looks N.opens N.entries N.session_entries counts.old pass.old.log counts.new pass.new.log }
+        ensures seen { Looks N.opens N.entries N.session_entries counts.old pass.old counts.new pass.new }
         ensures kept { (opening : List Record) → N.opens opening → result ≤ recycle_point (life_log opening pass.new.log) }
-        ensures durable { (opening : List Record) → N.opens opening → length (life_log opening pass.new.log) ≤ counts.new.durable }
-        ensures fresh { IsOpen counts.old × (counts.new.ended ≡ None) }
+        ensures durable { (opening : List Record) → N.opens opening → length (life_log opening pass.new.log) ≤ pass.new.durable }
+        ensures fresh { IsOpen counts.old × IsOpen counts.new }
     {
         self.flush(pass, counts);
         1
     }
 
+    /// As `Journaling::desk`. No desk is kept, so there is no limit.
+    pub fn desk(&mut self, pass: &mut Pass<Entry, N>, counts: &mut Counts<N>)
+        ensures seen { Looks N.opens N.entries N.session_entries (record counts.old { made = counts.new.made }) pass.old counts.new pass.new }
+        ensures made { counts.new.made ≡ record counts.old.made { amount = counts.old.made.amount + 1 } }
+        ensures fresh { IsOpen counts.old × IsOpen counts.new }
+    {
+        self.look(pass, counts);
+        self.stand.made.add(&mut counts.made, 1);
+    }
+
     /// As `Journaling::length`.
     pub fn length(&mut self, pass: &mut Pass<Entry, N>, counts: &mut Counts<N>) -> Pos
         ensures counts { counts.new ≡ counts.old }
-        ensures seen { Looks N.opens N.entries N.session_entries counts.old pass.old.log counts.new pass.new.log }
+        ensures seen { Looks N.opens N.entries N.session_entries counts.old pass.old counts.new pass.new }
         ensures count { result ≡ length pass.new.log }
     {
         self.look(pass, counts);

@@ -16,7 +16,7 @@ use wal_record::Entry;
 
 const TRIES: u32 = 100;
 
-// Begins two transactions of a session, one after the other's commit. The numbers of the commits.
+/// Begins two transactions of a session, one after the other's commit. The numbers of the commits.
 pub(crate) fn commit_twice<N: Life, J: Journaling<N>, R: Wait>(
     rt: &R,
     alloc: Global,
@@ -35,7 +35,7 @@ pub(crate) fn commit_twice<N: Life, J: Journaling<N>, R: Wait>(
     Ok([first.number, second.number])
 }
 
-// Begins a transaction in session after session until one is refused. How many began.
+/// Begins a transaction in session after session until one is refused. How many began.
 fn begin_all<N: Life, J: Journaling<N>, R: Wait>(
     rt: &R,
     alloc: Global,
@@ -53,8 +53,8 @@ fn begin_all<N: Life, J: Journaling<N>, R: Wait>(
     Ok(TRIES)
 }
 
-// One thread commits by its own journal. The numbers of the commits, the entries after them, and how many transactions
-// then begin.
+/// One thread commits by its own journal. The numbers of the commits, the entries after them, and how many transactions
+/// then begin.
 fn own_run<N: Life, R: Wait>(
     rt: &R,
     alloc: Global,
@@ -62,8 +62,9 @@ fn own_run<N: Life, R: Wait>(
     tokens: Tokens<N>,
 ) -> Result<([u64; 3], u32), Fault>
     requires untold { (opening : List Record) → N.opens opening → ⊥ }
-    requires parts { (N.entries.parts ≡ 3) × (N.session_entries.parts ≡ 3) × (N.log_faults.parts ≡ 3) × (N.vault_faults.parts ≡ 3) }
+    requires parts { (N.entries.parts ≡ 3) × (N.session_entries.parts ≡ 3) × (N.log_faults.parts ≡ 3) × (N.vault_faults.parts ≡ 3) × (N.made.parts ≡ 3) }
     requires front { tokens.front ≡ [] }
+    requires mark { tokens.mark ≡ 0 }
     requires pages { tokens.books.pages ≡ [] }
     requires sessions { tokens.books.sessions ≡ [] }
     requires maint { tokens.books.maint ≡ [] }
@@ -87,8 +88,8 @@ fn own_life<N: Life, R: Wait>(
     unnamed: Unnamed,
 ) -> Result<([u64; 3], u32), Fault>
     requires untold { (opening : List Record) → N.opens opening → ⊥ }
-    requires named { unnamed ≡ life_names N.count N.pages N.sessions N.maint N.entries N.session_entries N.log_faults N.vault_faults N.data_faults }
-    requires parts { (N.entries.parts ≡ 3) × (N.session_entries.parts ≡ 3) × (N.log_faults.parts ≡ 3) × (N.vault_faults.parts ≡ 3) }
+    requires named { unnamed ≡ life_names N.count N.pages N.sessions N.maint N.entries N.session_entries N.log_faults N.vault_faults N.data_faults N.made }
+    requires parts { (N.entries.parts ≡ 3) × (N.session_entries.parts ≡ 3) × (N.log_faults.parts ≡ 3) × (N.vault_faults.parts ≡ 3) × (N.made.parts ≡ 3) }
 {
     let (ground, tokens) = unnamed.split::<N>();
     own_run(rt, alloc, &ground, tokens)

@@ -1,3 +1,4 @@
+//! Pages in frames, put away, or in hand.
 ghost use Rattle.std.specs.Prelude.{◌≡◌, ◌<◌, ◌≤◌, ◌-◌, length, true, Some, None, IfSome, IfNone, IsSomeAnd, slice_index_or};
 ghost use Rattle.page_ops.specs.Takes.{IfPage};
 ghost use Rattle.small_stores.specs.Tables.{IsIn, Takes, framed, with_frame};
@@ -35,7 +36,7 @@ impl<N: Life> Frames<N> {
         Frames { frames, away }
     }
 
-    // Where the page has its place, if it has one.
+    /// Where the page has its place, if it has one.
     fn place_of(&self, page: PageNo) -> Option<usize>
         ensures inside { IfSome result (λ place. (place ≡ page - 1) × (place < length self.now.frames) × (1 ≤ page)) }
         ensures outside { IfNone result (IsIn self.now page → ⊥) }
@@ -56,7 +57,7 @@ impl<N: Life> Frames<N> {
         }
     }
 
-    // Whether the page is in its frame.
+    /// Whether the page is in its frame.
     fn is_framed(&self, place: usize, page: PageNo) -> bool
         requires { place < length self.now.frames }
         ensures { result ≡ true → IsSomeAnd (slice_index_or self.now.frames place None) (λ held. held.page ≡ page) }

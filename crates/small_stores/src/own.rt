@@ -2,12 +2,12 @@
 ghost use Rattle.std.specs.Prelude.{◌≡◌};
 
 use crate::frames::Frames;
-use crate::seeing::see_page;
 use books::{PageRight, SessionRight};
+use foster_tree::see_page;
 use front::Pass;
 use page_ops::{
-    Committed, Entered, Entering, Found, Grant, Ground, Group, Held, Journaling, Life, Pages,
-    Rights, Survey, Taken,
+    Committed, Entered, Entering, Found, Grant, Ground, Group, Held, Journaling, Life, Listed,
+    Pages, Rights, Survey, Taken, Work,
 };
 use small_journal::{Counts, History};
 use std::alloc::Global;
@@ -30,12 +30,12 @@ impl<'a, N: Life> Entering<N> for OwnJournal<'a, N> {
     }
 
     fn log_faults(&self) -> u64 {
-        let _ = &self.counts.durable;
+        let _ = &self.counts.made;
         0
     }
 
     fn vault_faults(&self) -> u64 {
-        let _ = &self.counts.durable;
+        let _ = &self.counts.made;
         0
     }
 
@@ -86,6 +86,17 @@ impl<'a, N: Life> Entering<N> for OwnJournal<'a, N> {
         _lsn: Lsn,
         pass: &mut Pass<Entry, N>,
     ) -> Result<Found, Fault> {
+        let OwnJournal { history, counts } = self;
+        history.watch(pass, counts);
+        Err(Fault::Memory)
+    }
+
+    fn listed<R: Wait>(
+        &mut self,
+        _rt: &R,
+        _page: PageNo,
+        pass: &mut Pass<Entry, N>,
+    ) -> Result<Listed, Fault> {
         let OwnJournal { history, counts } = self;
         history.watch(pass, counts);
         Err(Fault::Memory)
@@ -183,6 +194,12 @@ impl<'a, N: Life> Journaling<N> for OwnJournal<'a, N> {
         Err(Fault::Memory)
     }
 
+    fn work<R: Wait>(&mut self, _rt: &R, pass: &mut Pass<Entry, N>) -> Result<Work, Fault> {
+        let OwnJournal { history, counts } = self;
+        history.watch(pass, counts);
+        Err(Fault::Memory)
+    }
+
     fn recycle<R: Wait>(&mut self, _rt: &R, pass: &mut Pass<Entry, N>) -> Result<Lsn, Fault> {
         let OwnJournal { history, counts } = self;
         Ok(history.recycle(pass, counts))
@@ -194,13 +211,13 @@ impl<'a, N: Life> Journaling<N> for OwnJournal<'a, N> {
     }
 
     fn ended<R: Wait>(&mut self, _rt: &R) -> Option<Lsn> {
-        let _ = &self.counts.durable;
+        let _ = &self.counts.made;
         None
     }
 
     fn desk<R: Wait>(&mut self, _rt: &R, pass: &mut Pass<Entry, N>) -> Result<(), Fault> {
         let OwnJournal { history, counts } = self;
-        history.watch(pass, counts);
+        history.desk(pass, counts);
         Ok(())
     }
 }
@@ -251,7 +268,7 @@ impl<N: Life, J: Entering<N>> Pages<N, J> for OwnPages<N> {
 
     fn wait_for<R: Wait>(&mut self, _rt: &R, _page: PageNo) {}
 
-    #[tactic(auto, using(crate::proofs::Entering::upheld, crate::proofs::Entering::looked))]
+    #[tactic(auto, using(page_ops::proofs::Gaining::upheld, page_ops::proofs::Gaining::looked))]
     fn bring<R: Wait>(
         &mut self,
         rt: &R,
@@ -273,7 +290,7 @@ impl<N: Life, J: Entering<N>> Pages<N, J> for OwnPages<N> {
         }
     }
 
-    #[tactic(auto, using(crate::proofs::Entering::upheld, crate::proofs::Entering::looked))]
+    #[tactic(auto, using(page_ops::proofs::Gaining::upheld, page_ops::proofs::Gaining::looked))]
     fn renew<R: Wait>(
         &mut self,
         rt: &R,
@@ -299,7 +316,7 @@ impl<N: Life, J: Entering<N>> Pages<N, J> for OwnPages<N> {
         self.out -= 1;
     }
 
-    #[tactic(auto, using(crate::proofs::Entering::upheld, crate::proofs::Entering::looked))]
+    #[tactic(auto, using(page_ops::proofs::Gaining::upheld, page_ops::proofs::Gaining::looked))]
     fn reserve_new<R: Wait>(
         &mut self,
         rt: &R,

@@ -2,12 +2,12 @@
 ghost use Rattle.std.specs.Prelude.{◌≡◌};
 
 use crate::frames::Frames;
-use crate::seeing::see_page;
 use books::{PageRight, SessionRight};
+use foster_tree::see_page;
 use front::Pass;
 use page_ops::{
-    Committed, Entered, Entering, Found, Grant, Ground, Group, Held, Journaling, Life, Pages,
-    Rights, Survey, Taken,
+    Committed, Entered, Entering, Found, Grant, Ground, Group, Held, Journaling, Life, Listed,
+    Pages, Rights, Survey, Taken, Work,
 };
 use small_journal::{Counts, History};
 use std::alloc::Global;
@@ -69,12 +69,12 @@ impl<'s, 'a, N: Life> Entering<N> for JournalDesk<'s, 'a, N> {
     }
 
     fn log_faults(&self) -> u64 {
-        let _ = &self.counts.durable;
+        let _ = &self.counts.made;
         0
     }
 
     fn vault_faults(&self) -> u64 {
-        let _ = &self.counts.durable;
+        let _ = &self.counts.made;
         0
     }
 
@@ -125,6 +125,17 @@ impl<'s, 'a, N: Life> Entering<N> for JournalDesk<'s, 'a, N> {
         _lsn: Lsn,
         pass: &mut Pass<Entry, N>,
     ) -> Result<Found, Fault> {
+        let JournalDesk { store, counts } = self;
+        store.history.lock(rt).watch(pass, counts);
+        Err(Fault::Memory)
+    }
+
+    fn listed<R: Wait>(
+        &mut self,
+        rt: &R,
+        _page: PageNo,
+        pass: &mut Pass<Entry, N>,
+    ) -> Result<Listed, Fault> {
         let JournalDesk { store, counts } = self;
         store.history.lock(rt).watch(pass, counts);
         Err(Fault::Memory)
@@ -222,6 +233,12 @@ impl<'s, 'a, N: Life> Journaling<N> for JournalDesk<'s, 'a, N> {
         Err(Fault::Memory)
     }
 
+    fn work<R: Wait>(&mut self, rt: &R, pass: &mut Pass<Entry, N>) -> Result<Work, Fault> {
+        let JournalDesk { store, counts } = self;
+        store.history.lock(rt).watch(pass, counts);
+        Err(Fault::Memory)
+    }
+
     fn recycle<R: Wait>(&mut self, rt: &R, pass: &mut Pass<Entry, N>) -> Result<Lsn, Fault> {
         let JournalDesk { store, counts } = self;
         Ok(store.history.lock(rt).recycle(pass, counts))
@@ -233,13 +250,13 @@ impl<'s, 'a, N: Life> Journaling<N> for JournalDesk<'s, 'a, N> {
     }
 
     fn ended<R: Wait>(&mut self, _rt: &R) -> Option<Lsn> {
-        let _ = &self.counts.durable;
+        let _ = &self.counts.made;
         None
     }
 
     fn desk<R: Wait>(&mut self, rt: &R, pass: &mut Pass<Entry, N>) -> Result<(), Fault> {
         let JournalDesk { store, counts } = self;
-        store.history.lock(rt).watch(pass, counts);
+        store.history.lock(rt).desk(pass, counts);
         Ok(())
     }
 }
@@ -264,7 +281,7 @@ impl<'s, 'a, N: Life> PageDesk<'s, 'a, N> {
         }
     }
 
-    // Puts the page into its frame, and wakes who waits for it.
+    /// Puts the page into its frame, and wakes who waits for it.
     fn give_back<R: Wait>(&self, rt: &R, held: Held<N>) {
         self.store.frames.lock(rt).put_back(held);
         self.store.freed.notify_all();
@@ -301,7 +318,7 @@ impl<'s, 'a, N: Life, J: Entering<N>> Pages<N, J> for PageDesk<'s, 'a, N> {
             .wait_while(rt, frames, |frames| frames.is_held(page));
     }
 
-    #[tactic(auto, using(crate::proofs::Entering::upheld, crate::proofs::Entering::looked))]
+    #[tactic(auto, using(page_ops::proofs::Gaining::upheld, page_ops::proofs::Gaining::looked))]
     fn bring<R: Wait>(
         &mut self,
         rt: &R,
@@ -322,7 +339,7 @@ impl<'s, 'a, N: Life, J: Entering<N>> Pages<N, J> for PageDesk<'s, 'a, N> {
         Ok(())
     }
 
-    #[tactic(auto, using(crate::proofs::Entering::upheld, crate::proofs::Entering::looked))]
+    #[tactic(auto, using(page_ops::proofs::Gaining::upheld, page_ops::proofs::Gaining::looked))]
     fn renew<R: Wait>(
         &mut self,
         rt: &R,
@@ -348,7 +365,7 @@ impl<'s, 'a, N: Life, J: Entering<N>> Pages<N, J> for PageDesk<'s, 'a, N> {
         self.out -= 1;
     }
 
-    #[tactic(auto, using(crate::proofs::Entering::upheld, crate::proofs::Entering::looked))]
+    #[tactic(auto, using(page_ops::proofs::Gaining::upheld, page_ops::proofs::Gaining::looked))]
     fn reserve_new<R: Wait>(
         &mut self,
         rt: &R,

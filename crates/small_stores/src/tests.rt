@@ -1,12 +1,15 @@
 //! Pages taken, purged and put back through either store, by one thread and by two. The two also commit.
-ghost use Rattle.std.specs.Prelude.{◌≡◌, ◌<◌, ◌≤◌, List, [], Some, None, vec_len, length, IfOk, IfSome};
+ghost use Rattle.std.specs.Prelude.{◌≡◌, List, [], ◌∷◌, ◌++◌, Some, None, IfOk, IfSome, IsTrue};
 ghost use Rattle.page_ops.specs.Names.{life_names};
+ghost use Rattle.books.specs.Booking.{entry, entry_of};
+ghost use Rattle.wal_record.specs.Rules.{is_page};
 ghost use Rattle.wal_record.specs.State.{KeepsState};
 ghost use Rattle.wal_record.specs.declared.record.Record.{Record};
 
 use super::*;
 use crate::commit_tests::commit_twice;
-use books::{Book, Books, PageBook, PageRight};
+use books::{Book, BookTables, PageBook, PageRight};
+use foster_tree::{find_leaf, take};
 use front::Pass;
 use page_ops::{Entered, Entering, Ground, Group, Held, Life, Pages, Rights, Tokens, Unnamed};
 use small_journal::{Counts, History};
@@ -23,7 +26,7 @@ const ROUNDS: u32 = 100;
 
 const LEAVES: u32 = 2;
 
-// Enters the purge of the page in hand. Whether it was entered.
+/// Enters the purge of the page in hand. Whether it was entered.
 fn purge<N: Life, J: Entering<N>, R: Wait>(
     rt: &R,
     alloc: Global,
@@ -32,7 +35,6 @@ fn purge<N: Life, J: Entering<N>, R: Wait>(
     pass: &mut Pass<Entry, N>,
 ) -> Result<bool, Fault>
     requires untold { (opening : List Record) → N.opens opening → ⊥ }
-    requires page { (1 ≤ held.old.page) × (held.old.page ≤ 16384) }
     ensures page { held.new.page ≡ held.old.page }
 {
     let mut recs = List::new(alloc);
@@ -44,6 +46,7 @@ fn purge<N: Life, J: Entering<N>, R: Wait>(
         recs,
         said: None,
         room: false,
+        lsn: 0,
     };
     let mut rights = Rights::none();
     rights.a = held.right.take();
@@ -58,7 +61,7 @@ fn purge<N: Life, J: Entering<N>, R: Wait>(
     }
 }
 
-// Goes down to leaf after leaf, takes it, purges it and puts it back. How many purges it entered of leaves to which it came.
+/// Goes down to leaf after leaf, takes it, purges it and puts it back. How many purges it entered of leaves to which it came.
 fn work<N: Life, J: Entering<N>, P: Pages<N, J>, R: Wait>(
     rt: &R,
     alloc: Global,
@@ -85,7 +88,7 @@ fn work<N: Life, J: Entering<N>, P: Pages<N, J>, R: Wait>(
     Ok(entered)
 }
 
-// The page of the leaf of a key, which is put back.
+/// The page of the leaf of a key, which is put back.
 fn leaf_page<N: Life, J: Entering<N>, P: Pages<N, J>, R: Wait>(
     rt: &R,
     alloc: Global,
@@ -107,7 +110,7 @@ fn leaf_page<N: Life, J: Entering<N>, P: Pages<N, J>, R: Wait>(
     Ok(Some(page))
 }
 
-// A branch with all keys. Its one child is page 2.
+/// A branch with all keys. Its one child is page 2.
 fn root_state(alloc: Global) -> Option<PageState>
     ensures { IfSome result KeepsState }
 {
@@ -123,7 +126,7 @@ fn root_state(alloc: Global) -> Option<PageState>
     })
 }
 
-// An empty leaf with all keys. Those from m on are its foster child's, page 3.
+/// An empty leaf with all keys. Those from m on are its foster child's, page 3.
 fn lower_state(alloc: Global) -> Option<PageState>
     ensures { IfSome result KeepsState }
 {
@@ -137,7 +140,7 @@ fn lower_state(alloc: Global) -> Option<PageState>
     })
 }
 
-// An empty leaf with the keys from m on.
+/// An empty leaf with the keys from m on.
 fn upper_state(alloc: Global) -> Option<PageState>
     ensures { IfSome result KeepsState }
 {
@@ -157,12 +160,13 @@ fn page_with<N: Life>(
     pass: Pass<Entry, N>,
 ) -> Option<Held<N>>
     requires untold { (opening : List Record) → N.opens opening → ⊥ }
-    requires right { right ≡ record { page = page; lsn = 0 } }
+    requires right { right ≡ record { page = page; lsn = 1 } }
+    requires page { IsTrue (is_page page) }
     requires rules { IfSome state KeepsState }
 {
     Some(Held {
         page,
-        lsn: 0,
+        lsn: 1,
         state: state?,
         dirty: false,
         right: Some(right),
@@ -170,14 +174,28 @@ fn page_with<N: Life>(
     })
 }
 
-// What a run begins with: a history, the pages, all shares, and a first pass. Page 1 is in its frame, the others are put away.
+/// The right to a page whose last record is the log's first.
+fn first_right<N: Life>(
+    tables: &BookTables<N>,
+    book: &mut Book<PageBook<N>>,
+    page: PageNo,
+) -> PageRight<N>
+    requires none { entry_of page book.old ≡ None }
+    ensures right { result ≡ record { page = page; lsn = 1 } }
+    ensures book { book.new ≡ book.old ++ entry page 1 0 ∷ [] }
+{
+    let right = book.open(&tables.pages, page);
+    PageRight::of(book.set(&tables.pages, right, 1, 0))
+}
+
+/// What a run begins with: a history, the pages, all shares, and a first pass. Page 1 is in its frame, the others are put away.
 #[derive(Drop)]
 pub(crate) struct Begun<'a, N: Life> {
     pub(crate) history: History<'a, N>,
     pub(crate) frames: Frames<N>,
     pub(crate) counts: Counts<N>,
     pub(crate) pass: Pass<Entry, N>,
-    ghost whole: { (counts.entries.parts ≡ 3) × (counts.session_entries.parts ≡ 3) × (counts.log_faults.parts ≡ 3) × (counts.vault_faults.parts ≡ 3) },
+    ghost whole: { (counts.entries.parts ≡ 3) × (counts.session_entries.parts ≡ 3) × (counts.log_faults.parts ≡ 3) × (counts.vault_faults.parts ≡ 3) × (counts.made.parts ≡ 3) },
 }
 
 pub(crate) fn begin<'a, N: Life>(
@@ -186,14 +204,16 @@ pub(crate) fn begin<'a, N: Life>(
     tokens: Tokens<N>,
 ) -> Result<Begun<'a, N>, Memory>
     requires untold { (opening : List Record) → N.opens opening → ⊥ }
-    requires parts { (N.entries.parts ≡ 3) × (N.session_entries.parts ≡ 3) × (N.log_faults.parts ≡ 3) × (N.vault_faults.parts ≡ 3) }
+    requires parts { (N.entries.parts ≡ 3) × (N.session_entries.parts ≡ 3) × (N.log_faults.parts ≡ 3) × (N.vault_faults.parts ≡ 3) × (N.made.parts ≡ 3) }
     requires front { tokens.front ≡ [] }
+    requires mark { tokens.mark ≡ 0 }
     requires pages { tokens.books.pages ≡ [] }
     requires sessions { tokens.books.sessions ≡ [] }
     requires maint { tokens.books.maint ≡ [] }
 {
     let Tokens {
         front,
+        mark,
         mut pass,
         mut books,
         entries,
@@ -201,10 +221,11 @@ pub(crate) fn begin<'a, N: Life>(
         log_faults,
         vault_faults,
         data_faults: _,
+        made,
     } = tokens;
-    let first = PageRight::of(books.pages.open(&ground.tables.pages, 1));
-    let second = PageRight::of(books.pages.open(&ground.tables.pages, 2));
-    let third = PageRight::of(books.pages.open(&ground.tables.pages, 3));
+    let first = first_right(&ground.tables, &mut books.pages, 1);
+    let second = first_right(&ground.tables, &mut books.pages, 2);
+    let third = first_right(&ground.tables, &mut books.pages, 3);
     let frames = vec![in alloc;
         page_with(1, root_state(alloc), first, pass.copy(&ground.board)),
         None,
@@ -219,17 +240,21 @@ pub(crate) fn begin<'a, N: Life>(
     let (session_book, session_entries) = session_entries.open();
     let (_, log_faults) = log_faults.open();
     let (_, vault_faults) = vault_faults.open();
+    let (made_book, made) = made.open();
     Ok(Begun {
         history: History::new(
             ground,
             front,
+            mark,
             books,
             entries_book,
             session_book,
-            0,
+            made_book,
+            1,
             3,
             0,
             0,
+            8,
             1,
         ),
         frames: Frames::new(frames, away),
@@ -238,13 +263,13 @@ pub(crate) fn begin<'a, N: Life>(
             session_entries,
             log_faults,
             vault_faults,
-            durable: 0,
+            made,
         },
         pass,
     })
 }
 
-// One thread works on its own store. What it entered, and the length of the history.
+/// One thread works on its own store. What it entered, and the length of the history.
 fn own_run<N: Life, R: Wait>(
     rt: &R,
     alloc: Global,
@@ -252,8 +277,9 @@ fn own_run<N: Life, R: Wait>(
     tokens: Tokens<N>,
 ) -> Result<[u64; 2], Fault>
     requires untold { (opening : List Record) → N.opens opening → ⊥ }
-    requires parts { (N.entries.parts ≡ 3) × (N.session_entries.parts ≡ 3) × (N.log_faults.parts ≡ 3) × (N.vault_faults.parts ≡ 3) }
+    requires parts { (N.entries.parts ≡ 3) × (N.session_entries.parts ≡ 3) × (N.log_faults.parts ≡ 3) × (N.vault_faults.parts ≡ 3) × (N.made.parts ≡ 3) }
     requires front { tokens.front ≡ [] }
+    requires mark { tokens.mark ≡ 0 }
     requires pages { tokens.books.pages ≡ [] }
     requires sessions { tokens.books.sessions ≡ [] }
     requires maint { tokens.books.maint ≡ [] }
@@ -276,8 +302,8 @@ fn own_run<N: Life, R: Wait>(
 
 fn own_life<N: Life, R: Wait>(rt: &R, alloc: Global, unnamed: Unnamed) -> Result<[u64; 2], Fault>
     requires untold { (opening : List Record) → N.opens opening → ⊥ }
-    requires named { unnamed ≡ life_names N.count N.pages N.sessions N.maint N.entries N.session_entries N.log_faults N.vault_faults N.data_faults }
-    requires parts { (N.entries.parts ≡ 3) × (N.session_entries.parts ≡ 3) × (N.log_faults.parts ≡ 3) × (N.vault_faults.parts ≡ 3) }
+    requires named { unnamed ≡ life_names N.count N.pages N.sessions N.maint N.entries N.session_entries N.log_faults N.vault_faults N.data_faults N.made }
+    requires parts { (N.entries.parts ≡ 3) × (N.session_entries.parts ≡ 3) × (N.log_faults.parts ≡ 3) × (N.vault_faults.parts ≡ 3) × (N.made.parts ≡ 3) }
 {
     let (ground, tokens) = unnamed.split::<N>();
     own_run(rt, alloc, &ground, tokens)
@@ -291,7 +317,7 @@ fn one_thread_purges_its_pages(rt: HostRuntime) -> Result<(), Fail> {
     Ok(())
 }
 
-// A thread of a shared store, how many purges it entered, and the sum of the numbers of its commits.
+/// A thread of a shared store, how many purges it entered, and the sum of the numbers of its commits.
 #[derive(Drop)]
 struct Worker<'s, 'a, N: Life> {
     journal: JournalDesk<'s, 'a, N>,
@@ -322,8 +348,8 @@ fn work_on<'s, 'a, N: Life>(rt: &impl Wait, alloc: Global, worker: &mut Worker<'
     }
 }
 
-// Two threads work on one store. How many purges they entered, the sum of the numbers of their commits, and the length
-// of the history.
+/// Two threads work on one store. How many purges they entered, the sum of the numbers of their commits, and the length
+/// of the history.
 fn shared_run<N: Life + Send + Sync, R: Threads + Wait + Sync>(
     rt: &R,
     alloc: Global,
@@ -331,8 +357,9 @@ fn shared_run<N: Life + Send + Sync, R: Threads + Wait + Sync>(
     tokens: Tokens<N>,
 ) -> Result<[u64; 3], Fault>
     requires untold { (opening : List Record) → N.opens opening → ⊥ }
-    requires parts { (N.entries.parts ≡ 3) × (N.session_entries.parts ≡ 3) × (N.log_faults.parts ≡ 3) × (N.vault_faults.parts ≡ 3) }
+    requires parts { (N.entries.parts ≡ 3) × (N.session_entries.parts ≡ 3) × (N.log_faults.parts ≡ 3) × (N.vault_faults.parts ≡ 3) × (N.made.parts ≡ 3) }
     requires front { tokens.front ≡ [] }
+    requires mark { tokens.mark ≡ 0 }
     requires pages { tokens.books.pages ≡ [] }
     requires sessions { tokens.books.sessions ≡ [] }
     requires maint { tokens.books.maint ≡ [] }
@@ -384,8 +411,8 @@ fn shared_life<N: Life + Send + Sync, R: Threads + Wait + Sync>(
     unnamed: Unnamed,
 ) -> Result<[u64; 3], Fault>
     requires untold { (opening : List Record) → N.opens opening → ⊥ }
-    requires named { unnamed ≡ life_names N.count N.pages N.sessions N.maint N.entries N.session_entries N.log_faults N.vault_faults N.data_faults }
-    requires parts { (N.entries.parts ≡ 3) × (N.session_entries.parts ≡ 3) × (N.log_faults.parts ≡ 3) × (N.vault_faults.parts ≡ 3) }
+    requires named { unnamed ≡ life_names N.count N.pages N.sessions N.maint N.entries N.session_entries N.log_faults N.vault_faults N.data_faults N.made }
+    requires parts { (N.entries.parts ≡ 3) × (N.session_entries.parts ≡ 3) × (N.log_faults.parts ≡ 3) × (N.vault_faults.parts ≡ 3) × (N.made.parts ≡ 3) }
 {
     let (ground, tokens) = unnamed.split::<N>();
     shared_run(rt, alloc, &ground, tokens)

@@ -7,10 +7,7 @@ ghost use Rattle.wal_record.specs.Reading.{any_number, number_at, text_at, key_a
 ghost use Rattle.state_codec.specs.Gives.{Gives, TakesFront};
 
 use crate::fault::FieldFault;
-use store_model::{Key, OpValue, Value};
-
-/// The greatest LSN, and the greatest number of a transaction, backup or run.
-pub const HIGHEST: u64 = (1 << 63) - 1;
+use store_model::{HIGHEST, Key, LEAST_LIMIT, MOST_PAGES, OpValue, Value};
 
 pub fn u16_in_front(bytes: &[u8]) -> Option<(u16, &[u8])>
     ensures { TakesFront result w16 bytes.now }
@@ -76,7 +73,7 @@ pub fn page_at(bytes: &[u8]) -> Result<(u32, &[u8]), FieldFault>
     ensures { Gives (λ x. (x.0, x.1.now)) result (number_at w32 is_page bytes.now) }
 {
     match u32_in_front(bytes) {
-        Some((number, rest)) if number >= 1 && number <= 16384 => Ok((number, rest)),
+        Some((number, rest)) if number >= 1 && number <= MOST_PAGES => Ok((number, rest)),
         _ => Err(FieldFault::Bad { left: bytes.len() }),
     }
 }
@@ -87,7 +84,7 @@ pub fn child_at(bytes: &[u8]) -> Result<(u32, &[u8]), FieldFault>
     ensures { Gives (λ x. (x.0, x.1.now)) result (number_at w32 is_child bytes.now) }
 {
     match u32_in_front(bytes) {
-        Some((number, rest)) if number >= 2 && number <= 16384 => Ok((number, rest)),
+        Some((number, rest)) if number >= 2 && number <= MOST_PAGES => Ok((number, rest)),
         _ => Err(FieldFault::Bad { left: bytes.len() }),
     }
 }
@@ -98,7 +95,7 @@ pub fn limit_at(bytes: &[u8]) -> Result<(u32, &[u8]), FieldFault>
     ensures { Gives (λ x. (x.0, x.1.now)) result (number_at w32 is_limit bytes.now) }
 {
     match u32_in_front(bytes) {
-        Some((number, rest)) if number >= 8 && number <= 16384 => Ok((number, rest)),
+        Some((number, rest)) if number >= LEAST_LIMIT && number <= MOST_PAGES => Ok((number, rest)),
         _ => Err(FieldFault::Bad { left: bytes.len() }),
     }
 }

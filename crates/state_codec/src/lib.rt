@@ -19,9 +19,9 @@ mod state_writing;
 
 pub use fault::FieldFault;
 pub use field::{
-    HIGHEST, argument_at, child_at, key_at, limit_at, lsn_or_none_at, maybe_value_at, new_value_at,
-    next_at, number_at, page_at, page_count_at, u8_at, u16_at, u32_at, u32_in_front, u64_at,
-    u64_in_front, value_at,
+    argument_at, child_at, key_at, limit_at, lsn_or_none_at, maybe_value_at, new_value_at, next_at,
+    number_at, page_at, page_count_at, u8_at, u16_at, u32_at, u32_in_front, u64_at, u64_in_front,
+    value_at,
 };
 pub use put::{
     put_argument, put_key, put_maybe_value, put_u8, put_u16, put_u32, put_u64, put_value,

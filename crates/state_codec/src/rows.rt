@@ -3,7 +3,7 @@ ghost use Rattle.std.specs.Prelude.{◌≡◌, ◌≤◌, ◌+◌, ℕ, List, []
 ghost use Rattle.std.specs.List.{sum_by};
 ghost use Rattle.std.specs.Int.{w16};
 ghost use Rattle.store_model.specs.Range.{Interval};
-ghost use Rattle.wal_record.specs.State.{leaf_row_size, branch_row_size};
+ghost use Rattle.wal_record.specs.State.{leaf_row_size, branch_row_size, page_room};
 ghost use Rattle.wal_record.specs.Reading.{number_at, text_at, key_follows, row_key_at, flag_at, row_value_at, leaf_row_at, separator_follows, separator_at, branch_row_at, is_row_count, items_at, rows_at};
 ghost use Rattle.state_codec.specs.Gives.{Gives};
 
@@ -11,11 +11,8 @@ use crate::fault::FieldFault;
 use crate::field::{argument_at, child_at, key_at, u16_in_front, value_at};
 use crate::state::bound_of;
 use std::alloc::Global;
-use store_model::{Bound, Key, List, OpValue, Value};
+use store_model::{Bound, Key, List, OpValue, STATE_BYTES, Value};
 use wal_record::{BranchRow, LeafRow, Rows};
-
-/// The bytes that a state may have.
-const PAGE_ROOM: usize = 4051;
 
 fn key_follows(low: &Bound, end: &Bound, before: &[LeafRow], key: &Key) -> bool
     ensures { result ≡ key_follows (record { low = low.now; high = end.now }) before.now key.now }
@@ -85,8 +82,8 @@ fn leaf_row_at<'a>(
     bytes: &'a [u8],
 ) -> Result<(LeafRow, &'a [u8]), FieldFault>
     requires so_far { taken ≡ _used + sum_by leaf_row_size before.now }
-    requires small { taken ≤ 4051 }
-    ensures size { IfOk result (λ x. taken + leaf_row_size x.0 ≤ 4051) }
+    requires small { taken ≤ page_room }
+    ensures size { IfOk result (λ x. taken + leaf_row_size x.0 ≤ page_room) }
     ensures row { Gives (λ x. (x.0, x.1.now)) result (leaf_row_at (record { low = low.now; high = end.now }) _used before.now bytes.now) }
 {
     let (key, rest) = row_key_at(low, end, before, bytes)?;
@@ -97,7 +94,7 @@ fn leaf_row_at<'a>(
         tombstone,
         value,
     };
-    if taken + leaf_row_bytes(&row) > PAGE_ROOM {
+    if taken + leaf_row_bytes(&row) > STATE_BYTES {
         return Err(FieldFault::Bad { left: bytes.len() });
     }
     Ok((row, rest))
@@ -140,14 +137,14 @@ fn branch_row_at<'a>(
     bytes: &'a [u8],
 ) -> Result<(BranchRow, usize, &'a [u8]), FieldFault>
     requires so_far { taken ≡ _used + sum_by branch_row_size before.now }
-    requires small { taken ≤ 4051 }
-    ensures size { IfOk result (λ x. (x.1 ≡ branch_row_size x.0) × (taken + x.1 ≤ 4051)) }
+    requires small { taken ≤ page_room }
+    ensures size { IfOk result (λ x. (x.1 ≡ branch_row_size x.0) × (taken + x.1 ≤ page_room)) }
     ensures row { Gives (λ x. (x.0, x.2.now)) result (branch_row_at (record { low = low.now; high = end.now }) _used before.now bytes.now) }
 {
     let (text, rest) = separator_at(low, end, before, bytes)?;
     let (child, rest) = child_at(rest)?;
     let size = 5 + text.as_bytes().len();
-    if taken + size > PAGE_ROOM {
+    if taken + size > STATE_BYTES {
         return Err(FieldFault::Bad { left: bytes.len() });
     }
     let low = bound_of(&text);

@@ -1,7 +1,7 @@
 //! The state of a page at the end of bytes. Where memory runs out, part of it may have been appended.
 ghost use Rattle.std.specs.Prelude.{◌≡◌, ◌++◌, ◌≤◌, ◌<◌, ◌^◌, length, flat_map, OnOk};
 ghost use Rattle.std.specs.Int.{w8, w16, w32};
-ghost use Rattle.wal_record.specs.State.{text_of, rows_size, KeepsState};
+ghost use Rattle.wal_record.specs.State.{text_of, rows_size, page_room, KeepsState};
 ghost use Rattle.wal_record.specs.Spelling.{number_bytes, text_bytes, value_bytes, maybe_bytes, list_bytes, foster_bytes, leaf_row_bytes, branch_row_bytes, rows_bytes, state_bytes};
 
 use crate::put::{put_key, put_u8, put_u16, put_u32, put_value};
@@ -102,7 +102,7 @@ fn put_branch_rows(out: &mut Vec<u8>, rows: &List<BranchRow>) -> Result<(), Allo
 }
 
 fn put_rows(out: &mut Vec<u8>, rows: &Rows) -> Result<(), AllocError>
-    requires { rows_size rows.now ≤ 4051 }
+    requires { rows_size rows.now ≤ page_room }
     ensures { OnOk result (out.new.items ≡ out.old.items ++ rows_bytes rows.now) }
 {
     match rows {

@@ -2,28 +2,32 @@
 ghost use Rattle.std.specs.Prelude.{◌≡◌, ◌≤◌, ◌↔◌, IsSome, IfSome, Some, None, [], length, unwrap_or};
 ghost use Rattle.std.specs.Option.{option_copied};
 ghost use Rattle.store_model.specs.Range.{is_below};
+ghost use Rattle.store_model.specs.declared.limits.TheConstants.{BOUND_BYTES};
 
 use crate::key::Key;
+use crate::limits::BOUND_BYTES;
+use crate::text::copy_of;
 use arrayvec::ArrayVec;
 use std::marker::Model;
 
-/// An end of a range: a text of at most 65 bytes, or the top, which is above all texts. The empty text is below every
+/// An end of a range: a text of at most [`BOUND_BYTES`] bytes, or the top, which is above all texts. The empty text is below every
 /// key.
 #[derive(Clone, Debug, PartialEq, Eq, Drop)]
 pub struct Bound {
-    at: Option<ArrayVec<u8, 65>>,
+    at: Option<ArrayVec<u8, BOUND_BYTES>>,
 }
 
 impl Model for Bound {
     ghost use Rattle.std.specs.Prelude.{List, ℕ, ◌≤◌, length, Option, IfSome};
     ghost use Rattle.std.specs.Option.{option_map};
+    ghost use Rattle.store_model.specs.declared.limits.TheConstants.{BOUND_BYTES};
     ghost use Rattle.store_model.specs.BoundModel.{at_again};
 
     ghost Value = { Option (List ℕ) };
 
     ghost view = { λ b. option_map (λ v. v.items) b.at };
 
-    ghost invariant = { λ b. IfSome b.at (λ v. length v.items ≤ 65) };
+    ghost invariant = { λ b. IfSome b.at (λ v. length v.items ≤ BOUND_BYTES) };
 
     ghost inverse = { λ b. record { at = option_map (λ bytes. record { items = bytes }) b } };
 
@@ -31,10 +35,10 @@ impl Model for Bound {
 }
 
 impl Bound {
-    /// The bound at these bytes, if there are at most 65.
+    /// The bound at these bytes, if there are at most [`BOUND_BYTES`].
     pub fn at(bytes: &[u8]) -> Option<Bound>
         ensures value { IfSome result (λ b. b ≡ Some bytes.now) }
-        ensures exact { IsSome result ↔ (length bytes.now ≤ 65) }
+        ensures exact { IsSome result ↔ (length bytes.now ≤ BOUND_BYTES) }
     {
         match ArrayVec::try_from(bytes) {
             Ok(bytes) => Some(Bound { at: Some(bytes) }),
@@ -53,14 +57,12 @@ impl Bound {
     pub fn of_key(key: &Key) -> Bound
         ensures { result ≡ Some key.now }
     {
-        let mut at = ArrayVec::new();
-        for byte in key.as_bytes() {
-            at.push(*byte);
+        Bound {
+            at: Some(copy_of(key.as_bytes())),
         }
-        Bound { at: Some(at) }
     }
 
-    pub(crate) fn of_text(text: ArrayVec<u8, 65>) -> Bound
+    pub(crate) fn of_text(text: ArrayVec<u8, BOUND_BYTES>) -> Bound
         ensures { result ≡ Some text.items }
     {
         Bound { at: Some(text) }
@@ -79,7 +81,7 @@ impl Bound {
     /// Its text; the top has none.
     pub fn text(&self) -> &[u8]
         ensures value { result.now ≡ unwrap_or self.now [] }
-        ensures short { length result.now ≤ 65 }
+        ensures short { length result.now ≤ BOUND_BYTES }
     {
         match &self.at {
             None => &[],

@@ -1,3 +1,4 @@
+//! Lengths and ranges at their edges.
 use super::*;
 use std::test::Fail;
 

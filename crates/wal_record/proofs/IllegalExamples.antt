@@ -1,6 +1,6 @@
 -- Entries that aren't allowed, one or more for each rule of a legal history.
-use Rattle.std.proofs.Common.{◌≡◌, ℕ, false, Option, get_or, List, [], ◌∷◌, ◌++◌, Some, None, refl, sym, ap, ◌∙◌, arith, zero, suc, ◌<◌, subst, inl, inr}
-use Rattle.std.specs.Prelude.{option_and_then, unwrap_or}
+use Rattle.std.proofs.Common.{◌≡◌, ℕ, false, true, Option, get_or, List, [], ◌∷◌, ◌++◌, Some, None, refl, sym, ap, ◌∙◌, arith, zero, suc, ◌<◌, subst, inl, inr}
+use Rattle.std.specs.Prelude.{option_and_then, unwrap_or, is_some}
 use Rattle.std.specs.List.{list_any}
 use Rattle.std.specs.Option.{option_map_or}
 use Rattle.std.specs.FinMap.{get-empty}
@@ -25,7 +25,7 @@ use Rattle.wal_record.specs.OpenWrites.{open_writes, pending}
 use Rattle.wal_record.specs.Contents.{current}
 use Rattle.wal_record.specs.State.{text_of, leaf_rows}
 use Rattle.wal_record.specs.Images.{image, applied, OnPage}
-use Rattle.wal_record.specs.Upkeep.{written}
+use Rattle.wal_record.specs.Upkeep.{written_lsn}
 use Rattle.wal_record.specs.History.{phase, greatest_begun, last_begun}
 use Rattle.wal_record.specs.Locks.{taken_locks, locks}
 use Rattle.wal_record.specs.Legal.{untold, split_leaf, split_key, IsCrowded, MaySplit, IsAllowed}
@@ -66,6 +66,10 @@ free_range h = let e = h.rule.holds in absurd cc
 greater_holder : IsAllowed opening (began ∷ Began 8 2 ∷ Began 9 3 ∷ Lock 1 (point apple) Shared ∷ Lock 2 (point apple) Shared ∷ []) (Refused 3 (point apple) Exclusive 2) → ⊥
 unfolding phase taken_locks locks open_writes along
 greater_holder h = let e = h.rule.least 1 (λ e. absurd (omega (arith, e))) (omega arith) in absurd cc
+
+-- nobody is in its own way
+own_lock : IsAllowed opening (began ∷ lock_apple ∷ []) (Refused 1 (point apple) Exclusive 1) → ⊥
+own_lock h = absurd (h.rule.other refl)
 
 -- ---- records
 
@@ -139,6 +143,23 @@ has_meaning h = let e : Some one ≡ None = ap (λ v. meaning 3 v one) (sym (get
 no_reason : IsAllowed opening (began ∷ lock_apple ∷ []) (Declined 7 1 (requests.Put apple one) outcomes.OpRefused) → ⊥
 no_reason h = absurd h.rule.cause
 
+-- by another session than its own, of a transaction that isn't live, and without the lock
+declined_elsewhere : IsAllowed opening (began ∷ lock_apple ∷ []) (Declined 8 1 (requests.Apply 1 apple x) outcomes.OpRefused) → ⊥
+declined_elsewhere h = let e = h.rule.owner in absurd cc
+
+declined_after_commit : IsAllowed opening (began ∷ lock_apple ∷ wrote ∷ said_put ∷ commit_entered ∷ []) (Declined 7 1 (requests.Apply 1 apple x) outcomes.OpRefused) → ⊥
+unfolding phase along
+declined_after_commit h = let e = h.rule.live in absurd cc
+
+declined_unlocked : IsAllowed opening (began ∷ []) (Declined 7 1 (requests.Apply 1 apple x) outcomes.OpRefused) → ⊥
+unfolding taken_locks locks open_writes along
+declined_unlocked h = let e = h.rule.locked in absurd cc
+
+-- a Del of an absent key writes nothing, so it needs no room
+full_without_write : IsAllowed opening (began ∷ lock_apple ∷ []) (Declined 7 1 (requests.Del apple) (outcomes.Full 1 0)) → ⊥
+unfolding current along
+full_without_write h = let e : false ≡ true = ap is_some (sym (get-empty _ apple)) ∙ h.rule.cause.3 in absurd cc
+
 -- ---- the end
 
 not_committed : IsAllowed opening (began ∷ []) (Acked 7 1) → ⊥
@@ -150,7 +171,7 @@ unfolding phase along
 acknowledged_twice h = let e = h.rule.committed in absurd cc
 
 never_written : IsAllowed opening [] (Repaired 1) → ⊥
-unfolding written along
+unfolding written_lsn along
 never_written h = absurd (omega (arith, h.rule.image))
 
 -- ---- splits

@@ -5,8 +5,12 @@ pub mod StateExamples
 pub mod ExampleLogs
 pub mod LogExamples
 pub mod SoundExamples
+pub mod StructureExamples
+pub mod UpkeepExamples
 pub mod UnsoundExamples
 pub mod LegalExamples
+pub mod SplitExamples
+pub mod RefusalExamples
 pub mod IllegalExamples
 pub mod LeftExamples
 pub mod TreeExamples

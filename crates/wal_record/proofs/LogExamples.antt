@@ -5,8 +5,8 @@ use Rattle.std.specs.Cmp.Lexicographic.{nat_list_cmp_total}
 use Rattle.store_model.specs.Along.{along}
 use Rattle.wal_record.specs.Chains.{head, pages, last, greatest}
 use Rattle.wal_record.specs.OpenWrites.{open_writes, open_list, losers, pending}
-use Rattle.wal_record.specs.Contents.{current, committed}
-use Rattle.wal_record.specs.Upkeep.{written, page_backup, last_backup, lost_pages, unrestored, standing_runs, last_run}
+use Rattle.wal_record.specs.Contents.{current, committed_contents}
+use Rattle.wal_record.specs.Upkeep.{written_lsn, page_backup, last_backup, lost_pages, unrestored, standing_runs, last_run}
 use Rattle.wal_record.specs.Checkpoints.{checkpoint_of}
 use Rattle.wal_record.specs.declared.record.Record.{Record}
 use Rattle.wal_record.specs.declared.record.Record.TheVariants as kinds
@@ -17,8 +17,8 @@ apple_now : get (current apple_log) apple ≡ Some one
 unfolding current along
 apple_now = get-insert nat_list_cmp_total empty apple one apple
 
-apple_committed : get (committed apple_log) apple ≡ Some one
-unfolding committed along open_writes
+apple_committed : get (committed_contents apple_log) apple ≡ Some one
+unfolding committed_contents along open_writes
 apple_committed = get-insert nat_list_cmp_total empty apple one apple
 
 -- at the stop there is one loser, transaction 2, with the open write of x at LSN 4
@@ -39,12 +39,12 @@ unfolding pending greatest open_writes along
 one_pending = refl
 
 -- the committed contents have x = 1 and y = 1, the current contents x = 2 and y = 1
-x_committed : get (committed loser_log) x ≡ Some one
-unfolding committed open_writes along
+x_committed : get (committed_contents loser_log) x ≡ Some one
+unfolding committed_contents open_writes along
 x_committed = get-insert nat_list_cmp_total (insert empty x one) y one x ∙ get-insert nat_list_cmp_total empty x one x
 
-y_committed : get (committed loser_log) y ≡ Some one
-unfolding committed open_writes along
+y_committed : get (committed_contents loser_log) y ≡ Some one
+unfolding committed_contents open_writes along
 y_committed = get-insert nat_list_cmp_total (insert empty x one) y one y
 
 x_now : get (current loser_log) x ≡ Some two
@@ -89,7 +89,7 @@ loser_checkpoint :
       next_backup = 1;
       next_run = 1;
     }
-unfolding checkpoint_of greatest pages head written page_backup last open_writes open_list lost_pages unrestored standing_runs last_backup last_run along
+unfolding checkpoint_of greatest pages head written_lsn page_backup last open_writes open_list lost_pages unrestored standing_runs last_backup last_run along
 loser_checkpoint = refl
 
 -- the image with LSN 2 was written; after a loss it counts no more, and segment 0 waits for its restore
@@ -99,12 +99,12 @@ image_written = kinds.Written (record { page = 1; lsn = 2 })
 abbrev data_lost : Record
 data_lost = kinds.Lost (record { pages = 1 })
 
-written_at_two : written (loser_log ++ image_written ∷ []) 1 ≡ 2
-unfolding written along
+written_at_two : written_lsn (loser_log ++ image_written ∷ []) 1 ≡ 2
+unfolding written_lsn along
 written_at_two = refl
 
-none_written : written (loser_log ++ image_written ∷ data_lost ∷ []) 1 ≡ 0
-unfolding written along
+none_written : written_lsn (loser_log ++ image_written ∷ data_lost ∷ []) 1 ≡ 0
+unfolding written_lsn along
 none_written = refl
 
 waits : unrestored (loser_log ++ data_lost ∷ []) ≡ 0 ∷ []

@@ -7,9 +7,9 @@ use Rattle.wal_record.specs.declared.entry.Entry.{Entry}
 use Rattle.wal_record.specs.declared.entry.Entry.TheVariants.{Rec, Began}
 use Rattle.wal_record.specs.Chains.{names, head, pages_step, pages, link_of, is_link_of, last, tx_of, greatest}
 use Rattle.wal_record.specs.OpenWrites.{key_of, open_step, open_writes, open_list}
-use Rattle.wal_record.specs.Contents.{after, current, committed_step, committed}
+use Rattle.wal_record.specs.Contents.{after, current, committed_step, committed_contents}
 use Rattle.wal_record.specs.Images.{applied, image}
-use Rattle.wal_record.specs.Upkeep.{written_step, written, backup_number, last_backup, backup_step, page_backup, lost_step, lost_pages, unrestored_step, unrestored, run_number, last_run, runs_step, standing_runs}
+use Rattle.wal_record.specs.Upkeep.{written_step, written_lsn, backup_number, last_backup, backup_step, page_backup, lost_step, lost_pages, unrestored_step, unrestored, run_number, last_run, runs_step, standing_runs}
 use Rattle.wal_record.specs.Sound.{IsLawful, AreLawful}
 use Rattle.wal_record.specs.History.{log_of, life_log, Beginning, beginnings, phase_step, phase, begun_step, greatest_begun, session_step, last_begun}
 use Rattle.wal_record.specs.Locks.{locks_step, taken_locks}
@@ -54,16 +54,16 @@ pub current_push : (log : List Record) (r : Record) → current (log ++ r ∷ []
 unfolding current
 current_push log r = along_push _ _ log r
 
-pub committed_push : (log : List Record) (r : Record) → committed (log ++ r ∷ []) ≡ committed_step log (committed log) r
-unfolding committed
+pub committed_push : (log : List Record) (r : Record) → committed_contents (log ++ r ∷ []) ≡ committed_step log (committed_contents log) r
+unfolding committed_contents
 committed_push log r = along_push _ _ log r
 
 pub image_push : (log : List Record) (r : Record) (p : ℕ) → image (log ++ r ∷ []) p ≡ cond (names p r) (applied r p (image log p)) (image log p)
 unfolding image
 image_push log r p = along_push _ _ log r
 
-pub written_push : (log : List Record) (r : Record) (p : ℕ) → written (log ++ r ∷ []) p ≡ written_step p (written log p) r
-unfolding written
+pub written_push : (log : List Record) (r : Record) (p : ℕ) → written_lsn (log ++ r ∷ []) p ≡ written_step p (written_lsn log p) r
+unfolding written_lsn
 written_push log r p = along_push _ _ log r
 
 pub last_backup_push : (log : List Record) (r : Record) → last_backup (log ++ r ∷ []) ≡ max (last_backup log) (backup_number r)

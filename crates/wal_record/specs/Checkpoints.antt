@@ -1,11 +1,11 @@
--- What a checkpoint lists of the log before it, and what an analysis finds in a log.
-use Rattle.std.specs.Prelude.{ℕ, suc, List, [], ◌∷◌, map}
+-- What a checkpoint lists of the log before it, the last checkpoint, what of a log is needed, and what an analysis finds.
+use Rattle.std.specs.Prelude.{ℕ, suc, min, List, [], ◌∷◌, map, fold, Bool, true, false, ◌==◌, if◌then◌else◌}
 use Rattle.std.specs.List.{range_with_len}
 use Rattle.std.specs.Option.{option_map_or}
 use Rattle.store_model.specs.Lists.{last_of}
 use Rattle.wal_record.specs.Chains.{head, pages, last, greatest}
 use Rattle.wal_record.specs.OpenWrites.{open_list, losers}
-use Rattle.wal_record.specs.Upkeep.{written, page_backup, last_backup, lost_pages, unrestored, standing_runs, last_run}
+use Rattle.wal_record.specs.Upkeep.{written_lsn, page_backup, last_backup, lost_pages, unrestored, archived, standing_runs, last_run}
 use Rattle.wal_record.specs.declared.analysis.Analysis.{Analysis}
 use Rattle.wal_record.specs.declared.analysis.Loser.{Loser}
 use Rattle.wal_record.specs.declared.analysis.PageHead.{PageHead}
@@ -26,9 +26,34 @@ commits [] = 0
 commits (kinds.Commit c ∷ rs) = suc (commits rs)
 commits (_ ∷ rs) = commits rs
 
+abbrev pub is_checkpoint : Record → Bool
+is_checkpoint (kinds.Checkpoint c) = true
+is_checkpoint _ = false
+
+-- the LSN of the last checkpoint of these records, the first of which has this LSN; without one, `before`
+abbrev pub checkpoint_after : ℕ → ℕ → List Record → ℕ
+checkpoint_after before lsn [] = before
+checkpoint_after before lsn (r ∷ rs) = checkpoint_after (if is_checkpoint r then lsn else before) (suc lsn) rs
+
+-- the LSN of the last checkpoint, 0 for none
+abbrev pub last_checkpoint : List Record → ℕ
+last_checkpoint log = checkpoint_after 0 1 log
+
+-- the LSN of the oldest of these open writes, or this one
+abbrev pub oldest : List OpenWrite → ℕ → ℕ
+oldest [] other = other
+oldest (w ∷ ws) other = min w.lsn other
+
+-- The recycle point: what stands before it is needed by no opening, no undo and no archive run. Without a checkpoint
+-- all is needed.
+abbrev pub recycle_point : List Record → ℕ
+recycle_point log =
+    let needed = fold (λ n t. oldest (open_list log t) n) (suc (archived (standing_runs log))) (losers log) in
+    if last_checkpoint log == 0 then 1 else min (last_checkpoint log) needed
+
 -- the entry of the page recovery index
 abbrev pub page_head : List Record → ℕ → PageHead
-page_head log p = record { head = head log p; written = written log p; backup = (page_backup log p).backup; backup_lsn = (page_backup log p).lsn }
+page_head log p = record { head = head log p; written = written_lsn log p; backup = (page_backup log p).backup; backup_lsn = (page_backup log p).lsn }
 
 -- of the pages 1, 2 and so on
 abbrev pub page_heads : List Record → List PageHead

@@ -34,5 +34,5 @@ committed_step before m _ = m
 
 -- the committed contents, or offline fold: for each commit, in log order, the open writes that the
 -- transaction had
-unfoldable pub committed : List Record → Contents
-committed log = along committed_step finite.empty log
+unfoldable pub committed_contents : List Record → Contents
+committed_contents log = along committed_step finite.empty log

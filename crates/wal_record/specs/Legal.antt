@@ -14,12 +14,13 @@ use Rattle.store_model.specs.declared.reply.Reply.TheVariants as replies
 use Rattle.store_model.specs.declared.reply.Outcome.{Outcome}
 use Rattle.store_model.specs.declared.reply.Outcome.TheVariants as outcomes
 use Rattle.store_model.specs.declared.range.Mode.{Mode}
+use Rattle.store_model.specs.declared.limits.TheConstants.{MOST_ACTIVE}
 use Rattle.wal_record.specs.State.{has_own, row_sizes, split_point, fits, free_bytes}
 use Rattle.wal_record.specs.Chains.{pages, tx_of, greatest}
 use Rattle.wal_record.specs.OpenWrites.{pending, is_loser}
 use Rattle.wal_record.specs.Contents.{current}
 use Rattle.wal_record.specs.Images.{image, with_value, OnPage}
-use Rattle.wal_record.specs.Upkeep.{written}
+use Rattle.wal_record.specs.Upkeep.{written_lsn}
 use Rattle.wal_record.specs.Checkpoints.{limit_of}
 use Rattle.wal_record.specs.Sound.{IsLawful}
 use Rattle.wal_record.specs.History.{life_log, Live, Committed, phase, is_owner, greatest_begun, live_count, last_begun, IsFree}
@@ -168,7 +169,7 @@ held range mode = record { range = range; mode = mode }
 pub record MayBegin (opening : List Record) (h : List Entry) (session : ℕ) (tx : ℕ) : Type 0 where
   pub told : untold h ≡ None
   pub number : tx ≡ suc (max (greatest opening) (greatest_begun h))
-  pub room : live_count h < 64
+  pub room : live_count h < MOST_ACTIVE
   pub free : IsFree h (last_begun h session)
 
 -- no other transaction holds a conflicting lock
@@ -212,7 +213,7 @@ pub record MayAcknowledge (h : List Entry) (session : ℕ) (tx : ℕ) : Type 0 w
 -- a page is repaired only where an image of it was written
 pub record MayRepair (opening : List Record) (h : List Entry) (page : ℕ) : Type 0 where
   pub told : untold h ≡ None
-  pub image : 0 < written (life_log opening h) page
+  pub image : 0 < written_lsn (life_log opening h) page
 
 abbrev pub EntryRule : List Record → List Entry → Entry → Type 0
 EntryRule opening h (Began session tx) = MayBegin opening h session tx

@@ -1,9 +1,10 @@
 -- The rules of a record's fields: which records have a spelling.
-use Rattle.std.specs.Prelude.{ℕ, ◌^◌, ◌-◌, Bool, true, ◌&&◌, ◌||◌, nat_le, nat_lt, List, length, Option, Some, None, is_some, IsTrue}
+use Rattle.std.specs.Prelude.{ℕ, ◌^◌, ◌+◌, Bool, true, ◌&&◌, ◌||◌, nat_le, nat_lt, List, length, Option, Some, None, is_some, IsTrue}
 use Rattle.std.specs.List.{list_all}
 use Rattle.std.specs.Option.{option_map_or}
 use Rattle.store_model.specs.Along.{AllAlong}
 use Rattle.store_model.specs.Lists.{last_of}
+use Rattle.store_model.specs.declared.limits.TheConstants.{HIGHEST, LEAST_LIMIT, MOST_PAGES}
 use Rattle.wal_record.specs.State.{is_text, is_key, is_value, is_child, KeepsState}
 use Rattle.wal_record.specs.declared.analysis.PageHead.{PageHead}
 use Rattle.wal_record.specs.declared.analysis.Run.{Run}
@@ -33,21 +34,21 @@ use Rattle.wal_record.specs.declared.record.Record.TheVariants as kinds
 
 -- a transaction, a backup, a run, or the LSN of a record
 abbrev pub is_number : ℕ → Bool
-is_number n = nat_le 1 n && nat_le n (2 ^ 63 - 1)
+is_number n = nat_le 1 n && nat_le n HIGHEST
 
 -- the LSN of a record, or 0 for none
 abbrev pub is_lsn_or_none : ℕ → Bool
-is_lsn_or_none n = nat_le n (2 ^ 63 - 1)
+is_lsn_or_none n = nat_le n HIGHEST
 
 -- one above a number, or 1
 abbrev pub is_next : ℕ → Bool
-is_next n = nat_le 1 n && nat_le n (2 ^ 63)
+is_next n = nat_le 1 n && nat_le n (HIGHEST + 1)
 
 abbrev pub is_page : ℕ → Bool
-is_page n = nat_le 1 n && nat_le n 16384
+is_page n = nat_le 1 n && nat_le n MOST_PAGES
 
 abbrev pub is_limit : ℕ → Bool
-is_limit n = nat_le 8 n && nat_le n 16384
+is_limit n = nat_le LEAST_LIMIT n && nat_le n MOST_PAGES
 
 -- of the pages that one backup record names
 abbrev pub is_page_count : ℕ → Bool

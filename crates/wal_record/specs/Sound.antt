@@ -115,10 +115,6 @@ pub record BackupRule (before : List Record) (b : BackupDone) : Type 0 where
 abbrev pub is_next_run : List Run → RunDone → Bool
 is_next_run runs d = d.first == suc (archived runs)
 
-abbrev pub first_lsn : List Run → ℕ
-first_lsn [] = 0
-first_lsn (x ∷ xs) = x.first
-
 -- a merged run covers exactly these neighbouring runs, two or more
 abbrev pub is_merge_of : List Run → RunDone → Bool
 is_merge_of (x ∷ y ∷ runs) d = d.first == x.first && d.last == archived (x ∷ y ∷ runs)

@@ -5,6 +5,7 @@ use Rattle.std.specs.List.{list_all, sum_by}
 use Rattle.std.specs.Ordering.{nat_cmp, match_ordering, eq_by_cmp}
 use Rattle.std.specs.Cmp.Lexicographic.{slice_cmp}
 use Rattle.store_model.specs.Range.{Interval, has_key, is_below, IsBelow}
+use Rattle.store_model.specs.declared.limits.TheConstants.{KEY_BYTES, MOST_PAGES, STATE_BYTES, VALUE_BYTES}
 use Rattle.wal_record.specs.declared.page.PageState.{PageState}
 use Rattle.wal_record.specs.declared.page.LeafRow.{LeafRow}
 use Rattle.wal_record.specs.declared.page.BranchRow.{BranchRow}
@@ -118,7 +119,7 @@ state_size s = 4 + length (text_of s.low) + high_size s.high + foster_size s.fos
 
 -- the bytes that a state may have
 abbrev pub page_room : ℕ
-page_room = 4051
+page_room = STATE_BYTES
 
 abbrev pub fits : PageState → Bool
 fits s = nat_le (state_size s) page_room
@@ -139,17 +140,17 @@ split_point sizes = least (λ m. nat_le (sum sizes) (2 * sum (take m sizes))) (l
 
 -- of a text, a key and a value: how many bytes they may have
 abbrev pub is_text : List ℕ → Bool
-is_text t = nat_le (length t) 64
+is_text t = nat_le (length t) KEY_BYTES
 
 abbrev pub is_key : List ℕ → Bool
-is_key key = nat_le 1 (length key) && nat_le (length key) 64
+is_key key = nat_le 1 (length key) && nat_le (length key) KEY_BYTES
 
 abbrev pub is_value : List ℕ → Bool
-is_value v = nat_le (length v) 256
+is_value v = nat_le (length v) VALUE_BYTES
 
 -- a page that a pointer may lead to
 abbrev pub is_child : ℕ → Bool
-is_child page = nat_le 2 page && nat_le page 16384
+is_child page = nat_le 2 page && nat_le page MOST_PAGES
 
 -- each row is below all that follow it
 abbrev pub rises : {A : Type 0} → (A → A → Bool) → List A → Bool

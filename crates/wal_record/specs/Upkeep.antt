@@ -19,8 +19,8 @@ written_step p n (kinds.Lost l) = 0
 written_step p n _ = n
 
 -- the LSN of the page's image that was written last since the last loss, 0 for none
-unfoldable pub written : List Record → ℕ → ℕ
-written log p = along (λ before n r. written_step p n r) 0 log
+unfoldable pub written_lsn : List Record → ℕ → ℕ
+written_lsn log p = along (λ before n r. written_step p n r) 0 log
 
 -- ---- backups
 

@@ -1,6 +1,6 @@
 use Rattle.std.proofs.Common.{◌≡◌, ◌+◌, drop}
-use Rattle.log_manager.specs.Records.{checkpoint_after}
 use Rattle.log_manager.proofs.spelling.last_checkpoint.Given as goal
+use Rattle.wal_record.specs.Checkpoints.{checkpoint_after}
 
 abbrev pub invariant-loop-rec : goal.invariant-loop-rec
 invariant-loop-rec l = record {

@@ -1,5 +1,5 @@
 use Rattle.std.proofs.Common.{◌≡◌, ◌++◌, drop}
-use Rattle.log_manager.specs.Records.{bytes_of}
+use Rattle.log_manager.specs.Payload.{bytes_of}
 use Rattle.log_manager.proofs.spelling.spelled.Given as goal
 
 abbrev pub invariant-loop-rec : goal.invariant-loop-rec

@@ -1,8 +1,7 @@
-use Rattle.std.proofs.Common.{subst, sym, refl, arith, []}
+use Rattle.std.proofs.Common.{subst, sym, arith, []}
 use Rattle.std.proofs.KnownBytes.{Consumes-nil}
 use Rattle.runner.specs.declared.at.At.{At}
 use Rattle.runner.specs.declared.status.Status.TheVariants as statuses
-use Rattle.runner.specs.Causes.{LivedCause, disk_at}
 use Rattle.runner.specs.Clause.{Between, Headline}
 use Rattle.runner.specs.LogDisk.{IsWhole, seen}
 use Rattle.runner.specs.Machine.{In, IsAt}

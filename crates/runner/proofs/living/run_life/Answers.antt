@@ -1,5 +1,4 @@
-use Rattle.std.proofs.Common.{arith, [], ◌∷◌, ◌++◌, ◌≤◌, List, ℕ, subst, sym}
-use Rattle.std.specs.Prelude.{Option}
+use Rattle.std.proofs.Common.{arith, [], ◌∷◌, ◌++◌, ◌≤◌, ℕ, subst, sym}
 use Rattle.std.proofs.KnownBytes.{Consumes-nil}
 use Rattle.runner.specs.declared.at.At.{At}
 use Rattle.runner.specs.declared.life.OpenLife.{OpenLife}

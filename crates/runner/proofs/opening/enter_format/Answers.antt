@@ -1,6 +1,7 @@
-use Rattle.std.proofs.Common.{rules, refl, sym, ap, subst, ◌∙◌, List, ◌∷◌, [], ◌++◌, ◌≤◌, length, arith}
+use Rattle.std.proofs.Common.{sym, subst, ◌∙◌, List, ◌∷◌, [], ◌++◌, ◌≤◌, length, arith}
 use Rattle.log_manager.specs.Managed.{HasMore}
-use Rattle.log_manager.specs.Records.{IsLogOf, bytes_of}
+use Rattle.log_manager.specs.Payload.{bytes_of}
+use Rattle.log_manager.specs.Records.{IsLogOf}
 use Rattle.wal_record.specs.declared.record.Record.{Record}
 use Rattle.runner.proofs.Openings.{first_flushed}
 use Rattle.runner.proofs.Sizes.{length-format}

@@ -1,4 +1,4 @@
-use Rattle.std.proofs.Common.{rules, refl, sym, ap, subst, ◌∙◌, arith, ◌≡◌}
+use Rattle.std.proofs.Common.{sym, subst, ◌∙◌, ◌≡◌}
 use Rattle.runner.specs.LogDisk.{seen}
 use Rattle.runner.specs.Openings.{IsNotBegun}
 use Rattle.runner.proofs.Commands.{err_map}

@@ -1,4 +1,4 @@
-use Rattle.std.proofs.Common.{refl, sym, subst}
+use Rattle.std.proofs.Common.{sym, subst}
 use Rattle.script.specs.declared.command.Command.{Command}
 use Rattle.runner.specs.Standing.{Beginning}
 use Rattle.runner.specs.LogDisk.{IsWhole, seen}

@@ -1,4 +1,4 @@
-use Rattle.std.proofs.Common.{◌≡◌, ◌∙◌, List, refl, sym, Some, None}
+use Rattle.std.proofs.Common.{◌≡◌, ◌∙◌, refl, sym, Some, None}
 use Rattle.runner.proofs.Rows.{live_found}
 use Rattle.runner.proofs.row.live.Goals as goal
 

@@ -1,12 +1,8 @@
-use Rattle.std.proofs.Common.{arith, [], ◌∷◌, ◌++◌, ◌≤◌, List, ℕ, subst, sym}
+use Rattle.std.proofs.Common.{arith, [], ◌∷◌, ◌++◌, ◌≤◌, ℕ}
 use Rattle.std.proofs.KnownBytes.{Consumes-nil}
-use Rattle.runner.specs.Causes.{disk_at}
-use Rattle.runner.specs.Clause.{Between}
-use Rattle.runner.specs.Lines.{to_come}
-use Rattle.runner.specs.LogDisk.{IsWhole, seen}
-use Rattle.runner.specs.Machine.{In, Out, IsAt}
+use Rattle.runner.specs.LogDisk.{seen}
+use Rattle.runner.specs.Machine.{Out}
 use Rattle.runner.proofs.Lives.{safe_out}
-use Rattle.runner.proofs.Causes.{run_cause_since}
 use Rattle.runner.proofs.Places.{cycled_self, cycled_trans}
 use Rattle.runner.proofs.Runs.{at_start, no_memory}
 use Rattle.runner.proofs.run.run.Goals as goal

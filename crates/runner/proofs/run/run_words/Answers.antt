@@ -1,4 +1,4 @@
-use Rattle.std.proofs.Common.{rules, refl, sym, ap, subst, ◌≡◌, ◌∙◌, true, ℕ}
+use Rattle.std.proofs.Common.{sym, ap, subst, ◌≡◌, ◌∙◌, ℕ}
 use Rattle.runner.specs.declared.status.Status.TheVariants as statuses
 use Rattle.media.specs.Cause.{Rose}
 use Rattle.media.specs.Fused.{Fused}

@@ -1,4 +1,4 @@
-use Rattle.std.proofs.Common.{rules, refl, sym, ap, subst, ◌∙◌, arith, ◌≡◌}
+use Rattle.std.proofs.Common.{◌∙◌, ◌≡◌}
 use Rattle.runner.specs.LogDisk.{seen}
 use Rattle.runner.proofs.Lives.{tells_of}
 use Rattle.runner.proofs.Without.{did_stop}

@@ -1,8 +1,7 @@
-use Rattle.std.proofs.Common.{◌∙◌, ◌≡◌, ℕ, List, Option, Ok, sym, ap, subst}
+use Rattle.std.proofs.Common.{◌∙◌, ◌≡◌, ℕ, Option, Ok, sym, subst}
 use Rattle.script.specs.declared.command.Command.{Command}
-use Rattle.runner.specs.declared.at.At.{At}
 use Rattle.runner.specs.declared.status.Status.TheVariants as statuses
-use Rattle.runner.specs.Turns.{Stage, stage}
+use Rattle.runner.specs.Turns.{stage}
 use Rattle.runner.specs.Causes.{disk_at}
 use Rattle.runner.specs.LogDisk.{seen}
 use Rattle.runner.specs.Machine.{In, Out, IsAt}

@@ -9,6 +9,7 @@ ghosts-own_life-N-Life g a =
       log_faults = a.unnamed.log_faults;
       vault_faults = a.unnamed.vault_faults;
       data_faults = a.unnamed.data_faults;
+      made = a.unnamed.made;
       log_faults_before = 0;
       vault_faults_before = 0;
       data_faults_before = 0;

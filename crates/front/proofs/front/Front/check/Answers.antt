@@ -16,4 +16,4 @@ load-requires g c =
     let b = c.board.invariant in
     let j = c.join_seat.ensures in
     let now = j.2 ∙ ap (λ m. (informed m.0 c.into_seat.result.me.0, m.1)) i.1 in
-    (j.0 ∙ i.0 ∙ sym b.0, omega (arith, b.1), checks_at _ _ _ _ _ now)
+    (j.0 ∙ i.0 ∙ sym b.0, omega (arith, b.1), checks_at _ _ _ _ _ _ _ now)

@@ -6,4 +6,4 @@ pub load-requires : goal.load-requires
 load-requires g c =
     let i = c.self.invariant in
     let b = c.board.invariant in
-    (i.0 ∙ sym b.0, omega (arith, b.1), looks_at _ _ _ (ap (λ m. m.0.leads) i.1) (ap (λ m. m.1) i.1))
+    (i.0 ∙ sym b.0, omega (arith, b.1), looks_at _ _ _ (ap (λ m. m.0.leads) i.1) (ap (λ m. m.0.marks) i.1) (ap (λ m. m.1) i.1))

@@ -14,4 +14,4 @@ load-requires g c =
     let i = c.self.invariant in
     let b = c.board.invariant in
     let j = c.join_seat.ensures in
-    (j.0 ∙ i.0 ∙ sym b.0, omega (arith, b.1), looks_at _ _ _ (ap (λ m. m.0.leads) j.2 ∙ ap (λ m. m.0.leads) i.1) (ap (λ m. m.1) j.2 ∙ ap (λ m. m.1) i.1))
+    (j.0 ∙ i.0 ∙ sym b.0, omega (arith, b.1), looks_at _ _ _ (ap (λ m. m.0.leads) j.2 ∙ ap (λ m. m.0.leads) i.1) (ap (λ m. m.0.marks) j.2 ∙ ap (λ m. m.0.marks) i.1) (ap (λ m. m.1) j.2 ∙ ap (λ m. m.1) i.1))

@@ -3,8 +3,8 @@ use Rattle.media.specs.Crash.{LeavesOnly}
 use Rattle.log_blocks.specs.declared.header.Place.{Place}
 use Rattle.log_blocks.specs.Log.{StandsFor}
 use Rattle.log_blocks.specs.LogState.{LogState, IsDurable, IsWhole, lsn_behind}
-use Rattle.log_blocks.specs.Opening.{IsChain}
-use Rattle.log_blocks.proofs.Durable.{in_disk, durable_drop, dropped}
+use Rattle.log_blocks.specs.Opening.{DropLeaves, IsChain}
+use Rattle.log_blocks.proofs.Durable.{in_disk, drop_left, durable_drop, dropped}
 use Rattle.log_blocks.proofs.Progressing.{length-places}
 use Rattle.log_blocks.proofs.Moments.{started, goes_on}
 use Rattle.log_blocks.proofs.Walking.{next_above}
@@ -92,3 +92,25 @@ returns-in-Err-clause-any_moment g c tells bs =
     c.discard.ensures.time
     (λ k left. dropped bs _ k c.args.n c.place-upto.result d.stands (omega (arith, lt, ap length d.places_are, length-places (g.L.Disk.told c.self.inside.device).start bs)) (is ∙ ap (λ (l : List Place). get_or l c.args.n c.place-upto.result) d.places_are)
     (g.L.Disk.may_leave c.self.inside.device) d.only (c.discard.ensures.crash_either k left)))
+
+pub returns-in-Ok-clause-left : goal.returns-in-Ok-clause-left
+returns-in-Ok-clause-left g c tells bs =
+    let view = c.self.view_is in
+    let found = c.self.inside.places.items ++ c.self.inside.recent in
+    let lt : c.args.n < length found = omega (arith, c.requires, ap (λ (s : LogState _). length s.places) view) in
+    let is = c.place-upto.ensures ∙ sym (ap (λ (s : LogState _). get_or s.places c.args.n c.place-upto.result) view) in
+    subst (λ (s : LogState _). IsDurable g.L.Disk.told g.L.Disk.may_leave s bs → DropLeaves g.L.Disk.told g.L.Disk.may_leave bs c.args.n c.discard.new.self) view
+    (λ d. drop_left g.L.Disk.told g.L.Disk.may_leave c.self.inside.device c.discard.new.self bs c.args.n c.place-upto.result d.stands d.only
+    (omega (arith, lt, ap length d.places_are, length-places (g.L.Disk.told c.self.inside.device).start bs)) (is ∙ ap (λ (l : List Place). get_or l c.args.n c.place-upto.result) d.places_are)
+    (c.discard.ensures.told tells) c.discard.ensures.crash_either)
+
+pub returns-in-Err-clause-left : goal.returns-in-Err-clause-left
+returns-in-Err-clause-left g c tells bs =
+    let view = c.self.view_is in
+    let found = c.self.inside.places.items ++ c.self.inside.recent in
+    let lt : c.args.n < length found = omega (arith, c.requires, ap (λ (s : LogState _). length s.places) view) in
+    let is = c.place-upto.ensures ∙ sym (ap (λ (s : LogState _). get_or s.places c.args.n c.place-upto.result) view) in
+    subst (λ (s : LogState _). IsDurable g.L.Disk.told g.L.Disk.may_leave s bs → DropLeaves g.L.Disk.told g.L.Disk.may_leave bs c.args.n c.discard.new.self) view
+    (λ d. drop_left g.L.Disk.told g.L.Disk.may_leave c.self.inside.device c.discard.new.self bs c.args.n c.place-upto.result d.stands d.only
+    (omega (arith, lt, ap length d.places_are, length-places (g.L.Disk.told c.self.inside.device).start bs)) (is ∙ ap (λ (l : List Place). get_or l c.args.n c.place-upto.result) d.places_are)
+    (c.discard.ensures.told tells) c.discard.ensures.crash_either)

@@ -1,14 +1,17 @@
 use Rattle.std.proofs.Common.{◌≡◌, ◌+◌, ◌++◌, ◌∷◌, [], subst, ap, ◌∙◌, sym, refl, arith, append-nil, length}
 use Rattle.std.proofs.lemmas.List.Elements.{All-cons, All-nil}
-use Rattle.log_blocks.specs.Batch.{Batched, with_group}
+use Rattle.log_blocks.specs.Batch.{Batched, numbered, with_group}
 use Rattle.log_blocks.specs.LogState.{LogState}
 use Rattle.wal_record.specs.Rules.{HasSpelling}
 use Rattle.wal_record.specs.Spelling.{spelling}
 use Rattle.wal_record.specs.declared.record.Record.{Record}
 use Rattle.wal_record.specs.declared.record.Record.TheVariants as kinds
+use Rattle.log_manager.specs.Groups.{HoldGroups}
 use Rattle.log_manager.specs.Managed.{HasMore, IsCounted, Managed, with_batch}
-use Rattle.log_manager.specs.Records.{IsLogOf, bytes_of}
+use Rattle.log_manager.specs.Payload.{bytes_of}
+use Rattle.log_manager.specs.Records.{IsLogOf}
 use Rattle.log_manager.proofs.Counting.{counted_short, has_more}
+use Rattle.log_manager.proofs.Grouping.{group_more}
 use Rattle.log_manager.proofs.Logs.{grown}
 use Rattle.log_manager.proofs.Taking.{length-commit}
 use Rattle.log_manager.proofs.manager.LogManager.append_commit.Goals as goal
@@ -53,3 +56,14 @@ returns-clause-records g c tells s w h =
     (grown g.L.Disk.told g.L.Disk.may_leave log batch.blocks batch.spare k counted s w (commit ∷ []) inv (All-cons HasSpelling commit [] c.requires.spelled (All-nil HasSpelling))
     (omega arith) (omega arith) (omega (arith, long)) (omega (arith, long)) (omega (arith, places)) refl (omega (arith, inv.checkpoint))
     (subst (λ (l : LogState _). IsLogOf g.L.Disk.told g.L.Disk.may_leave l s w) (sym (ap (λ (m : Managed _). m.log) c.self.view_is)) h))
+
+pub returns-clause-whole : goal.returns-clause-whole
+returns-clause-whole g c groups h =
+    let commit : Record = kinds.Commit (record { tx = c.args.tx; prev = c.args.prev }) in
+    let log = c.self.inside.log in
+    let batch = c.self.inside.batch in
+    let k = c.self.inside.counted.checkpoint in
+    let view = ap (λ (m : Managed _). m.log) c.self.view_is in
+    let blocks : with_group batch.blocks 1 k c.as_slice.result.now ≡ c.push_short.new.self.blocks = sym (ap (λ (b : Batched). b.blocks) c.push_short.ensures) in
+    subst (λ bs. HoldGroups (log.pending ++ numbered log.next bs) (groups ++ (commit ∷ []) ∷ [])) blocks
+    (group_more log.pending log.next batch.blocks groups (commit ∷ []) k c.as_slice.result.now (subst (λ (l : LogState _). HoldGroups l.pending groups) (sym view) h))

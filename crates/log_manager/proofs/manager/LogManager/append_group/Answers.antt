@@ -1,13 +1,17 @@
-use Rattle.std.proofs.Common.{◌≡◌, ◌≤◌, ◌+◌, ◌-◌, ◌++◌, subst, ap, ◌∙◌, sym, arith, length}
-use Rattle.log_blocks.specs.Batch.{Batched, with_group}
+use Rattle.std.proofs.Common.{◌≡◌, ◌≤◌, ◌+◌, ◌-◌, ◌++◌, ◌∷◌, [], subst, ap, ◌∙◌, sym, arith, length}
+use Rattle.log_blocks.specs.Batch.{Batched, numbered, with_group}
 use Rattle.log_blocks.specs.LogState.{LogState}
+use Rattle.log_manager.specs.Groups.{HoldGroups}
 use Rattle.log_manager.specs.Managed.{HasMore, IsCounted, Managed, with_batch}
-use Rattle.log_manager.specs.Records.{IsLogOf, bytes_of, checkpoint_after}
+use Rattle.log_manager.specs.Payload.{bytes_of}
+use Rattle.log_manager.specs.Records.{IsLogOf}
 use Rattle.log_manager.proofs.Counting.{counted_more, has_more}
+use Rattle.log_manager.proofs.Grouping.{group_more}
 use Rattle.log_manager.proofs.Joining.{checkpoint_below}
 use Rattle.log_manager.proofs.Logs.{grown}
 use Rattle.log_manager.proofs.Taking.{some_bytes}
 use Rattle.log_manager.proofs.manager.LogManager.append_group.Goals as goal
+use Rattle.wal_record.specs.Checkpoints.{checkpoint_after}
 
 pub push-requires-clause-size : goal.push-requires-clause-size
 push-requires-clause-size g c =
@@ -73,3 +77,16 @@ returns-clause-records g c tells s w h =
     (grown g.L.Disk.told g.L.Disk.may_leave log batch.blocks batch.spare k counted s w recs inv c.requires.spelled c.requires.few.0 c.requires.few.1
     (some_bytes recs c.requires.few.0) c.requires.size (omega (arith, room, c.next-next.ensures, count)) known below
     (subst (λ (l : LogState _). IsLogOf g.L.Disk.told g.L.Disk.may_leave l s w) (sym (ap (λ (m : Managed _). m.log) c.self.view_is)) h))
+
+pub returns-clause-whole : goal.returns-clause-whole
+returns-clause-whole g c groups h =
+    let log = c.self.inside.log in
+    let batch = c.self.inside.batch in
+    let recs = c.args.recs.now in
+    let k = c.last_checkpoint-checkpoint.result in
+    let view = ap (λ (m : Managed _). m.log) c.self.view_is in
+    let count : c.count_of-count.result ≡ length recs = c.count_of-count.ensures in
+    let blocks : with_group batch.blocks (length recs) k c.deref.result.now ≡ c.push.new.self.blocks =
+    ap (λ n. with_group batch.blocks n k c.deref.result.now) (sym count) ∙ sym (ap (λ (b : Batched). b.blocks) c.in_ok-push.ensures.ok) in
+    subst (λ bs. HoldGroups (log.pending ++ numbered log.next bs) (groups ++ recs ∷ [])) blocks
+    (group_more log.pending log.next batch.blocks groups recs k c.deref.result.now (subst (λ (l : LogState _). HoldGroups l.pending groups) (sym view) h))

@@ -5,6 +5,7 @@ use Rattle.log_blocks.specs.Log.{first_lsn}
 use Rattle.log_blocks.specs.LogState.{LogState}
 use Rattle.log_blocks.specs.Opening.{Progress}
 use Rattle.log_blocks.proofs.Moments.{started, weaker}
+use Rattle.log_manager.specs.Groups.{EndsBlock}
 use Rattle.log_manager.specs.Managed.{Managed, IsCounted, RecordsLeft, first_kept, with_batch}
 use Rattle.log_manager.specs.Records.{IsLogOf, StandsForRecords}
 use Rattle.log_manager.proofs.Counting.{checkpoint_written, counted_same, end_written, with_none}
@@ -14,12 +15,12 @@ use Rattle.log_manager.proofs.manager.LogManager.flush_to.Goals as goal
 
 pub returns-in_err-live-clause-any_moment : goal.returns-in_err-live-clause-any_moment
 returns-in_err-live-clause-any_moment g c tells s w h =
-    started g.L.Disk.moment g.L.Disk.left_since c.args.self.now.log.device (λ k. (n : ℕ) × (t : StandsForRecords (s ++ take n w) k) × (first_lsn t.bs ≡ first_kept c.args.self.now.log))
+    started g.L.Disk.moment g.L.Disk.left_since c.args.self.now.log.device (λ k. (n : ℕ) × (t : StandsForRecords (s ++ take n w) k) × (first_lsn t.bs ≡ first_kept c.args.self.now.log) × EndsBlock c.args.self.now.log.pending n)
     (λ k left. none_flushed g.L.Disk.told g.L.Disk.may_leave c.args.self.now.log s w h k (g.met.L.Disk.only_now c.args.self.now.log.device k left))
 
 pub returns-then-lsn-durable-clause-any_moment : goal.returns-then-lsn-durable-clause-any_moment
 returns-then-lsn-durable-clause-any_moment g c tells s w h =
-    started g.L.Disk.moment g.L.Disk.left_since c.args.self.now.log.device (λ k. (n : ℕ) × (t : StandsForRecords (s ++ take n w) k) × (first_lsn t.bs ≡ first_kept c.args.self.now.log))
+    started g.L.Disk.moment g.L.Disk.left_since c.args.self.now.log.device (λ k. (n : ℕ) × (t : StandsForRecords (s ++ take n w) k) × (first_lsn t.bs ≡ first_kept c.args.self.now.log) × EndsBlock c.args.self.now.log.pending n)
     (λ k left. none_flushed g.L.Disk.told g.L.Disk.may_leave c.args.self.now.log s w h k (g.met.L.Disk.only_now c.args.self.now.log.device k left))
 
 pub invariant_of-self : goal.invariant_of-self
@@ -52,7 +53,7 @@ pub returns-clause-any_moment : goal.returns-clause-any_moment
 returns-clause-any_moment g c tells s w h =
     let view = c.hand_over.ensures.log ∙ ap (λ (m : Managed _). m.log) c.self.view_is in
     let k = subst (λ (l : LogState _). IsLogOf g.L.Disk.told g.L.Disk.may_leave l s w) (sym view) h in
-    subst (λ (l : LogState _). LeavesOnly g.L.Disk.moment g.L.Disk.left_since l.device c.flush.new.self.device (λ k. (n : ℕ) × (t : StandsForRecords (s ++ take n w) k) × (first_lsn t.bs ≡ first_kept l))) view
+    subst (λ (l : LogState _). LeavesOnly g.L.Disk.moment g.L.Disk.left_since l.device c.flush.new.self.device (λ k. (n : ℕ) × (t : StandsForRecords (s ++ take n w) k) × (first_lsn t.bs ≡ first_kept l) × EndsBlock l.pending n)) view
     (weaker g.L.Disk.moment g.L.Disk.left_since c.hand_over.new.log.device c.flush.new.self.device _ _ (c.flush.ensures.any_moment tells k.bs k.durable)
     (some_flushed g.L.Disk.told g.L.Disk.may_leave c.hand_over.new.log s w k))
 
@@ -60,7 +61,7 @@ pub returns-in_err-flush-clause-any_moment : goal.returns-in_err-flush-clause-an
 returns-in_err-flush-clause-any_moment g c tells s w h =
     let view = c.hand_over.ensures.log ∙ ap (λ (m : Managed _). m.log) c.self.view_is in
     let k = subst (λ (l : LogState _). IsLogOf g.L.Disk.told g.L.Disk.may_leave l s w) (sym view) h in
-    subst (λ (l : LogState _). LeavesOnly g.L.Disk.moment g.L.Disk.left_since l.device c.flush.new.self.device (λ k. (n : ℕ) × (t : StandsForRecords (s ++ take n w) k) × (first_lsn t.bs ≡ first_kept l))) view
+    subst (λ (l : LogState _). LeavesOnly g.L.Disk.moment g.L.Disk.left_since l.device c.flush.new.self.device (λ k. (n : ℕ) × (t : StandsForRecords (s ++ take n w) k) × (first_lsn t.bs ≡ first_kept l) × EndsBlock l.pending n)) view
     (weaker g.L.Disk.moment g.L.Disk.left_since c.hand_over.new.log.device c.flush.new.self.device _ _ (c.flush.ensures.any_moment tells k.bs k.durable)
     (some_flushed g.L.Disk.told g.L.Disk.may_leave c.hand_over.new.log s w k))
 

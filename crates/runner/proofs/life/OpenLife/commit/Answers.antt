@@ -1,4 +1,4 @@
-use Rattle.std.proofs.Common.{rules, refl, sym, ap, ◌∙◌}
+use Rattle.std.proofs.Common.{refl, sym, ◌∙◌}
 use Rattle.script.specs.declared.command.Command.TheVariants as commands
 use Rattle.runner.specs.LogDisk.{seen}
 use Rattle.runner.proofs.Commands.{unlawful, unknown, did_end, leaves_here, lawful_here, is_named, err_map}

@@ -1,13 +1,12 @@
-use Rattle.std.proofs.Common.{rules, refl, sym, ap, subst, ◌∙◌, ◌++◌, ◌+◌, ℕ, List, Option, Some, None, ◌∷◌, [], arith, ◌≡◌}
-use Rattle.std.specs.Prelude.{codes, IsErrAnd}
+use Rattle.std.proofs.Common.{refl, ap, subst, ◌∙◌, ◌++◌, ◌+◌, ℕ, List, Option, Some, ◌∷◌, [], arith, ◌≡◌}
+use Rattle.std.specs.Prelude.{IsErrAnd}
 use Rattle.media.specs.Counted.{Blames}
 use Rattle.log_blocks.specs.LogState.{LogState, Refused}
 use Rattle.store_model.specs.declared.fault.Fault.{Fault}
 use Rattle.log_blocks.specs.Opening.{IsLogFault}
-use Rattle.log_manager.specs.Managed.{HasMore, RecordsLeft}
+use Rattle.log_manager.specs.Managed.{HasMore}
 use Rattle.log_manager.specs.Records.{IsLogOf}
 use Rattle.wal_record.specs.declared.record.Record.{Record}
-use Rattle.life_laws.specs.Calm.{Opened}
 use Rattle.life_laws.specs.Commands.{committing}
 use Rattle.held_leaf.specs.Entries.{acknowledge_entries, commit_entries}
 use Rattle.held_leaf.specs.Leaf.{Leaf}
@@ -17,7 +16,7 @@ use Rattle.runner.specs.Standing.{standing_with}
 use Rattle.runner.specs.LogDisk.{IsWhole, seen}
 use Rattle.runner.proofs.Commands.{did_commit, failed_commit, cut_commit, commit_is, flushed_log, is_named, running}
 use Rattle.runner.proofs.Lives.{tells_of}
-use Rattle.runner.proofs.Without.{fused_after, armed_by, own_rose}
+use Rattle.runner.proofs.Without.{fused_after, armed_by}
 use Rattle.runner.proofs.life.OpenLife.commit_open.Goals as goal
 
 pub returns-in-Ok-clause-ok : goal.returns-in-Ok-clause-ok

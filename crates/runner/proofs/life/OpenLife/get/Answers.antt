@@ -1,4 +1,4 @@
-use Rattle.std.proofs.Common.{rules, refl, sym, ap, ◌∙◌, subst, ◌≡◌, ◌++◌, ℕ, List, Option, Some}
+use Rattle.std.proofs.Common.{refl, sym, ap, ◌∙◌, subst, ◌≡◌, ◌++◌, ℕ, List, Option, Some}
 use Rattle.std.specs.Prelude.{codes}
 use Rattle.script.specs.declared.command.Command.TheVariants as commands
 use Rattle.store_model.specs.declared.request.Request.TheVariants as requests

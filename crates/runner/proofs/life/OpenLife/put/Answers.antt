@@ -1,14 +1,9 @@
-use Rattle.std.proofs.Common.{rules, refl, sym, ap, subst, ◌∙◌, ◌++◌, ◌+◌, ◌<◌, ℕ, List, Option, arith}
-use Rattle.std.specs.Prelude.{codes}
-use Rattle.std.specs.Fmt.{decimal}
+use Rattle.std.proofs.Common.{refl, sym, subst, ◌∙◌, ◌++◌, ◌+◌, ◌<◌, ℕ}
 use Rattle.script.specs.declared.command.Command.TheVariants as commands
 use Rattle.store_model.specs.declared.request.Request.TheVariants as requests
-use Rattle.runner.specs.declared.session.Session.{Session}
-use Rattle.runner.specs.Active.{puts_of}
 use Rattle.log_manager.specs.Managed.{Managed}
 use Rattle.runner.specs.LogDisk.{Leaves, seen}
-use Rattle.transcript.specs.Printing.{escaped}
-use Rattle.runner.proofs.Commands.{did_full, did_end, is_named, lawful_here, leaves_here, by_memory}
+use Rattle.runner.proofs.Commands.{did_end, is_named, lawful_here, leaves_here, by_memory}
 use Rattle.runner.proofs.life.OpenLife.put.Goals as goal
 
 pub returns-in-Ok-clause-ok : goal.returns-in-Ok-clause-ok

@@ -1,7 +1,8 @@
-use Rattle.std.proofs.Common.{rules, refl, sym, ap, subst, ◌∙◌, ◌++◌, ℕ, ◌+◌, ◌≤◌, Bool, List, Option, Some, ◌∷◌, [], length, arith}
+use Rattle.std.proofs.Common.{rules, refl, sym, ap, subst, ◌∙◌, ◌++◌, ℕ, ◌+◌, ◌≤◌, Bool, List, Option, Some, ◌∷◌, [], length}
 use Rattle.std.specs.Prelude.{codes}
 use Rattle.log_manager.specs.Managed.{Managed, HasMore}
-use Rattle.log_manager.specs.Records.{IsLogOf, bytes_of}
+use Rattle.log_manager.specs.Payload.{bytes_of}
+use Rattle.log_manager.specs.Records.{IsLogOf}
 use Rattle.held_leaf.specs.Leaf.{IsPut}
 use Rattle.wal_record.specs.declared.page.PageState.{PageState}
 use Rattle.runner.specs.Leaf.{page_live}

@@ -1,4 +1,4 @@
-use Rattle.std.proofs.Common.{refl, sym, subst, arith}
+use Rattle.std.proofs.Common.{sym, subst, arith}
 use Rattle.script.specs.declared.command.Command.{Command}
 use Rattle.runner.specs.LogDisk.{IsWhole, seen}
 use Rattle.runner.specs.Machine.{In, Adds}

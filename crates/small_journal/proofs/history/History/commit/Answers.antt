@@ -64,6 +64,7 @@ invariant_of-self g c =
       second.spare,
       commit_kept _ _ _ _ _ _ _ _ _ _ _ _ _ _ _ c.self.invariant.1 _ w.agrees (subst (λ x. 0 < x.tx) (sym watch.right) c.requires.active) _ _ _ _ _ _ _ _ _ _ _ _ _ _ _ _ _ _
           refl c.session-session.ensures c.tx-tx.ensures refl first.before first.book first.right first.others first.front first.total first.sessions_total second.book second.others second.front second.total second.sessions_total c.meet.ensures.list,
+      record { known = c.self.invariant.2.known; within = omega (arith, c.store.ensures.number) },
     )
 
 pub returns-clause-entered : goal.returns-clause-entered
@@ -72,5 +73,8 @@ returns-clause-entered g c =
     let first = c.enter.ensures in
     let second = c.enter-2.ensures in
     let w = watched _ _ _ _ _ _ _ _ _ _ watch.seen watch.counts watch.right (watch.pass ∙ sym watch.same ∙ sym c.self.view_is) in
-    commit_entered _ _ _ _ _ _ _ _ _ _ _ _ _ _ _ c.self.invariant.1 _ w.agrees (subst (λ x. 0 < x.tx) (sym watch.right) c.requires.active) _ _ _ _ _ _ _ _ _ _ _ _ _ _ _ _ _ _ _ _ w watch.counts watch.right
-    refl c.session-session.ensures c.tx-tx.ensures first.front second.front c.meet.ensures.seen first.counts second.counts c.counts.view_is refl c.max-counts-inside.ensures first.right second.right refl refl
+    commit_entered _ _ _ _ _ _ _ _ _ _ _ _ _ _ _ c.self.invariant.1 _ w.agrees (subst (λ x. 0 < x.tx) (sym watch.right) c.requires.active) _ _ _ _ _ _ _ _ _ _ _ _ _ _ _ _ _ w watch.counts watch.right
+    refl c.session-session.ensures c.tx-tx.ensures first.front second.front (c.store.ensures.log ∙ c.meet.ensures.seen) first.counts second.counts (omega (arith, c.store.ensures.seen)) (omega (arith, watch.seen.durable, c.meet.ensures.durable, c.store.ensures.seen)) first.right second.right refl refl
+
+pub store-requires : goal.store-requires
+store-requires g c = record { rises = omega (arith, c.self.invariant.2.within, c.enter.ensures.mark, c.enter-2.ensures.mark) }

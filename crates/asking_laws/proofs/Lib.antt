@@ -1,0 +1,4 @@
+pub mod Asks
+pub mod Entered
+pub mod Moments
+pub mod Alike

@@ -1,0 +1,13 @@
+pub mod Splits
+pub mod Purges
+pub mod Grows
+pub mod Adopts
+pub mod Enters
+pub mod Descents
+pub mod Steps
+pub mod Scans
+pub mod Links
+pub mod Tidy
+pub mod Paths
+pub mod PathRecords
+pub mod InHand

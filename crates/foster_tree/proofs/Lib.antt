@@ -1,0 +1,5 @@
+pub mod Made
+pub mod Checked
+pub mod Ways
+pub mod Desks
+pub mod Causing

@@ -1,0 +1,5 @@
+pub mod Beginning
+pub mod Entering
+pub mod Sizes
+pub mod Starting
+pub mod Writing

@@ -1,0 +1,5 @@
+use Rattle.journal.proofs.Starting.{kept_start}
+use Rattle.journal.proofs.journal.Journal.start.Goals as goal
+
+pub invariant_of-result : goal.invariant_of-result
+invariant_of-result g c = kept_start _ _ _ _ _ _ _ _ c.requires.begins c.requires.goes c.requires.records c.new.ensures c.requires.losers

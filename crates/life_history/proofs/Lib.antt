@@ -1,0 +1,5 @@
+pub mod Beginnings
+pub mod Entries
+pub mod Keeping
+pub mod Own
+pub mod Sessions

@@ -1,0 +1,27 @@
+use Rattle.std.proofs.Common.{refl, sym, ap, ◌∙◌, arith, length, subst, ◌+◌, ◌++◌, [], ◌∷◌}
+use Rattle.page_ops.specs.Claims.{SessionAgrees}
+use Rattle.page_ops.specs.Seeing.{IsConsistent, of_sessions}
+use Rattle.life_history.proofs.Entries.{session_fits, own_kept, own_agrees, own_counted}
+use Rattle.life_history.proofs.history.History.enter_own.Goals as goal
+
+pub enter-requires-clause-room : goal.enter-requires-clause-room
+enter-requires-clause-room g c = let low = session_fits _ (length c.args.self.now) _ c.requires.agrees refl c.requires.few in omega (arith, low)
+
+pub invariant_of-self : goal.invariant_of-self
+invariant_of-self g c =
+    let enter = c.enter.ensures in (
+      enter.spare,
+      own_kept _ _ _ _ _ _ _ _ _ _ _ c.self.invariant.1 _ enter.before c.requires.active _ c.requires.calm c.requires.own _ _ _ _ _ _ _ enter.book c.tx-tx.ensures enter.others (c.meet.ensures.list ∙ enter.front) enter.total enter.sessions_total
+          (omega (arith, c.self.invariant.1.entries, ap (λ l. length l) c.self.view_is, c.requires.few))
+          (subst (λ h. IsConsistent _ (h ++ c.args.entry.now ∷ [])) (sym c.self.view_is) c.requires.consistent),
+    )
+
+pub returns-clause-agrees : goal.returns-clause-agrees
+returns-clause-agrees g c =
+    let enter = c.enter.ensures in
+    own_agrees _ _ _ _ _ _ _ _ _ _ _ c.self.invariant.1 _ enter.before c.requires.active _ c.requires.calm c.requires.own _ _ _ (c.meet.ensures.list ∙ enter.front) c.tx-tx.ensures enter.right
+
+pub returns-clause-counted : goal.returns-clause-counted
+returns-clause-counted g c =
+    let enter = c.enter.ensures in
+    own_counted _ _ _ _ _ _ _ _ _ _ _ c.self.invariant.1 _ enter.before c.requires.active _ c.requires.calm c.requires.own _ (c.meet.ensures.list ∙ enter.front) ∙ ap (λ h. of_sessions h + 1) c.self.view_is

@@ -1,0 +1,121 @@
+-- What a life's history keeps.
+use Rattle.std.specs.Prelude.{◌≡◌, ◌≢◌, ℕ, suc, max, ◌+◌, ◌*◌, ◌^◌, ◌<◌, ◌≤◌, List, [], ◌∷◌, ◌++◌, length, filter, Option, Some, None, Bool, true, false, ◌&&◌, ◌==◌, IsTrue}
+use Rattle.std.specs.List.{list_any}
+use Rattle.books.specs.Booking.{entry_of}
+use Rattle.books.specs.declared.entry.BookEntry.{BookEntry}
+use Rattle.wal_record.specs.Books.{page_book, maintenance_book, session_entries, session_transaction}
+use Rattle.wal_record.specs.Chains.{greatest}
+use Rattle.wal_record.specs.Sound.{IsSound}
+use Rattle.wal_record.specs.History.{Phase, Live, Acknowledged, Ended, phase, is_live, Beginning, beginnings, greatest_begun, last_begun}
+use Rattle.wal_record.specs.declared.record.Record.{Record}
+use Rattle.wal_record.specs.declared.record.Record.TheVariants as kinds
+use Rattle.wal_record.specs.declared.entry.Entry.{Entry}
+use Rattle.wal_record.specs.declared.entry.Entry.TheVariants as entries
+use Rattle.page_ops.specs.Seeing.{Account, IsConsistent, of_sessions}
+use Rattle.page_ops.specs.declared.group.Said.{Said}
+
+-- the numbers that it counts: its entries, the next session, the next transaction, and how many transactions are live
+pub record Numbers : Type 0 where
+  pub entries : ℕ
+  pub session : ℕ
+  pub tx : ℕ
+  pub live : ℕ
+
+-- its three books
+pub record BooksOf : Type 0 where
+  pub pages : List BookEntry
+  pub sessions : List BookEntry
+  pub maint : List BookEntry
+
+-- each entry of a book is what stands in the history for its number
+pub record AreKept (opens : List Record → Type 0) (h : List Entry) (b : BooksOf) : Type 0 where
+  pub pages : (n : ℕ) (e : BookEntry) → entry_of n b.pages ≡ Some e → (opening : List Record) → opens opening → e.first ≡ page_book opening h n
+  pub sessions : (n : ℕ) (e : BookEntry) → entry_of n b.sessions ≡ Some e → (e.first ≡ session_entries h n) × (e.second ≡ session_transaction h n)
+  pub maint : (n : ℕ) (e : BookEntry) → entry_of n b.maint ≡ Some e → e.first ≡ maintenance_book h
+
+-- no session has this number
+pub record IsFresh (h : List Entry) (sessions : List BookEntry) (session : ℕ) : Type 0 where
+  pub book : entry_of session sessions ≡ None
+  pub entries : session_entries h session ≡ 0
+  pub begun : last_begun h session ≡ None
+
+-- how often the transaction was begun
+abbrev pub times : ℕ → List Beginning → ℕ
+times t bs = length (filter (λ (b : Beginning). b.tx == t) bs)
+
+abbrev pub is_beginning : ℕ → ℕ → Beginning → Bool
+is_beginning session tx b = b.session == session && b.tx == tx
+
+-- live, or over
+abbrev pub is_settled : Phase → Bool
+is_settled Live = true
+is_settled Acknowledged = true
+is_settled Ended = true
+is_settled _ = false
+
+-- Each transaction was begun once, below the next number and up to 2^62, and is live or acknowledged. Of a session, the one that it
+-- began last is its own. As many are live as are counted, and no more than 64.
+pub record AreBegun (bs : List Beginning) (phases : ℕ → Phase) (begun : ℕ → Option ℕ) (next live : ℕ) : Type 0 where
+  pub once : (t : ℕ) → times t bs ≤ 1
+  pub below : (t : ℕ) → next ≤ t → times t bs ≡ 0
+  pub small : (t : ℕ) → 2 ^ 62 < t → times t bs ≡ 0
+  pub settled : (t : ℕ) → 0 < times t bs → IsTrue (is_settled (phases t))
+  pub owner : (s t : ℕ) → begun s ≡ Some t → IsTrue (list_any (is_beginning s t) bs)
+  pub counted : live ≡ length (filter (λ (b : Beginning). is_live (phases b.tx)) bs)
+  pub most : live ≤ 64
+
+-- the history is consistent, the numbers and books are its own, and the ledgers' totals count its entries
+pub record IsKept (opens : List Record → Type 0) (h : List Entry) (n : Numbers) (b : BooksOf) (total of_session : ℕ) : Type 0 where
+  pub consistent : IsConsistent opens h
+  pub entries : n.entries ≡ length h
+  pub number : (opening : List Record) → opens opening → n.tx ≡ suc (max (greatest opening) (greatest_begun h))
+  pub least : 1 ≤ n.tx
+  -- a commit of each live transaction enters two entries
+  pub room : n.entries + 2 * n.live < 2 ^ 64
+  pub begun : AreBegun (beginnings h) (phase h) (last_begun h) n.tx n.live
+  pub fresh : (s : ℕ) → n.session ≤ s → IsFresh h b.sessions s
+  pub books : AreKept opens h b
+  pub counted : total ≡ length h
+  pub sessions_counted : of_session ≡ of_sessions h
+
+-- the entry is no record, and no transaction begins or ends by it
+abbrev pub is_calm : Entry → Bool
+is_calm (entries.Lock tx range mode) = true
+is_calm (entries.Refused tx range mode holder) = true
+is_calm (entries.Said session tx request reply) = true
+is_calm (entries.Declined session tx request why) = true
+is_calm _ = false
+
+-- it names this session, or a transaction of its
+abbrev pub is_of : ℕ → ℕ → Entry → Bool
+is_of session tx (entries.Lock t range mode) = t == tx
+is_of session tx (entries.Refused t range mode holder) = t == tx
+is_of session tx (entries.Said s t request reply) = s == session
+is_of session tx (entries.Declined s t request why) = s == session
+is_of session tx _ = false
+
+-- a write and its answer
+abbrev pub told_entries : ℕ → Record → Said → List Entry
+told_entries lsn r said = entries.Rec lsn r ∷ entries.Said said.session said.tx said.request said.reply ∷ []
+
+-- a sound log that isn't empty, with this number above all its transactions
+pub record Begins (opening : List Record) (next : ℕ) : Type 0 where
+  pub sound : IsSound opening
+  pub some : opening ≢ []
+  pub number : next ≡ suc (greatest opening)
+
+-- a write of this transaction
+abbrev pub IsWriteBy : ℕ → Record → Type 0
+IsWriteBy tx (kinds.Write w) = w.tx ≡ tx
+IsWriteBy tx (kinds.Apply a) = a.tx ≡ tx
+IsWriteBy tx _ = ⊥
+
+-- a write on this page
+abbrev pub IsOnPage : ℕ → Record → Type 0
+IsOnPage page (kinds.Write w) = w.page ≡ page
+IsOnPage page (kinds.Apply a) = a.page ≡ page
+IsOnPage page _ = ⊥
+
+-- so many entries more, of a session, in both shares
+abbrev pub counted_more : Account → ℕ → Account
+counted_more a n = record a { entries = record { parts = a.entries.parts; amount = a.entries.amount + n }; session_entries = record { parts = a.session_entries.parts; amount = a.session_entries.amount + n } }

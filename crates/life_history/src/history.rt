@@ -1,0 +1,343 @@
+//! The history, and what it keeps beside the entries.
+ghost use Rattle.std.specs.Prelude.{◌≡◌, ◌+◌, ◌<◌, ◌≤◌, ◌^◌, List, [], ◌∷◌, ◌++◌, length, true, Some, IfSome, IsSome, OnOk, OnErr, IfOk, IfErr, IsTrue};
+ghost use mathlib.Core.List.{IsPrefix};
+ghost use Rattle.page_ops.specs.Causes.{FailsToEnter, IsOpen, OrTooMany, with_one};
+ghost use Rattle.page_ops.specs.Claims.{MaintAgrees, PageAgrees, SessionAgrees, no_claims, session_alone};
+ghost use Rattle.page_ops.specs.Outcomes.{IsCrowd, begun};
+ghost use Rattle.page_ops.specs.Seeing.{Enters, HasTotals, IsConsistent, known, of_sessions};
+ghost use Rattle.store_model.specs.declared.fault.Fault.TheVariants as faults;
+ghost use Rattle.wal_record.specs.History.{life_log};
+ghost use Rattle.wal_record.specs.Rules.{is_number};
+ghost use Rattle.wal_record.specs.Sound.{IsSound};
+ghost use Rattle.wal_record.specs.declared.entry.Entry.{Entry};
+ghost use Rattle.wal_record.specs.declared.record.Record.{Record};
+ghost use Rattle.life_history.specs.Kept.{AreKept, Begins, IsOnPage, IsWriteBy, counted_more, is_calm, is_of, told_entries};
+
+use crate::counts::Counts;
+use crate::stand::Stand;
+use books::{Books, MaintRight, PageRight, SessionRight};
+use front::{Front, Mark, Pass};
+use page_ops::{Entries, Ground, Life, Made, Rights, Said, SessionEntries};
+use std::marker::Model;
+use std::sync::ledger;
+use store_model::{Fault, Lsn, Pos, TxId};
+use wal_record::{Entry, Record};
+
+/// The bound of the counters, from which on nothing is begun.
+const MOST: u64 = 1 << 62;
+
+/// So many transactions are live at most.
+const MOST_LIVE: u32 = 64;
+
+/// The history of a life, its books and its numbers. Contracts see it as the list of its entries.
+#[derive(Drop)]
+pub struct History<'a, N: Life> {
+    count: u64,
+    next_session: u32,
+    next_tx: TxId,
+    live: u32,
+    stand: Stand<'a, N>,
+}
+
+impl<'a, N: Life> Model for History<'a, N> {
+    ghost use Rattle.std.specs.Prelude.{List, IsSome};
+    ghost use Rattle.wal_record.specs.declared.entry.Entry.{Entry};
+    ghost use Rattle.life_history.specs.Kept.{IsKept};
+
+    ghost Value = { List Entry };
+
+    ghost view = { λ h. h.stand.front };
+
+    ghost invariant = { λ h. IsSome h.stand.spare × IsKept N.opens h.stand.front (record { entries = h.count; session = h.next_session; tx = h.next_tx; live = h.live }) (record { pages = h.stand.books.pages; sessions = h.stand.books.sessions; maint = h.stand.books.maint }) h.stand.entries.total h.stand.session_entries.total };
+}
+
+impl<'a, N: Life> History<'a, N> {
+    /// The empty history of a life that began with a log with this number above all its transactions. The books have the
+    /// rights to the pages, and no session.
+    pub fn new(
+        ground: &'a Ground<N>,
+        front: Front<Entry, N>,
+        mark: Mark<Entry, N>,
+        mut books: Books<N>,
+        entries: ledger::Book<Entries<N>>,
+        session_entries: ledger::Book<SessionEntries<N>>,
+        made: ledger::Book<Made<N>>,
+        next_tx: TxId,
+    ) -> History<'a, N>
+        requires empty { (front ≡ []) × (entries.total ≡ 0) × (session_entries.total ≡ 0) }
+        requires books { AreKept N.opens [] (record { pages = books.pages; sessions = books.sessions; maint = books.maint }) }
+        requires sessions { books.sessions ≡ [] }
+        requires number { 1 ≤ next_tx }
+        requires opening { (opening : List Record) → N.opens opening → Begins opening next_tx }
+        ensures { result ≡ [] }
+    {
+        let spare = SessionRight::of(books.sessions.open(&ground.tables.sessions, 0));
+        History {
+            count: 0,
+            next_session: 1,
+            next_tx,
+            live: 0,
+            stand: Stand {
+                ground,
+                front,
+                mark,
+                books,
+                spare: Some(spare),
+                entries,
+                session_entries,
+                made,
+            },
+        }
+    }
+
+    /// How many entries it has. Whoever has all parts of the ledger of entries has entered as many.
+    pub fn total(&mut self, counts: &mut Counts<N>) -> u64
+        ensures length { result ≡ length self.old }
+        ensures whole { counts.old.entries.parts ≡ N.entries.parts → result ≡ counts.old.entries.amount }
+    {
+        self.stand.entries.audit(&mut counts.entries);
+        self.count
+    }
+
+    /// The page's right comes back as it was, and agrees with the history.
+    fn see_page(&mut self, right: &mut Option<PageRight<N>>)
+        ensures same { self.new ≡ self.old }
+        ensures right { right.new ≡ right.old }
+        ensures agrees { IfSome right.old (PageAgrees N.opens self.old) }
+    {
+        if let Some(old) = right.take() {
+            let (lsn, ground) = (old.lsn(), self.stand.ground);
+            let same = self
+                .stand
+                .books
+                .pages
+                .set(&ground.tables.pages, old.into_right(), lsn, 0);
+            *right = Some(PageRight::of(same));
+        }
+    }
+
+    /// The session's right comes back as it was, and agrees with the history.
+    fn see_session(&mut self, right: &mut Option<SessionRight<N>>)
+        ensures same { self.new ≡ self.old }
+        ensures right { right.new ≡ right.old }
+        ensures agrees { IfSome right.old (SessionAgrees self.old) }
+    {
+        if let Some(old) = right.take() {
+            let (entries, tx, ground) = (old.entries(), old.tx(), self.stand.ground);
+            let same = self
+                .stand
+                .books
+                .sessions
+                .set(&ground.tables.sessions, old.into_right(), entries, tx);
+            *right = Some(SessionRight::of(same));
+        }
+    }
+
+    /// The right to maintenance comes back as it was, and agrees with the history.
+    fn see_maint(&mut self, right: &mut Option<MaintRight<N>>)
+        ensures same { self.new ≡ self.old }
+        ensures right { right.new ≡ right.old }
+        ensures agrees { IfSome right.old (MaintAgrees self.old) }
+    {
+        if let Some(old) = right.take() {
+            let (lsn, ground) = (old.lsn(), self.stand.ground);
+            let same = self
+                .stand
+                .books
+                .maint
+                .set(&ground.tables.maint, old.into_right(), lsn, 0);
+            *right = Some(MaintRight::of(same));
+        }
+    }
+
+    /// Shows the pass the whole history. The shares count what they counted.
+    pub(crate) fn look(&mut self, pass: &mut Pass<Entry, N>, counts: &mut Counts<N>)
+        ensures same { self.new ≡ self.old }
+        ensures counts { counts.new ≡ counts.old }
+        ensures pass { pass.new.log ≡ self.old }
+        ensures begins { IsPrefix pass.old.log self.old }
+        ensures durable { pass.old.durable ≤ pass.new.durable }
+        ensures consistent { IsConsistent N.opens self.old }
+        ensures totals { HasTotals N.entries N.session_entries counts.old self.old }
+        ensures fresh { IsOpen counts.old }
+    {
+        let ground = self.stand.ground;
+        self.stand.front.meet(&ground.board, pass);
+        self.stand.entries.audit(&mut counts.entries);
+        self.stand
+            .session_entries
+            .audit(&mut counts.session_entries);
+    }
+
+    /// As `Entering::see`.
+    pub fn see(&mut self, rights: &mut Rights<N>, pass: &mut Pass<Entry, N>, counts: &mut Counts<N>)
+        ensures same { self.new ≡ self.old }
+        ensures rights { rights.new ≡ rights.old }
+        ensures counts { counts.new ≡ counts.old }
+        ensures pass { pass.new.log ≡ self.old }
+        ensures seen { Enters N.opens N.entries N.session_entries (known counts.old pass.old rights.old) [] (known counts.new pass.new rights.new) }
+        ensures fresh { IsOpen counts.old }
+    {
+        self.see_page(&mut rights.a);
+        self.see_page(&mut rights.b);
+        self.see_page(&mut rights.c);
+        self.see_session(&mut rights.s);
+        self.see_maint(&mut rights.m);
+        self.look(pass, counts);
+    }
+
+    /// Shows the pass the history, with which the session's right agrees, and says nothing of it: what is asked for is
+    /// kept nowhere.
+    pub fn watch_session(
+        &mut self,
+        s: &mut SessionRight<N>,
+        pass: &mut Pass<Entry, N>,
+        counts: &mut Counts<N>,
+    )
+        ensures same { self.new ≡ self.old }
+        ensures right { s.new ≡ s.old }
+        ensures counts { counts.new ≡ counts.old }
+        ensures pass { pass.new.log ≡ self.old }
+        ensures seen { Enters N.opens N.entries N.session_entries (known counts.old pass.old (session_alone s.old)) [] (known counts.new pass.new (session_alone s.new)) }
+        ensures fresh { IsOpen counts.old }
+    {
+        let (entries, tx) = (s.entries(), s.tx());
+        self.stand.set_session(s, entries, tx);
+        self.look(pass, counts);
+    }
+
+    /// The right to a new session, to which no entry belongs. It wants memory where all numbers are given.
+    pub fn session(
+        &mut self,
+        pass: &mut Pass<Entry, N>,
+        counts: &mut Counts<N>,
+    ) -> Result<SessionRight<N>, Fault>
+        ensures same { self.new ≡ self.old }
+        ensures seen { Enters N.opens N.entries N.session_entries (record (known counts.old pass.old no_claims) { account = record counts.old { made = counts.new.made } }) [] (known counts.new pass.new no_claims) }
+        ensures made { counts.new.made ≡ with_one counts.old.made result }
+        ensures new { IfOk result (λ s. (s.entries ≡ 0) × (s.tx ≡ 0) × SessionAgrees pass.new.log s) }
+        ensures refused { IfErr result (λ fault. fault ≡ faults.Memory) }
+    {
+        self.look(pass, counts);
+        if self.next_session == u32::MAX {
+            return Err(Fault::Memory);
+        }
+        let (number, ground) = (self.next_session, self.stand.ground);
+        self.next_session += 1;
+        self.stand.made.add(&mut counts.made, 1);
+        let right = self
+            .stand
+            .books
+            .sessions
+            .open(&ground.tables.sessions, number);
+        Ok(SessionRight::of(right))
+    }
+
+    /// Begins a transaction of the session, with the next number. `TooManyActive` exactly where 64 are live. It wants memory
+    /// where a counter has reached 2^62.
+    pub fn begin(
+        &mut self,
+        s: &mut SessionRight<N>,
+        pass: &mut Pass<Entry, N>,
+        counts: &mut Counts<N>,
+    ) -> Result<TxId, Fault>
+        requires free { s.old.tx ≡ 0 }
+        ensures entered { Enters N.opens N.entries N.session_entries (known counts.old pass.old (session_alone s.old)) (begun s.old.session result) (known counts.new pass.new (session_alone s.new)) }
+        ensures history { self.new ≡ self.old ++ begun s.old.session result }
+        ensures right { IfOk result (λ tx. s.new ≡ record { session = s.old.session; entries = s.old.entries + 1; tx = tx }) }
+        ensures number { IfOk result (λ tx. IsTrue (is_number tx)) }
+        ensures same { OnErr result (s.new ≡ s.old) }
+        ensures crowd { IfErr result (IsCrowd pass.new.log) }
+        ensures refused { IfErr result (FailsToEnter OrTooMany) }
+        ensures fresh { IsOpen counts.old × IsOpen counts.new }
+    {
+        self.watch_session(s, pass, counts);
+        if self.live == MOST_LIVE {
+            return Err(Fault::TooManyActive);
+        }
+        if self.count >= MOST || self.next_tx >= MOST {
+            return Err(Fault::Memory);
+        }
+        let (tx, ground) = (self.next_tx, self.stand.ground);
+        let entry = Entry::Began {
+            session: s.session(),
+            tx,
+        };
+        self.stand.enter(&entry, s, tx, counts);
+        self.count += 1;
+        self.next_tx += 1;
+        self.live += 1;
+        self.stand.front.meet(&ground.board, pass);
+        Ok(tx)
+    }
+
+    /// Enters an entry of the session that is no record, and by which no transaction begins or ends.
+    pub fn enter_own(
+        &mut self,
+        entry: &Entry,
+        s: &mut SessionRight<N>,
+        pass: &mut Pass<Entry, N>,
+        counts: &mut Counts<N>,
+    )
+        requires calm { is_calm entry.now ≡ true }
+        requires own { is_of s.old.session s.old.tx entry.now ≡ true }
+        requires active { 0 < s.old.tx }
+        requires few { length self.old < 2 ^ 62 }
+        requires agrees { SessionAgrees self.old s.old }
+        requires consistent { IsConsistent N.opens (self.old ++ entry.now ∷ []) }
+        ensures history { self.new ≡ self.old ++ entry.now ∷ [] }
+        ensures seen { pass.new.log ≡ self.new }
+        ensures durable { pass.old.durable ≤ pass.new.durable }
+        ensures right { s.new ≡ record { session = s.old.session; entries = s.old.entries + 1; tx = s.old.tx } }
+        ensures agrees { SessionAgrees self.new s.new }
+        ensures counts { counts.new ≡ counted_more counts.old 1 }
+        ensures counted { of_sessions self.new ≡ of_sessions self.old + 1 }
+    {
+        let (tx, ground) = (s.tx(), self.stand.ground);
+        self.stand.enter(entry, s, tx, counts);
+        self.count += 1;
+        self.stand.front.meet(&ground.board, pass);
+    }
+
+    /// Enters a write of the session's transaction, with its answer. The right to its page has then its LSN.
+    pub fn enter_write(
+        &mut self,
+        lsn: Lsn,
+        rec: &Record,
+        said: &Said,
+        page: &mut Option<PageRight<N>>,
+        s: &mut SessionRight<N>,
+        counts: &mut Counts<N>,
+    )
+        requires write { IsWriteBy s.old.tx rec.now }
+        requires speaker { said.now.session ≡ s.old.session }
+        requires there { IsSome page.old }
+        requires page { IfSome page.old (λ p. IsOnPage p.page rec.now) }
+        requires lsn { (opening : List Record) → N.opens opening → lsn ≡ length (life_log opening self.old) + 1 }
+        requires number { IsTrue (is_number lsn) }
+        requires active { 0 < s.old.tx }
+        requires few { length self.old < 2 ^ 62 }
+        requires agrees { SessionAgrees self.old s.old }
+        requires consistent { IsConsistent N.opens (self.old ++ told_entries lsn rec.now said.now) }
+        ensures history { self.new ≡ self.old ++ told_entries lsn rec.now said.now }
+        ensures right { s.new ≡ record { session = s.old.session; entries = s.old.entries + 2; tx = s.old.tx } }
+        ensures page { IfSome page.old (λ p. page.new ≡ Some (record { page = p.page; lsn = lsn })) }
+        ensures counts { counts.new ≡ counted_more counts.old 2 }
+        ensures counted { of_sessions self.new ≡ of_sessions self.old + 2 }
+    {
+        self.stand.enter_told(lsn, rec, said, page, s, counts);
+        self.count += 2;
+    }
+
+    /// What the threads of the life share.
+    pub fn ground(&self) -> &Ground<N> {
+        self.stand.ground
+    }
+
+    /// How many entries it has.
+    pub fn length(&self) -> Pos
+        ensures { result ≡ length self.now }
+    {
+        self.count
+    }
+}

@@ -1,0 +1,24 @@
+//! The history of a life as the journal keeps it: who began what, how many entries each session has, and the books.
+//!
+//! A journal keeps three things together: the records of the log, the locks, and the history. This crate has the last.
+//! [`History`] adds entries, raises the rights of pages and sessions with them, and counts them in the ledgers. It knows
+//! no record's meaning and no lock: who calls it has seen that the entries are legal there, and says so.
+//!
+//! The model is the history itself, a list of entries. What holds of it whenever a call ends is `IsKept` (`specs/Kept`):
+//! the history is consistent for every log with which the life may have begun, the books are those of the history, the
+//! ledgers count its entries, and each transaction was begun once, by one session. What is promised:
+//!
+//! 1. [`History::see`] and its kin show a pass the whole history; the rights agree with it.
+//! 2. [`History::session`] gives a session that nobody has yet, and [`History::begin`] the next transaction.
+//! 3. [`History::enter_own`] adds an entry of a session that is no record and moves no transaction: a lock, a refusal, an
+//!    answer. [`History::enter_write`] adds a write and its answer, in one step.
+//!
+//! [`Counts`] are a thread's shares of the ledgers of its life.
+#![tactic(auto)]
+
+mod counts;
+mod history;
+mod stand;
+
+pub use counts::Counts;
+pub use history::History;

@@ -1,0 +1,105 @@
+-- A record more, and a flush: the log and its listing are of the longer list, or of the same one.
+use Rattle.std.proofs.Common.{◌≡◌, ℕ, suc, ◌+◌, List, [], ◌∷◌, ◌++◌, length, Option, Some, None, Bool, true, false, refl, sym, ap, ◌∙◌, subst, arith, append_assoc, append-nil, length-append, inl, inr}
+use Rattle.std.specs.Prelude.{◌⊎◌, ◌||◌, Result, Ok, Err, OnOk, IfErr}
+use Rattle.std.specs.List.{list_any}
+use Rattle.std.proofs.lemmas.List.Folds.{list_any-append}
+use Rattle.media.specs.Kept.{Kept}
+use Rattle.log_blocks.specs.LogState.{LogState, Refused}
+use Rattle.log_index.specs.Listing.{IsListingOf, noted}
+use Rattle.log_index.specs.Table.{noted_step}
+use Rattle.log_index.specs.declared.listing.Listing.{Listing}
+use Rattle.log_index.proofs.NotedLaws.{noted_kept}
+use Rattle.log_manager.specs.Managed.{Managed, HasMore}
+use Rattle.log_manager.specs.Records.{IsLogOf}
+use Rattle.store_model.specs.declared.fault.Fault.{Fault}
+use Rattle.store_model.specs.declared.fault.Fault.TheVariants as faults
+use Rattle.wal_record.specs.Chains.{finishes, last}
+use Rattle.wal_record.specs.Sound.{AreLawful}
+use Rattle.wal_record.specs.declared.record.Record.{Record}
+use Rattle.listed_log.specs.Listed.{HoldsEnd, IsLogWith}
+
+neither : (a b : Bool) → (a || (b || false)) ≡ false → (a ≡ false) × (b ≡ false)
+neither true b e = absurd (cc e)
+neither false true e = absurd (cc e)
+neither false false e = (refl, refl)
+
+noted_on : (rs : List Record) (r : Record) (lsn : ℕ) (s s' : Listing) → ((t : ℕ) → list_any (finishes t) rs ≡ false → noted s t ≡ last rs t) → ((q : ℕ) → noted s' q ≡ noted_step lsn q (noted s q) r) → lsn ≡ length rs + 1
+    → (t : ℕ) → list_any (finishes t) (rs ++ r ∷ []) ≡ false → noted s' t ≡ last (rs ++ r ∷ []) t
+noted_on rs r lsn s s' before step place t none =
+    let both = neither (list_any (finishes t) rs) (finishes t r) (sym (list_any-append (finishes t) rs (r ∷ [])) ∙ none) in
+    step t ∙ ap (λ (l : ℕ). noted_step l t (noted s t) r) place ∙ (noted_kept rs r t).kept both.1 (noted s t) (before t both.0)
+
+module _ {D : Type 0} (tells : Type 0) (told : D → Kept) (may_leave : D → Kept → Type 0) (rs : List Record) (m : Managed D) where
+  -- what is made ready changes neither
+  pub readied : (s s' : Listing) → IsLogWith tells told may_leave rs m s → (IsListingOf rs s → IsListingOf rs s') → ((q : ℕ) → noted s' q ≡ noted s q) → IsLogWith tells told may_leave rs m s'
+  readied s s' k same none = record { lawful = k.lawful; listing = same k.listing; noted = λ t runs. none t ∙ k.noted t runs; next = k.next; records = k.records }
+
+  place_is : (s : Listing) (lsn : ℕ) → IsLogWith tells told may_leave rs m s → lsn ≡ m.log.next → lsn ≡ length rs + 1
+  place_is s lsn k is = let n = k.next in omega (arith, is, n)
+
+  pub added : (r : Record) (recs : List Record) (lsn : ℕ) (m' : Managed D) (s s' : Listing) → recs ≡ r ∷ [] → IsLogWith tells told may_leave rs m s → AreLawful (rs ++ r ∷ []) → lsn ≡ m.log.next
+      → (lsn ≡ length rs + 1 → IsListingOf (rs ++ r ∷ []) s') → ((q : ℕ) → noted s' q ≡ noted_step lsn q (noted s q) r) → HasMore recs m.log m'.log
+      → (tells → (stable waiting : List Record) → IsLogOf told may_leave m.log stable waiting → IsLogOf told may_leave m'.log stable (waiting ++ recs))
+      → IsLogWith tells told may_leave (rs ++ r ∷ []) m' s'
+  added r recs lsn m' s s' is k lawful at listing step more blocks =
+      let place = place_is s lsn k at in
+      let same : m'.log.ended ≡ m.log.ended = ap (λ (l : LogState D). l.ended) more.is in
+      record {
+        lawful = lawful;
+        listing = listing place;
+        noted = noted_on rs r lsn s s' k.noted step place;
+        next =
+            let one : m'.log.next ≡ m.log.next + length recs = ap (λ (l : LogState D). l.next) more.is in
+            let few : length recs ≡ 1 = ap (λ (l : List Record). length l) is in
+            let n = k.next in
+            omega (arith, one, few, n, length-append rs (r ∷ []));
+        records = λ t runs.
+            let old = k.records t (sym same ∙ runs) in
+            record {
+              forgotten = old.forgotten;
+              stable = old.stable;
+              waiting = old.waiting ++ recs;
+              is =
+                  ap (λ (l : List Record). l ++ r ∷ []) old.is ∙ append_assoc old.forgotten (old.stable ++ old.waiting) (r ∷ [])
+                  ∙ ap (λ (l : List Record). old.forgotten ++ l) (append_assoc old.stable old.waiting (r ∷ []))
+                  ∙ ap (λ (l : List Record). old.forgotten ++ (old.stable ++ (old.waiting ++ l))) (sym is);
+              blocks = blocks t old.stable old.waiting old.blocks;
+            };
+      }
+
+  kept_blocks : (m' : Managed D) → m' ≡ m → HoldsEnd told may_leave m.log rs → HoldsEnd told may_leave m'.log rs
+  kept_blocks m' same old = subst (λ (x : Managed D). HoldsEnd told may_leave x.log rs) (sym same) old
+
+  flushed_blocks : (m' : Managed D) (old : HoldsEnd told may_leave m.log rs) → ((m' ≡ m) ⊎ IsLogOf told may_leave m'.log (old.stable ++ old.waiting) []) → HoldsEnd told may_leave m'.log rs
+  flushed_blocks m' old (inl same) = kept_blocks m' same old
+  flushed_blocks m' old (inr log) = record {
+    forgotten = old.forgotten;
+    stable = old.stable ++ old.waiting;
+    waiting = [];
+    is = old.is ∙ ap (λ (l : List Record). old.forgotten ++ l) (sym (append-nil (old.stable ++ old.waiting)));
+    blocks = log;
+  }
+
+  ended_blocks : (count : D → ℕ) (m' : Managed D) (fault : Fault) → Refused ⊥ count m.log m'.log fault → (m.log.ended ≡ None → HoldsEnd told may_leave m.log rs) → m'.log.ended ≡ None → HoldsEnd told may_leave m'.log rs
+  ended_blocks count m' (faults.Ended at) why old runs = subst (λ (l : LogState D). HoldsEnd told may_leave l rs) (sym why.1) (old (ap (λ (l : LogState D). l.ended) (sym why.1) ∙ runs))
+  ended_blocks count m' faults.LogFault why old runs = absurd (cc (why.2, runs))
+  ended_blocks count m' faults.Memory why old runs = absurd why.0
+  ended_blocks count m' _ why old runs = absurd why
+
+  pub flushed : {A : Type 0} (count : D → ℕ) (m' : Managed D) (s : Listing) (result : Result A Fault) → IsLogWith tells told may_leave rs m s → m'.log.next ≡ m.log.next
+      → (tells → (stable waiting : List Record) → IsLogOf told may_leave m.log stable waiting → OnOk result ((m' ≡ m) ⊎ IsLogOf told may_leave m'.log (stable ++ waiting) []))
+      → OnOk result ((m.log.ended ≡ None) × (m'.log.ended ≡ None)) → IfErr result (Refused ⊥ count m.log m'.log) → IsLogWith tells told may_leave rs m' s
+  flushed count m' s (Ok x) k next blocks live why = record {
+    lawful = k.lawful;
+    listing = k.listing;
+    noted = k.noted;
+    next = next ∙ k.next;
+    records = λ t runs. let old = k.records t live.0 in flushed_blocks m' old (blocks t old.stable old.waiting old.blocks);
+  }
+  flushed count m' s (Err fault) k next blocks live why = record {
+    lawful = k.lawful;
+    listing = k.listing;
+    noted = k.noted;
+    next = next ∙ k.next;
+    records = λ t runs. ended_blocks count m' fault why (k.records t) runs;
+  }

@@ -1,0 +1,19 @@
+//! A log with its listing: the records themselves, and what has to be known of them to go on.
+//!
+//! The log manager keeps records as a list and forgets their meaning; the listing keeps their meaning and forgets the
+//! records. Whoever adds to a log needs both, and needs them of the same records. [`ListedLog`] is the pair: what is
+//! added to the one is noted in the other, in one call that is done whole or not at all.
+//!
+//! Contracts see both side by side. `IsLogWith` of `specs/Listed` says of which records they are: the listing is
+//! theirs, and the blocks have the last of them, stable ones and waiting ones. What is promised:
+//!
+//! 1. [`ListedLog::append`] adds one record, or two that stand together, all in one block. Of a lawful log, it is then the
+//!    longer log with its listing. After a refusal both are of the same records as before.
+//! 2. [`ListedLog::commit`] adds a Commit without memory, where [`ListedLog::reserve_commit`] made room.
+//! 3. [`ListedLog::flush_to`] makes the log durable up to an LSN. The records stay the same, also where it fails.
+//! 4. All that the listing knows of the records is read off [`ListedLog::listing`].
+#![tactic(auto)]
+
+mod listed_log;
+
+pub use listed_log::ListedLog;

@@ -1,0 +1,142 @@
+//! The log and its listing.
+ghost use Rattle.std.specs.Prelude.{◌≡◌, ◌+◌, ◌-◌, ◌<◌, ◌≤◌, ◌^◌, ◌++◌, ◌∷◌, [], ℕ, List, length, None, false, OnOk, OnErr, IfOk, IfErr};
+ghost use Rattle.std.specs.List.{All, list_any};
+ghost use Rattle.log_blocks.specs.LogState.{Refused, durable_lsn};
+ghost use Rattle.log_index.specs.Listing.{IsListingOf, noted};
+ghost use Rattle.log_manager.specs.Managed.{NotAdded};
+ghost use Rattle.log_manager.specs.Payload.{bytes_of};
+ghost use Rattle.log_manager.specs.Records.{IsLogOf};
+ghost use Rattle.wal_record.specs.Chains.{finishes, last};
+ghost use Rattle.wal_record.specs.Rules.{HasSpelling};
+ghost use Rattle.wal_record.specs.Sound.{AreLawful};
+ghost use Rattle.wal_record.specs.declared.record.Record.{Record};
+ghost use Rattle.wal_record.specs.declared.record.Record.TheVariants as kinds;
+ghost use Rattle.listed_log.specs.Listed.{HoldsEnd, IsLogWith};
+
+use log_blocks::MOST_BYTES;
+use log_index::Listing;
+use log_manager::LogManager;
+use media::Disk;
+use std::alloc::Global;
+use std::slice;
+use store_model::{Fault, Lsn, Memory, TxId};
+use wal_record::{Commit, Record};
+
+/// The records of a log, and what has to be known of them to go on.
+#[derive(Drop)]
+pub struct ListedLog<L: Disk> {
+    pub log: LogManager<L>,
+    pub listing: Listing,
+}
+
+impl<L: Disk> ListedLog<L> {
+    /// Both of the same records.
+    pub fn new(log: LogManager<L>, listing: Listing) -> ListedLog<L>
+        ensures same { (result.log ≡ log) × (result.listing ≡ listing) }
+        ensures records { (rs : List Record) → AreLawful rs → IsListingOf rs listing → ((t : ℕ) → list_any (finishes t) rs ≡ false → noted listing t ≡ last rs t)
+            → log.log.next ≡ length rs + 1 → (L.tells → log.log.ended ≡ None → HoldsEnd L.told L.may_leave log.log rs) → IsLogWith L.tells L.told L.may_leave rs log listing }
+    {
+        ListedLog { log, listing }
+    }
+
+    /// What is known of the records.
+    pub fn listing(&self) -> &Listing
+        ensures { result.now ≡ self.now.listing }
+    {
+        &self.listing
+    }
+
+    /// The LSN of the last record of a transaction that isn't over, 0 for none.
+    pub fn last_of(&self, tx: TxId) -> Lsn
+        ensures { (rs : List Record) → IsLogWith L.tells L.told L.may_leave rs self.now.log self.now.listing → list_any (finishes tx) rs ≡ false → result ≡ last rs tx }
+    {
+        self.listing.noted(tx)
+    }
+
+    /// The LSN of the last record, 0 where there is none.
+    pub fn last(&self) -> Lsn
+        ensures next { result ≡ self.now.log.log.next - 1 }
+        ensures length { (rs : List Record) → IsLogWith L.tells L.told L.may_leave rs self.now.log self.now.listing → result ≡ length rs }
+    {
+        self.log.last()
+    }
+
+    /// The LSN of the last stable record, 0 where none is stable.
+    pub fn durable(&self) -> Lsn
+        ensures { result ≡ durable_lsn self.now.log.log.places }
+    {
+        self.log.durable()
+    }
+
+    /// The durable LSN when a device call failed, if one has: then the log has ended.
+    pub fn ended(&self) -> Option<Lsn>
+        ensures { result ≡ self.now.log.log.ended }
+    {
+        self.log.ended()
+    }
+
+    /// For how many commits there is room.
+    pub fn spare(&self) -> usize
+        ensures { result ≡ self.now.log.spare }
+    {
+        self.log.spare()
+    }
+
+    /// Adds a record at the end. Gives its LSN.
+    pub fn append(&mut self, alloc: Global, rec: &Record) -> Result<Lsn, Fault>
+        requires spelled { HasSpelling rec.now }
+        requires size { length (bytes_of (rec.now ∷ [])) ≤ MOST_BYTES }
+        ensures lsn { IfOk result (λ lsn. lsn ≡ self.old.log.log.next) }
+        ensures more { (rs : List Record) → IsLogWith L.tells L.told L.may_leave rs self.old.log self.old.listing → AreLawful (rs ++ rec.now ∷ []) → length rs < 2 ^ 63
+            → OnOk result (IsLogWith L.tells L.told L.may_leave (rs ++ rec.now ∷ []) self.new.log self.new.listing) }
+        ensures same { (rs : List Record) → IsLogWith L.tells L.told L.may_leave rs self.old.log self.old.listing → OnErr result (IsLogWith L.tells L.told L.may_leave rs self.new.log self.new.listing) }
+        ensures spare { self.new.log.spare ≡ self.old.log.spare }
+        ensures disk { (self.new.log.log.device ≡ self.old.log.log.device) × (self.new.log.log.places ≡ self.old.log.log.places) × (self.new.log.log.ended ≡ self.old.log.log.ended) }
+        ensures refused { IfErr result (NotAdded self.old.log.log) }
+    {
+        if let Some(at) = self.log.ended() {
+            return Err(Fault::Ended { at });
+        }
+        self.listing.prepare(rec)?;
+        let lsn = self.log.append_group(alloc, slice::from_ref(rec))?;
+        self.listing.note(lsn, rec);
+        Ok(lsn)
+    }
+
+    /// Makes room for one more Commit.
+    pub fn reserve_commit(&mut self) -> Result<(), Memory>
+        ensures ok { OnOk result (self.new ≡ record self.old { log = record self.old.log { spare = self.old.log.spare + 1 } }) }
+        ensures same { OnErr result (self.new ≡ self.old) }
+    {
+        self.log.reserve_commit()
+    }
+
+    /// Adds a Commit at the end, without memory. Gives its LSN.
+    pub fn commit(&mut self, tx: TxId, prev: Lsn) -> Lsn
+        requires spare { 1 ≤ self.old.log.spare }
+        requires spelled { HasSpelling (kinds.Commit (record { tx = tx; prev = prev })) }
+        ensures lsn { result ≡ self.old.log.log.next }
+        ensures more { (rs : List Record) → IsLogWith L.tells L.told L.may_leave rs self.old.log self.old.listing → AreLawful (rs ++ kinds.Commit (record { tx = tx; prev = prev }) ∷ []) → length rs < 2 ^ 63
+            → IsLogWith L.tells L.told L.may_leave (rs ++ kinds.Commit (record { tx = tx; prev = prev }) ∷ []) self.new.log self.new.listing }
+        ensures spare { self.new.log.spare + 1 ≡ self.old.log.spare }
+        ensures disk { (self.new.log.log.device ≡ self.old.log.log.device) × (self.new.log.log.places ≡ self.old.log.log.places) × (self.new.log.log.ended ≡ self.old.log.log.ended) }
+    {
+        let lsn = self.log.append_commit(tx, prev);
+        self.listing.note(lsn, &Record::Commit(Commit { tx, prev }));
+        lsn
+    }
+
+    /// Makes all records up to this LSN stable. The records stay the same, whatever comes of it.
+    pub fn flush_to(&mut self, lsn: Lsn) -> Result<(), Fault>
+        requires { lsn < self.old.log.log.next }
+        ensures same { (rs : List Record) → IsLogWith L.tells L.told L.may_leave rs self.old.log self.old.listing → IsLogWith L.tells L.told L.may_leave rs self.new.log self.new.listing }
+        ensures durable { OnOk result (lsn ≤ durable_lsn self.new.log.log.places) }
+        ensures spare { self.new.log.spare ≡ self.old.log.spare }
+        ensures next { self.new.log.log.next ≡ self.old.log.log.next }
+        ensures live { OnOk result ((self.old.log.log.ended ≡ None) × (self.new.log.log.ended ≡ None)) }
+        ensures refused { IfErr result (Refused ⊥ L.faults self.old.log.log self.new.log.log) }
+        ensures later { L.faults self.old.log.log.device ≤ L.faults self.new.log.log.device }
+    {
+        self.log.flush_to(lsn)
+    }
+}

@@ -1,0 +1,9 @@
+pub mod Covering
+pub mod Tables
+pub mod Places
+pub mod Counting
+pub mod Checkpointed
+pub mod Listings
+pub mod Copying
+pub mod NotedLaws
+pub mod Writes

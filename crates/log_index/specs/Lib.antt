@@ -1,0 +1,4 @@
+pub mod Table
+pub mod Ready
+pub mod Listing
+pub mod Noted

@@ -1,0 +1,19 @@
+-- The images of pages on the data device, by what a pass has seen of the history and knows to be durable.
+use Rattle.std.specs.Prelude.{ℕ, ◌≤◌, List}
+use Rattle.front.specs.Seen.{PassSeen}
+use Rattle.wal_record.specs.History.{life_log}
+use Rattle.wal_record.specs.declared.record.Record.{Record}
+use Rattle.wal_record.specs.declared.entry.Entry.{Entry}
+use Rattle.page_repair.specs.Supplies.{IsSealed}
+
+-- the bytes are the page's sealed image in the log up to an LSN to which the pass knows the log to be durable
+pub record IsImage (log : List Record) (durable page : ℕ) (bytes : List ℕ) : Type 0 where
+  pub sealed : IsSealed log page bytes
+  pub durable_upto : sealed.upto ≤ durable
+
+abbrev pub IsWritten : (List Record → Type 0) → PassSeen Entry → ℕ → List ℕ → Type 0
+IsWritten opens p page bytes = (opening : List Record) → opens opening → IsImage (life_log opening p.log) p.durable page bytes
+
+-- each image that a device tells of is so
+abbrev pub AreWritten : {D : Type 0} → (List Record → Type 0) → (D → ℕ → List ℕ → Type 0) → PassSeen Entry → D → Type 0
+AreWritten {D} opens told p device = (page : ℕ) (bytes : List ℕ) → told device page bytes → IsWritten opens p page bytes
