@@ -14,6 +14,7 @@ use Rattle.log_manager.specs.Records.{IsLogOf}
 use Rattle.store_model.specs.declared.fault.Fault.{Fault}
 use Rattle.store_model.specs.declared.fault.Fault.TheVariants as faults
 use Rattle.wal_record.specs.Chains.{finishes, last}
+use Rattle.wal_record.specs.Checkpoints.{last_checkpoint}
 use Rattle.wal_record.specs.Sound.{AreLawful}
 use Rattle.wal_record.specs.declared.record.Record.{Record}
 use Rattle.listed_log.specs.Listed.{HoldsEnd, IsLogWith}
@@ -39,7 +40,7 @@ module _ {D : Type 0} (tells : Type 0) (told : D → Kept) (may_leave : D → Ke
 
   pub added : (r : Record) (recs : List Record) (lsn : ℕ) (m' : Managed D) (s s' : Listing) → recs ≡ r ∷ [] → IsLogWith tells told may_leave rs m s → AreLawful (rs ++ r ∷ []) → lsn ≡ m.log.next
       → (lsn ≡ length rs + 1 → IsListingOf (rs ++ r ∷ []) s') → ((q : ℕ) → noted s' q ≡ noted_step lsn q (noted s q) r) → HasMore recs m.log m'.log
-      → (tells → (stable waiting : List Record) → IsLogOf told may_leave m.log stable waiting → IsLogOf told may_leave m'.log stable (waiting ++ recs))
+      → (tells → (before : ℕ) (stable waiting : List Record) → IsLogOf told may_leave m.log before stable waiting → IsLogOf told may_leave m'.log before stable (waiting ++ recs))
       → IsLogWith tells told may_leave (rs ++ r ∷ []) m' s'
   added r recs lsn m' s s' is k lawful at listing step more blocks =
       let place = place_is s lsn k at in
@@ -63,14 +64,14 @@ module _ {D : Type 0} (tells : Type 0) (told : D → Kept) (may_leave : D → Ke
                   ap (λ (l : List Record). l ++ r ∷ []) old.is ∙ append_assoc old.forgotten (old.stable ++ old.waiting) (r ∷ [])
                   ∙ ap (λ (l : List Record). old.forgotten ++ l) (append_assoc old.stable old.waiting (r ∷ []))
                   ∙ ap (λ (l : List Record). old.forgotten ++ (old.stable ++ (old.waiting ++ l))) (sym is);
-              blocks = blocks t old.stable old.waiting old.blocks;
+              blocks = blocks t (last_checkpoint old.forgotten) old.stable old.waiting old.blocks;
             };
       }
 
   kept_blocks : (m' : Managed D) → m' ≡ m → HoldsEnd told may_leave m.log rs → HoldsEnd told may_leave m'.log rs
   kept_blocks m' same old = subst (λ (x : Managed D). HoldsEnd told may_leave x.log rs) (sym same) old
 
-  flushed_blocks : (m' : Managed D) (old : HoldsEnd told may_leave m.log rs) → ((m' ≡ m) ⊎ IsLogOf told may_leave m'.log (old.stable ++ old.waiting) []) → HoldsEnd told may_leave m'.log rs
+  flushed_blocks : (m' : Managed D) (old : HoldsEnd told may_leave m.log rs) → ((m' ≡ m) ⊎ IsLogOf told may_leave m'.log (last_checkpoint old.forgotten) (old.stable ++ old.waiting) []) → HoldsEnd told may_leave m'.log rs
   flushed_blocks m' old (inl same) = kept_blocks m' same old
   flushed_blocks m' old (inr log) = record {
     forgotten = old.forgotten;
@@ -87,14 +88,14 @@ module _ {D : Type 0} (tells : Type 0) (told : D → Kept) (may_leave : D → Ke
   ended_blocks count m' _ why old runs = absurd why
 
   pub flushed : {A : Type 0} (count : D → ℕ) (m' : Managed D) (s : Listing) (result : Result A Fault) → IsLogWith tells told may_leave rs m s → m'.log.next ≡ m.log.next
-      → (tells → (stable waiting : List Record) → IsLogOf told may_leave m.log stable waiting → OnOk result ((m' ≡ m) ⊎ IsLogOf told may_leave m'.log (stable ++ waiting) []))
+      → (tells → (before : ℕ) (stable waiting : List Record) → IsLogOf told may_leave m.log before stable waiting → OnOk result ((m' ≡ m) ⊎ IsLogOf told may_leave m'.log before (stable ++ waiting) []))
       → OnOk result ((m.log.ended ≡ None) × (m'.log.ended ≡ None)) → IfErr result (Refused ⊥ count m.log m'.log) → IsLogWith tells told may_leave rs m' s
   flushed count m' s (Ok x) k next blocks live why = record {
     lawful = k.lawful;
     listing = k.listing;
     noted = k.noted;
     next = next ∙ k.next;
-    records = λ t runs. let old = k.records t live.0 in flushed_blocks m' old (blocks t old.stable old.waiting old.blocks);
+    records = λ t runs. let old = k.records t live.0 in flushed_blocks m' old (blocks t (last_checkpoint old.forgotten) old.stable old.waiting old.blocks);
   }
   flushed count m' s (Err fault) k next blocks live why = record {
     lawful = k.lawful;

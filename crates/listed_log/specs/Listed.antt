@@ -8,17 +8,18 @@ use Rattle.log_index.specs.declared.listing.Listing.{Listing}
 use Rattle.log_manager.specs.Managed.{Managed}
 use Rattle.log_manager.specs.Records.{IsLogOf}
 use Rattle.wal_record.specs.Chains.{finishes, last}
+use Rattle.wal_record.specs.Checkpoints.{last_checkpoint}
 use Rattle.wal_record.specs.Sound.{AreLawful}
 use Rattle.wal_record.specs.declared.record.Record.{Record}
 
 -- The blocks hold the last of these records: those that are stable, and those that wait for a flush. The first ones were
--- forgotten.
+-- forgotten, and of these too the headers name the last Checkpoint.
 pub record HoldsEnd {D : Type 0} (told : D → Kept) (may_leave : D → Kept → Type 0) (log : LogState D) (rs : List Record) : Type 0 where
   pub forgotten : List Record
   pub stable : List Record
   pub waiting : List Record
   pub is : rs ≡ forgotten ++ (stable ++ waiting)
-  pub blocks : IsLogOf told may_leave log stable waiting
+  pub blocks : IsLogOf told may_leave log (last_checkpoint forgotten) stable waiting
 
 -- The log has these records, until a device call fails, and the listing is theirs. What it noted last of a transaction
 -- is its last record, as long as that one isn't over.

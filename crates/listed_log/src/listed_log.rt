@@ -118,6 +118,7 @@ impl<L: Disk> ListedLog<L> {
         ensures lsn { result ≡ self.old.log.log.next }
         ensures more { (rs : List Record) → IsLogWith L.tells L.told L.may_leave rs self.old.log self.old.listing → AreLawful (rs ++ kinds.Commit (record { tx = tx; prev = prev }) ∷ []) → length rs < 2 ^ 63
             → IsLogWith L.tells L.told L.may_leave (rs ++ kinds.Commit (record { tx = tx; prev = prev }) ∷ []) self.new.log self.new.listing }
+        ensures next { self.new.log.log.next ≡ self.old.log.log.next + 1 }
         ensures spare { self.new.log.spare + 1 ≡ self.old.log.spare }
         ensures disk { (self.new.log.log.device ≡ self.old.log.log.device) × (self.new.log.log.places ≡ self.old.log.log.places) × (self.new.log.log.ended ≡ self.old.log.log.ended) }
     {
@@ -131,6 +132,8 @@ impl<L: Disk> ListedLog<L> {
         requires { lsn < self.old.log.log.next }
         ensures same { (rs : List Record) → IsLogWith L.tells L.told L.may_leave rs self.old.log self.old.listing → IsLogWith L.tells L.told L.may_leave rs self.new.log self.new.listing }
         ensures durable { OnOk result (lsn ≤ durable_lsn self.new.log.log.places) }
+        // What is stable stays so.
+        ensures rises { (rs : List Record) → IsLogWith L.tells L.told L.may_leave rs self.old.log self.old.listing → L.tells → self.old.log.log.ended ≡ None → durable_lsn self.old.log.log.places ≤ durable_lsn self.new.log.log.places }
         ensures spare { self.new.log.spare ≡ self.old.log.spare }
         ensures next { self.new.log.log.next ≡ self.old.log.log.next }
         ensures live { OnOk result ((self.old.log.log.ended ≡ None) × (self.new.log.log.ended ≡ None)) }

@@ -1,5 +1,5 @@
 pub mod BlockLists
-mod Durable
+pub mod Durable
 mod Excludes
 mod FirstGate
 mod Flushing
@@ -8,6 +8,7 @@ pub mod Lasts
 mod Laying
 mod Looking
 pub mod Moments
+mod Nodes
 mod Numbering
 mod Parsing
 pub mod Progressing

@@ -315,7 +315,7 @@ pub(crate) fn pass(kept: &mut LinkedList<BlockBuf>, nodes: &mut LinkedList<Block
 }
 
 /// All blocks join the others.
-fn append(kept: &mut LinkedList<BlockBuf>, more: &mut LinkedList<BlockBuf>)
+pub(crate) fn append(kept: &mut LinkedList<BlockBuf>, more: &mut LinkedList<BlockBuf>)
     requires fits { length kept.old + length more.old < 2 ^ 63 }
     ensures kept { kept.new ≡ kept.old ++ more.old }
     ensures more { more.new ≡ [] }

@@ -10,6 +10,7 @@ ghost use Rattle.log_blocks.specs.Opening.{FlushLeaves, Progress, place_of};
 use crate::block::BlockBuf;
 use crate::header::Place;
 use crate::layout::CLOSED;
+use crate::waiting::Waiting;
 use crate::write::{put_down, write_block};
 use media::{Disk, Failed};
 use std::collections::LinkedList;
@@ -46,7 +47,7 @@ pub fn flush_all<D: Disk>(
     device: &mut D,
     gate: &mut u64,
     done: &mut LinkedList<Place>,
-    pending: &mut LinkedList<BlockBuf>,
+    pending: &mut Waiting,
     is_first: bool,
 ) -> Result<(), Failed>
     requires not_before { D.start device.old ≤ gate.old }
@@ -76,7 +77,47 @@ pub fn flush_all<D: Disk>(
     ensures fuse { Blames D.passes D.refused D.own device.old device.new (Fails result) }
 {
     make_gate(device, *gate, is_first)?;
-    write_pending(device, gate, done, pending)
+    write_waiting(device, gate, done, pending)
+}
+
+/// Writes the pending blocks, in their nodes.
+fn write_waiting<D: Disk>(
+    device: &mut D,
+    gate: &mut u64,
+    done: &mut LinkedList<Place>,
+    pending: &mut Waiting,
+) -> Result<(), Failed>
+    requires not_before { D.start device.old ≤ gate.old }
+    requires not_past { gate.old < D.len device.old }
+    requires fits { gate.old + length (blocks pending.old) + 1 < 2 ^ 63 }
+    requires few { length done.old + length pending.old < 2 ^ 63 }
+    requires sized { AreSized pending.old }
+    ensures start { D.start device.new ≡ D.start device.old }
+    ensures progress { Progress gate.old done.old pending.old gate.new done.new pending.new }
+    ensures all { OnOk result (pending.new ≡ []) }
+    ensures not_past { gate.new < D.len device.new }
+    ensures durable { D.tells → Only (D.told device.old) (D.may_leave device.old) → OnOk result (Only (D.told device.new) (D.may_leave device.new)) }
+    ensures written { D.tells → (bs : List _) → gate.old ≡ D.start device.old + length (blocks bs)
+        → Behind (D.start device.old) (blocks bs) (D.told device.old)
+        → OnOk result (Behind (D.start device.old) (blocks (bs ++ pending.old)) (D.told device.new)) }
+    // A crash at any moment leaves the blocks that stood before, then some of these in order, none in part.
+    ensures any_moment { D.tells → Only (D.told device.old) (D.may_leave device.old)
+        → (bs : List _) → gate.old ≡ D.start device.old + length (blocks bs)
+        → Behind (D.start device.old) (blocks bs) (D.told device.old)
+        → IsSequence (D.start device.old) (bs ++ pending.old)
+        → LeavesOnly D.moment D.left_since device.old device.new (StandsForSome bs pending.old) }
+    ensures left { D.tells → Only (D.told device.old) (D.may_leave device.old)
+        → (bs : List _) → gate.old ≡ D.start device.old + length (blocks bs)
+        → Behind (D.start device.old) (blocks bs) (D.told device.old)
+        → IsSequence (D.start device.old) (bs ++ pending.old)
+        → FlushLeaves D.told D.may_leave bs pending.old pending.new device.new }
+    ensures cause { HasCause D.faults device.old device.new result }
+    ensures fuse { Blames D.passes D.refused D.own device.old device.new (Fails result) }
+{
+    let mut blocks = pending.take();
+    let written = write_pending(device, gate, done, &mut blocks);
+    pending.append(&mut blocks);
+    written
 }
 
 /// Writes the pending blocks one after the other. Those that are done are no longer pending.

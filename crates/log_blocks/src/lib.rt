@@ -25,6 +25,7 @@ mod laws;
 mod layout;
 mod log;
 mod opening;
+mod waiting;
 mod write;
 
 pub use batch::Batch;

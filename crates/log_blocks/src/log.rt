@@ -8,7 +8,7 @@ ghost use Rattle.store_model.specs.declared.fault.Fault.TheVariants as faults;
 ghost use Rattle.log_blocks.specs.Batch.{IsChecked, numbered, records_in, AreSized};
 ghost use Rattle.log_blocks.specs.Log.{Block, IsRun, StandsFor, StandsForSome, blocks, laid, next_lsn};
 ghost use Rattle.log_blocks.specs.LogState.{AreNumbered, LogState, IsDurable, Refused, checkpoint_of, counts, durable_lsn, firsts, last_or, log_end, payload_at};
-ghost use Rattle.log_blocks.specs.Opening.{DropLeaves, FlushLeaves, IsLogFault, Progress, RoseFor, StandsForRest, TellsFault};
+ghost use Rattle.log_blocks.specs.Opening.{DropLeaves, FlushLeaves, IsLogFault, Progress, RoseFor, StandsForRest, TellsFault, places};
 
 use crate::batch::{Batch, pass};
 use crate::block::BlockBuf;
@@ -16,6 +16,7 @@ use crate::flush::flush_all;
 use crate::header::Place;
 use crate::layout::PAYLOAD_AT;
 use crate::opening::walk;
+use crate::waiting::Waiting;
 use media::Disk;
 use std::alloc::Global;
 use std::collections::LinkedList;
@@ -31,7 +32,7 @@ pub struct BlockLog<L: Disk> {
     places: Vec<Place>,
     /// Those behind them, in the nodes that they brought.
     recent: LinkedList<Place>,
-    pending: LinkedList<BlockBuf>,
+    pending: Waiting,
     /// Where the gate behind the durable blocks stands.
     gate: u64,
     /// Where the gate behind the pending blocks will stand.
@@ -94,7 +95,7 @@ pub fn open_log<L: Disk>(alloc: Global, disk: L) -> Result<BlockLog<L>, OpenRefu
             device: disk,
             places: found.places,
             recent: LinkedList::new(alloc),
-            pending: LinkedList::new(alloc),
+            pending: Waiting::new(alloc),
             gate: found.gate,
             end: found.gate,
             next: found.next.max(1),
@@ -177,10 +178,19 @@ impl<L: Disk> BlockLog<L> {
     pub fn checkpoint(&self) -> Lsn
         ensures { result ≡ checkpoint_of self.now }
     {
-        match self.pending.back() {
-            Some(block) => block.checkpoint(),
-            None => last_checkpoint(&self.places, &self.recent),
+        let pending = self.pending.len();
+        if pending == 0 {
+            return last_checkpoint(&self.places, &self.recent);
         }
+        self.pending.get(pending - 1).checkpoint()
+    }
+
+    /// Brings all blocks to where each is found at once, which may take memory.
+    pub fn settle(&mut self) -> Result<(), Memory>
+        ensures { self.new ≡ self.old }
+    {
+        self.pending.settle()?;
+        settle(&mut self.places, &mut self.recent)
     }
 
     /// Moves all blocks of the batch to the end of the pending ones, without memory. The batch keeps its spare.
@@ -192,7 +202,9 @@ impl<L: Disk> BlockLog<L> {
         ensures left { batch.new ≡ record { blocks = []; spare = batch.old.spare } }
     {
         let mut more = batch.take_blocks();
-        let (next, end) = join_numbered(&mut self.pending, &mut more, self.next, self.end);
+        let mut numbered = LinkedList::new(self.alloc);
+        let (next, end) = join_numbered(&mut numbered, &mut more, self.next, self.end);
+        self.pending.append(&mut numbered);
         self.next = next;
         self.end = end;
     }
@@ -241,10 +253,12 @@ impl<L: Disk> BlockLog<L> {
     /// Appends the payload of a block, counted from 0, to `out`, which is as before after a refusal.
     pub fn read_block(&mut self, i: u64, out: &mut Vec<u8>) -> Result<(), Fault>
         requires { i < length self.old.places + length self.old.pending }
-        ensures payload { L.tells → (bs : List Block) → IsDurable L.told L.may_leave self.old bs
+        // It is that of whatever blocks the disk has at these places.
+        ensures payload { L.tells → (bs : List Block) → StandsFor bs (L.told self.old.device) → self.old.places ≡ places (L.told self.old.device).start bs
             → OnOk result (out.new.items ≡ out.old.items ++ payload_at (bs ++ self.old.pending) i) }
         ensures out_same { OnErr result (out.new.items ≡ out.old.items) }
         ensures same { self.new ≡ record self.old { device = self.new.device; ended = self.new.ended } }
+        ensures told { L.tells → L.told self.new.device ≡ L.told self.old.device }
         ensures durable { L.tells → (bs : List Block) → IsDurable L.told L.may_leave self.old bs → IsDurable L.told L.may_leave self.new bs }
         ensures any_moment { LeavesOnly L.moment L.left_since self.old.device self.new.device (λ c. L.may_leave self.old.device c) }
         ensures live { OnOk result ((self.old.ended ≡ None) × (self.new.ended ≡ None)) }
@@ -362,10 +376,7 @@ impl<L: Disk> BlockLog<L> {
         requires { i < length self.now.pending }
         ensures { result.now ≡ slice_index_or self.now.pending i result.now }
     {
-        match self.pending.iter().nth(i) {
-            Some(block) => block,
-            None => unreachable!(),
-        }
+        self.pending.get(i)
     }
 }
 
@@ -383,14 +394,14 @@ fn last_checkpoint(places: &[Place], recent: &LinkedList<Place>) -> Lsn
 }
 
 /// The LSN before that of the first pending record.
-fn lsn_before(pending: &LinkedList<BlockBuf>, next: Lsn) -> Lsn
+fn lsn_before(pending: &Waiting, next: Lsn) -> Lsn
     requires some { 1 ≤ next }
     ensures { (first : ℕ) → IsRun first pending.now → next ≡ next_lsn first pending.now → 1 ≤ first → result ≡ first - 1 }
 {
-    match pending.front() {
-        Some(block) => block.first().saturating_sub(1),
-        None => next - 1,
+    if pending.is_empty() {
+        return next - 1;
     }
+    pending.get(0).first().saturating_sub(1)
 }
 
 /// The blocks get their first LSNs, from this one on, and join the pending ones. Gives the LSN behind them, and the

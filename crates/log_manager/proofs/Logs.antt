@@ -81,16 +81,15 @@ module _ {D : Type 0} (told : D → Kept) (may_leave : D → Kept → Type 0) wh
   outer log bs ds d = record { stands = d.stands; only = d.only; places_are = d.places_are; gate_is = d.gate_is }
 
   -- the Checkpoint that the headers tell is that of the records
-  checkpoint_told : (log : LogState D) (s w : List Record) (h : IsLogOf told may_leave log s w) → checkpoint_of log ≡ checkpoint_in (checkpoint_in h.records.before h.bs) log.pending
-  checkpoint_told log s w h =
+  checkpoint_told : (log : LogState D) (before : ℕ) (s w : List Record) (h : IsLogOf told may_leave log before s w) → checkpoint_of log ≡ checkpoint_in (checkpoint_in before h.bs) log.pending
+  checkpoint_told log before s w h =
       ap (λ (l : List Place). last_or (last_or 0 (map (λ p. p.checkpoint) l)) (map checkpoint_of_block log.pending)) h.durable.places_are
       ∙ ap (λ (l : List ℕ). last_or (last_or 0 l) (map checkpoint_of_block log.pending)) (checkpoints-places (told log.device).start h.bs)
-      ∙ ap (λ n. checkpoint_in n log.pending) (none_before h.records.before h.bs h.records.none)
+      ∙ ap (λ n. checkpoint_in n log.pending) (none_before before h.bs h.records.none)
 
   -- it is the last of them
-  pub checkpoint_last : (log : LogState D) (s w : List Record) (h : IsLogOf told may_leave log s w) → IsLastCheckpoint h.records.before (first_kept log) (s ++ w) (checkpoint_of log)
-  checkpoint_last log s w h =
-      let before = h.records.before in
+  pub checkpoint_last : (log : LogState D) (before : ℕ) (s w : List Record) (h : IsLogOf told may_leave log before s w) → IsLastCheckpoint before (first_kept log) (s ++ w) (checkpoint_of log)
+  checkpoint_last log before s w h =
       let start = (told log.device).start in
       let all = h.bs ++ log.pending in
       let run = subst (λ (l : List Place). IsRun (lsn_behind l) log.pending) h.durable.places_are h.numbered.run in
@@ -99,7 +98,7 @@ module _ {D : Type 0} (told : D → Kept) (may_leave : D → Kept → Type 0) wh
       let is : firsts log ≡ map first_of all =
       ap (λ (l : List Place). map (λ (p : Place). p.first) l ++ map first_of log.pending) h.durable.places_are
       ∙ ap (λ (l : List ℕ). l ++ map first_of log.pending) (firsts-places start h.bs) ∙ sym (map-append first_of h.bs log.pending) in
-      let last = checkpoint_told log s w h ∙ sym (checkpoint_in-append before h.bs log.pending) ∙ checkpoint_is before (first_lsn all) all (s ++ w) sequence.run records
+      let last = checkpoint_told log before s w h ∙ sym (checkpoint_in-append before h.bs log.pending) ∙ checkpoint_is before (first_lsn all) all (s ++ w) sequence.run records
       ∙ kept all (s ++ w) before log.next records ∙ ap (λ (l : List ℕ). checkpoint_after before (get_or l 0 log.next) (s ++ w)) (sym is) in
       subst (IsLastCheckpoint before (first_kept log) (s ++ w)) (sym last) (last_is before (first_kept log) (s ++ w))
     where
@@ -108,18 +107,18 @@ module _ {D : Type 0} (told : D → Kept) (may_leave : D → Kept → Type 0) wh
       kept [] rs c d a = ap (checkpoint_after c 1) a ∙ sym (ap (checkpoint_after c d) a)
       kept (b ∷ bs) rs c d a = refl
 
-  checkpoint_below_next : (log : LogState D) (s w : List Record) → IsLogOf told may_leave log s w → checkpoint_of log ≤ log.next - 1
-  checkpoint_below_next log s w h =
+  checkpoint_below_next : (log : LogState D) (before : ℕ) (s w : List Record) → IsLogOf told may_leave log before s w → checkpoint_of log ≤ log.next - 1
+  checkpoint_below_next log before s w h =
       let behind = ap (λ (l : List Place). lsn_behind l) h.durable.places_are in
       let first = durable_below (told log.device).start h.bs h.durable.stands.sequence in
       let last = last_below (lsn_behind log.places) (checkpoint_in 0 h.bs) log.pending h.numbered.run (omega (arith, first, behind)) in
-      let is = checkpoint_told log s w h ∙ ap (λ n. checkpoint_in n log.pending) (sym (none_before h.records.before h.bs h.records.none)) in
+      let is = checkpoint_told log before s w h ∙ ap (λ n. checkpoint_in n log.pending) (sym (none_before before h.bs h.records.none)) in
       omega (arith, last, is, h.numbered.next)
 
   -- what is counted is the Checkpoint of the records
-  pub checkpoint_counted : (log : LogState D) (bs : List Block) (spare : ℕ) (c : Counted) (s w : List Record) → IsCounted log bs spare c → IsLogOf told may_leave (with_batch log bs) s w
+  pub checkpoint_counted : (log : LogState D) (bs : List Block) (spare : ℕ) (c : Counted) (before : ℕ) (s w : List Record) → IsCounted log bs spare c → IsLogOf told may_leave (with_batch log bs) before s w
       → c.checkpoint ≡ checkpoint_of (with_batch log bs)
-  checkpoint_counted log bs spare c s w counted h = omega (arith, counted.checkpoint, counted.count, checkpoint_below_next (with_batch log bs) s w h)
+  checkpoint_counted log bs spare c before s w counted h = omega (arith, counted.checkpoint, counted.count, checkpoint_below_next (with_batch log bs) before s w h)
 
   -- the blocks that have joined the log are numbered by themselves
   pub inner_numbered : (log : LogState D) (bs : List Block) → AreNumbered (with_batch log bs) → AreNumbered log
@@ -138,16 +137,16 @@ module _ {D : Type 0} (told : D → Kept) (may_leave : D → Kept → Type 0) wh
 
   -- ---- records join
 
-  pub grown : (log : LogState D) (bs : List Block) (spare k : ℕ) (c : Counted) (s w recs : List Record) → IsCounted log bs spare c → All HasSpelling recs
+  pub grown : (log : LogState D) (bs : List Block) (spare k : ℕ) (c : Counted) (before : ℕ) (s w recs : List Record) → IsCounted log bs spare c → All HasSpelling recs
       → 1 ≤ length recs → length recs ≤ 3 → 1 ≤ length (bytes_of recs) → length (bytes_of recs) ≤ 4194304 → log.next + c.records + length recs ≤ 9223372036854775808
       → k ≡ checkpoint_after c.checkpoint (log.next + c.records) recs → k ≤ log.next + c.records + length recs - 1
-      → IsLogOf told may_leave (with_batch log bs) s w → IsLogOf told may_leave (with_batch log (with_group bs (length recs) k (bytes_of recs))) s (w ++ recs)
-  grown log bs spare k c s w recs counted spelled one three byte most bound is below h =
+      → IsLogOf told may_leave (with_batch log bs) before s w → IsLogOf told may_leave (with_batch log (with_group bs (length recs) k (bytes_of recs))) before s (w ++ recs)
+  grown log bs spare k c before s w recs counted spelled one three byte most bound is below h =
       let bs2 = with_group bs (length recs) k (bytes_of recs) in
-      let before = checkpoint_in h.records.before h.bs in
-      let known : c.checkpoint ≡ checkpoint_in before (log.pending ++ numbered log.next bs) = checkpoint_counted log bs spare c s w counted h ∙ checkpoint_told (with_batch log bs) s w h in
+      let kept = checkpoint_in before h.bs in
+      let known : c.checkpoint ≡ checkpoint_in kept (log.pending ++ numbered log.next bs) = checkpoint_counted log bs spare c before s w counted h ∙ checkpoint_told (with_batch log bs) before s w h in
       let at : log.next + c.records ≡ log.next + records_in bs = omega (arith, counted.count) in
-      let is2 = is ∙ ap (λ n. checkpoint_after n (log.next + c.records) recs) known ∙ ap (λ n. checkpoint_after (checkpoint_in before (log.pending ++ numbered log.next bs)) n recs) at in
+      let is2 = is ∙ ap (λ n. checkpoint_after n (log.next + c.records) recs) known ∙ ap (λ n. checkpoint_after (checkpoint_in kept (log.pending ++ numbered log.next bs)) n recs) at in
       let behind = lsn_behind log.places in
       let run : IsRun behind (log.pending ++ numbered log.next bs) = h.numbered.run in
       let from : next_lsn behind log.pending ≡ log.next = sym (inner_numbered log bs h.numbered).next in
@@ -158,7 +157,7 @@ module _ {D : Type 0} (told : D → Kept) (may_leave : D → Kept → Type 0) wh
         bs = h.bs;
         durable = outer log bs2 h.bs (inner log bs h.bs h.durable);
         records = h.records;
-        more = group_in before log.next log.pending bs w recs k h.more spelled is2;
+        more = group_in kept log.next log.pending bs w recs k h.more spelled is2;
         numbered = record {
           run = run_append behind log.pending (numbered log.next bs2) (run_front behind log.pending (numbered log.next bs) run) (subst (λ n. IsRun n (numbered log.next bs2)) (sym from) run2);
           next = sym (next_lsn-append behind log.pending (numbered log.next bs2) ∙ ap (λ n. next_lsn n (numbered log.next bs2)) from ∙ numbered_next log.next bs2);
@@ -168,13 +167,13 @@ module _ {D : Type 0} (told : D → Kept) (may_leave : D → Kept → Type 0) wh
   -- ---- the disk at hand
 
   -- the same blocks, on a disk that keeps them
-  pub kept_same : (old new : LogState D) (bs : List Block) (s w : List Record) → new ≡ record old { device = new.device; ended = new.ended } → ((ds : List Block) → Stands old ds → Stands new ds)
-      → IsLogOf told may_leave (with_batch old bs) s w → IsLogOf told may_leave (with_batch new bs) s w
-  kept_same old new bs s w same durable h = record {
+  pub kept_same : (old new : LogState D) (bs : List Block) (before : ℕ) (s w : List Record) → new ≡ record old { device = new.device; ended = new.ended } → ((ds : List Block) → Stands old ds → Stands new ds)
+      → IsLogOf told may_leave (with_batch old bs) before s w → IsLogOf told may_leave (with_batch new bs) before s w
+  kept_same old new bs before s w same durable h = record {
     bs = h.bs;
     durable = outer new bs h.bs (durable h.bs (inner old bs h.bs h.durable));
     records = h.records;
-    more = subst (λ (x : LogState D). AreIn (checkpoint_in h.records.before h.bs) (x.pending ++ numbered x.next bs) w) (sym same) h.more;
+    more = subst (λ (x : LogState D). AreIn (checkpoint_in before h.bs) (x.pending ++ numbered x.next bs) w) (sym same) h.more;
     numbered = record {
       run = subst (λ (x : LogState D). IsRun (lsn_behind x.places) (x.pending ++ numbered x.next bs)) (sym same) h.numbered.run;
       next = subst (λ (x : LogState D). x.next + records_in bs ≡ next_lsn (lsn_behind x.places) (x.pending ++ numbered x.next bs)) (sym same) h.numbered.next;
@@ -182,32 +181,31 @@ module _ {D : Type 0} (told : D → Kept) (may_leave : D → Kept → Type 0) wh
   }
 
   -- all has been flushed
-  pub flushed : (old new : LogState D) (s w : List Record) → new.pending ≡ [] → AreNumbered new → ((ds : List Block) → Stands old ds → Stands new (ds ++ old.pending))
-      → IsLogOf told may_leave old s w → IsLogOf told may_leave new (s ++ w) []
-  flushed old new s w none numbered durable h = record {
+  pub flushed : (old new : LogState D) (before : ℕ) (s w : List Record) → new.pending ≡ [] → AreNumbered new → ((ds : List Block) → Stands old ds → Stands new (ds ++ old.pending))
+      → IsLogOf told may_leave old before s w → IsLogOf told may_leave new before (s ++ w) []
+  flushed old new before s w none numbered durable h = record {
     bs = h.bs ++ old.pending;
     durable = durable h.bs h.durable;
-    records = record { before = h.records.before; none = λ e. h.records.none (front_one h.bs old.pending e); records = in_append h.records.before h.bs old.pending s w h.records.records h.more };
-    more = subst (λ (l : List Block). AreIn (checkpoint_in h.records.before (h.bs ++ old.pending)) l []) (sym none) refl;
+    records = record { none = λ e. h.records.none (front_one h.bs old.pending e); records = in_append before h.bs old.pending s w h.records.records h.more };
+    more = subst (λ (l : List Block). AreIn (checkpoint_in before (h.bs ++ old.pending)) l []) (sym none) refl;
     numbered = numbered;
   }
 
   -- the first of the pending blocks have the first of the waiting records
-  first_stand : (log : LogState D) (s w : List Record) (h : IsLogOf told may_leave log s w) (k : Kept) (n : ℕ) → StandsFor (h.bs ++ take n log.pending) k
-      → StandsForRecords (s ++ take (records_in (take n log.pending)) w) k
-  first_stand log s w h k n stands = record {
+  first_stand : (log : LogState D) (before : ℕ) (s w : List Record) (h : IsLogOf told may_leave log before s w) (k : Kept) (n : ℕ) → StandsFor (h.bs ++ take n log.pending) k
+      → StandsForRecords before (s ++ take (records_in (take n log.pending)) w) k
+  first_stand log before s w h k n stands = record {
     bs = h.bs ++ take n log.pending;
     stands = stands;
     records = record {
-      before = h.records.before;
       none = λ e. h.records.none (front_one h.bs (take n log.pending) e);
-      records = in_append h.records.before h.bs (take n log.pending) s (take (records_in (take n log.pending)) w) h.records.records (in_take (checkpoint_in h.records.before h.bs) n log.pending w h.more);
+      records = in_append before h.bs (take n log.pending) s (take (records_in (take n log.pending)) w) h.records.records (in_take (checkpoint_in before h.bs) n log.pending w h.more);
     };
   }
 
   -- they begin with the first LSN that the log keeps
-  first_number : (log : LogState D) (s w : List Record) (h : IsLogOf told may_leave log s w) (n : ℕ) → first_lsn (h.bs ++ take n log.pending) ≡ first_kept log
-  first_number log s w h n =
+  first_number : (log : LogState D) (before : ℕ) (s w : List Record) (h : IsLogOf told may_leave log before s w) (n : ℕ) → first_lsn (h.bs ++ take n log.pending) ≡ first_kept log
+  first_number log before s w h n =
       let start = (told log.device).start in
       let is = h.durable.places_are in
       first_front start log.next n h.bs log.pending (subst (λ (l : List Place). IsRun (lsn_behind l) log.pending) is h.numbered.run)
@@ -215,32 +213,32 @@ module _ {D : Type 0} (told : D → Kept) (may_leave : D → Kept → Type 0) wh
       ∙ ap (λ (l : List Place). get_or (map (λ (p : Place). p.first) l ++ map first_of log.pending) 0 log.next) (sym is)
 
   -- what a crash within a flush leaves
-  pub some_flushed : (log : LogState D) (s w : List Record) (h : IsLogOf told may_leave log s w) (k : Kept) → StandsForSome h.bs log.pending k
-      → (n : ℕ) × (t : StandsForRecords (s ++ take n w) k) × (first_lsn t.bs ≡ first_kept log) × EndsBlock log.pending n
+  pub some_flushed : (log : LogState D) (before : ℕ) (s w : List Record) (h : IsLogOf told may_leave log before s w) (k : Kept) → StandsForSome h.bs log.pending k
+      → (n : ℕ) × (t : StandsForRecords before (s ++ take n w) k) × (first_lsn t.bs ≡ first_kept log) × EndsBlock log.pending n
   unfolding first_stand
-  some_flushed log s w h k some = (
+  some_flushed log before s w h k some = (
     records_in (take some.whole log.pending),
-    first_stand log s w h k some.whole some.stands,
-    first_number log s w h some.whole,
+    first_stand log before s w h k some.whole some.stands,
+    first_number log before s w h some.whole,
     record { blocks = some.whole; records = refl },
   )
 
-  more_flushed : (log : LogState D) (s w : List Record) (h : IsLogOf told may_leave log s w) (k : Kept) (done : ℕ) → StandsForMore h.bs log.pending done k
-      → StandsForMoreRecords (first_kept log) s w (records_in (take done log.pending)) k
+  more_flushed : (log : LogState D) (before : ℕ) (s w : List Record) (h : IsLogOf told may_leave log before s w) (k : Kept) (done : ℕ) → StandsForMore h.bs log.pending done k
+      → StandsForMoreRecords before (first_kept log) s w (records_in (take done log.pending)) k
   unfolding first_stand
-  more_flushed log s w h k done some = record {
+  more_flushed log before s w h k done some = record {
     whole = records_in (take some.whole log.pending);
     no_fewer = records_take done some.whole log.pending some.no_fewer;
-    within = omega (arith, records_most some.whole log.pending, in_count (checkpoint_in h.records.before h.bs) log.pending w h.more);
-    stands = first_stand log s w h k some.whole some.stands;
-    numbered = first_number log s w h some.whole;
+    within = omega (arith, records_most some.whole log.pending, in_count (checkpoint_in before h.bs) log.pending w h.more);
+    stands = first_stand log before s w h k some.whole some.stands;
+    numbered = first_number log before s w h some.whole;
   }
 
   -- what a flush leaves
-  pub records_left : (old new : LogState D) (bs : List Block) (s w : List Record) (h : IsLogOf told may_leave old s w) → FlushLeaves told may_leave h.bs old.pending new.pending new.device
-      → Progress old.gate old.places old.pending new.gate new.places new.pending → RecordsLeft told may_leave s w old (with_batch new bs)
+  pub records_left : (old new : LogState D) (bs : List Block) (before : ℕ) (s w : List Record) (h : IsLogOf told may_leave old before s w) → FlushLeaves told may_leave h.bs old.pending new.pending new.device
+      → Progress old.gate old.places old.pending new.gate new.places new.pending → RecordsLeft told may_leave before s w old (with_batch new bs)
   unfolding more_flushed
-  records_left old new bs s w h f p =
+  records_left old new bs before s w h f p =
       let same : p.count ≡ f.done = omega (arith, p.within, f.within, ap length (sym p.left ∙ f.rest_is), length-drop p.count old.pending, length-drop f.done old.pending) in
       let behind = lsn_behind old.places in
       let run : IsRun behind (take p.count old.pending) = run_front behind (take p.count old.pending) (drop p.count old.pending) (subst (IsRun behind) (sym (take-append-drop p.count old.pending)) h.numbered.run) in
@@ -249,17 +247,17 @@ module _ {D : Type 0} (told : D → Kept) (may_leave : D → Kept → Type 0) wh
       ∙ ap (λ n. behind + records_in (take n old.pending)) same in
       record {
         done = records_in (take f.done old.pending);
-        within = omega (arith, records_most f.done old.pending, in_count (checkpoint_in h.records.before h.bs) old.pending w h.more);
+        within = omega (arith, records_most f.done old.pending, in_count (checkpoint_in before h.bs) old.pending w h.more);
         durable = omega (arith, next);
-        read = more_flushed old s w h (told new.device) f.done f.read;
-        crash = λ k may. more_flushed old s w h k f.done (f.crash k may);
+        read = more_flushed old before s w h (told new.device) f.done f.read;
+        crash = λ k may. more_flushed old before s w h k f.done (f.crash k may);
         read_whole = record { blocks = f.read.whole; records = refl };
         crash_whole = λ k may. record { blocks = (f.crash k may).whole; records = refl };
       }
 
   -- what is left where nothing was flushed
-  pub none_left : (log : LogState D) (s w : List Record) → IsLogOf told may_leave log s w → RecordsLeft told may_leave s w log log
-  none_left log s w h =
+  pub none_left : (log : LogState D) (before : ℕ) (s w : List Record) → IsLogOf told may_leave log before s w → RecordsLeft told may_leave before s w log log
+  none_left log before s w h =
       let stand : (k : Kept) → StandsFor h.bs k → StandsForMore h.bs log.pending 0 k = λ k stands. record {
         whole = 0;
         no_fewer = omega arith;
@@ -273,26 +271,26 @@ module _ {D : Type 0} (told : D → Kept) (may_leave : D → Kept → Type 0) wh
         read = stand (told log.device) h.durable.stands;
         crash = λ k may. stand k (subst (StandsFor h.bs) (sym (h.durable.only k may)) h.durable.stands);
       } in
-      let left = records_left log log [] s w h same (record { count = 0; within = omega arith; left = refl; places_are = sym (append-nil log.places); gate_is = omega arith }) in
+      let left = records_left log log [] before s w h same (record { count = 0; within = omega arith; left = refl; places_are = sym (append-nil log.places); gate_is = omega arith }) in
       record { done = left.done; within = left.within; durable = left.durable; read = left.read; crash = left.crash; read_whole = left.read_whole; crash_whole = left.crash_whole }
 
   -- what the disk has now
-  pub none_flushed : (log : LogState D) (s w : List Record) → IsLogOf told may_leave log s w → (k : Kept) → may_leave log.device k
-      → (n : ℕ) × (t : StandsForRecords (s ++ take n w) k) × (first_lsn t.bs ≡ first_kept log) × EndsBlock log.pending n
-  none_flushed log s w h k left =
-      some_flushed log s w h k (record {
+  pub none_flushed : (log : LogState D) (before : ℕ) (s w : List Record) → IsLogOf told may_leave log before s w → (k : Kept) → may_leave log.device k
+      → (n : ℕ) × (t : StandsForRecords before (s ++ take n w) k) × (first_lsn t.bs ≡ first_kept log) × EndsBlock log.pending n
+  none_flushed log before s w h k left =
+      some_flushed log before s w h k (record {
         whole = 0;
         within = omega arith;
         stands = subst (λ (l : List Block). StandsFor l k) (sym (append-nil h.bs)) (subst (StandsFor h.bs) (sym (h.durable.only k left)) h.durable.stands);
       })
 
   -- a log that has just been opened
-  pub opened : (log : LogState D) (bs : List Block) (rs : List Record) → log.pending ≡ [] → AreNumbered log → Stands log bs → AreRecordsOf bs rs → IsLogOf told may_leave log rs []
-  opened log bs rs none numbered durable records = record {
+  pub opened : (log : LogState D) (bs : List Block) (before : ℕ) (rs : List Record) → log.pending ≡ [] → AreNumbered log → Stands log bs → AreRecordsOf before bs rs → IsLogOf told may_leave log before rs []
+  opened log bs before rs none numbered durable records = record {
     bs = bs;
     durable = durable;
     records = records;
-    more = subst (λ (l : List Block). AreIn (checkpoint_in records.before bs) l []) (sym none) refl;
+    more = subst (λ (l : List Block). AreIn (checkpoint_in before bs) l []) (sym none) refl;
     numbered = numbered;
   }
 
@@ -303,11 +301,10 @@ module _ {D : Type 0} (told : D → Kept) (may_leave : D → Kept → Type 0) wh
   records_known log bs n d = sym (ap (λ (l : List Place). records_at (take n l)) d.places_are ∙ records_places (told log.device).start n bs)
 
   -- the log without its first n durable blocks
-  pub dropped : (old : LogState D) (device : D) (ended : Option ℕ) (bs : List Block) (s w : List Record) (n : ℕ) → n < length old.places
+  pub dropped : (old : LogState D) (device : D) (ended : Option ℕ) (bs : List Block) (before : ℕ) (s w : List Record) (n : ℕ) → n < length old.places
       → ((ds : List Block) → Stands old ds → Stands (without_first old device ended n) (drop n ds))
-      → IsLogOf told may_leave (with_batch old bs) s w → IsLogOf told may_leave (with_batch (without_first old device ended n) bs) (drop (records_at (take n old.places)) s) w
-  dropped old device ended bs s w n lt durable h =
-      let before = h.records.before in
+      → (h : IsLogOf told may_leave (with_batch old bs) before s w) → IsLogOf told may_leave (with_batch (without_first old device ended n) bs) (checkpoint_in before (take n h.bs)) (drop (records_at (take n old.places)) s) w
+  dropped old device ended bs before s w n lt durable h =
       let some : n < length h.bs = omega (arith, lt, ap length h.durable.places_are, length-places (told old.device).start h.bs) in
       let t = in_drop before n h.bs s h.records.records in
       let same : checkpoint_in before h.bs ≡ checkpoint_in (checkpoint_in before (take n h.bs)) (drop n h.bs) =
@@ -318,7 +315,6 @@ module _ {D : Type 0} (told : D → Kept) (may_leave : D → Kept → Type 0) wh
         bs = drop n h.bs;
         durable = outer new bs (drop n h.bs) (durable h.bs (inner old bs h.bs h.durable));
         records = record {
-          before = checkpoint_in before (take n h.bs);
           none = none_drop before n h.bs s h.durable.stands.sequence.run h.records.records some h.records.none;
           records = subst (λ m. AreIn (checkpoint_in before (take n h.bs)) (drop n h.bs) (drop m s)) (records_known (with_batch old bs) h.bs n h.durable) t;
         };
@@ -330,11 +326,11 @@ module _ {D : Type 0} (told : D → Kept) (may_leave : D → Kept → Type 0) wh
       }
 
   -- they begin with the first LSN that the log keeps
-  first_now : (log : LogState D) (s w : List Record) (h : IsLogOf told may_leave log s w) → first_lsn h.bs ≡ first_kept log
-  first_now log s w h = ap first_lsn (sym (append-nil h.bs)) ∙ first_number log s w h 0
+  first_now : (log : LogState D) (before : ℕ) (s w : List Record) (h : IsLogOf told may_leave log before s w) → first_lsn h.bs ≡ first_kept log
+  first_now log before s w h = ap first_lsn (sym (append-nil h.bs)) ∙ first_number log before s w h 0
 
   -- their numbers, and the Checkpoint before them
-  module _ (old : LogState D) (s w : List Record) (h : IsLogOf told may_leave old s w) (n : ℕ) (lt : n < length old.places) where
+  module _ (old : LogState D) (before : ℕ) (s w : List Record) (h : IsLogOf told may_leave old before s w) (n : ℕ) (lt : n < length old.places) where
     some_block : n < length h.bs
     some_block = omega (arith, lt, ap length h.durable.places_are, length-places (told old.device).start h.bs)
 
@@ -342,74 +338,68 @@ module _ {D : Type 0} (told : D → Kept) (may_leave : D → Kept → Type 0) wh
     first_behind =
         let first = first_drop n (first_lsn h.bs) h.bs h.durable.stands.sequence.run some_block in
         let count = records_known old h.bs n h.durable in
-        omega (arith, first, first_now old s w h, count)
+        omega (arith, first, first_now old before s w h, count)
 
-    checkpoint_behind : checkpoint_in h.records.before (take n h.bs) ≡ checkpoint_after h.records.before (first_kept old) (take (records_at (take n old.places)) s)
+    checkpoint_behind : checkpoint_in before (take n h.bs) ≡ checkpoint_after before (first_kept old) (take (records_at (take n old.places)) s)
     checkpoint_behind =
-        checkpoint_drop h.records.before n h.bs s h.durable.stands.sequence.run h.records.records
-        ∙ ap (λ f. checkpoint_after h.records.before f (take (records_in (take n h.bs)) s)) (first_now old s w h)
-        ∙ ap (λ m. checkpoint_after h.records.before (first_kept old) (take m s)) (records_known old h.bs n h.durable)
+        checkpoint_drop before n h.bs s h.durable.stands.sequence.run h.records.records
+        ∙ ap (λ f. checkpoint_after before f (take (records_in (take n h.bs)) s)) (first_now old before s w h)
+        ∙ ap (λ m. checkpoint_after before (first_kept old) (take m s)) (records_known old h.bs n h.durable)
 
     -- what a crash then leaves, and a read
-    pub all_or_dropped : (k : Kept) → StandsFor h.bs k ⊎ StandsFor (drop n h.bs) k → StandsForRest h.records.before (first_kept old) s (records_at (take n old.places)) k
+    pub all_or_dropped : (k : Kept) → StandsFor h.bs k ⊎ StandsFor (drop n h.bs) k → StandsForRest before (first_kept old) s (records_at (take n old.places)) k
     all_or_dropped k (inl stands) = inl (record {
       stands = record { bs = h.bs; stands = stands; records = h.records };
-      numbered = omega (arith, first_now old s w h);
-      checkpoint = refl;
+      numbered = omega (arith, first_now old before s w h);
     })
     all_or_dropped k (inr stands) =
-        let before = checkpoint_in h.records.before (take n h.bs) in
         inr (record {
           stands = record {
             bs = drop n h.bs;
             stands = stands;
-            records = record {
-              before = before;
-              none = none_drop h.records.before n h.bs s h.durable.stands.sequence.run h.records.records some_block h.records.none;
-              records = subst (λ m. AreIn before (drop n h.bs) (drop m s)) (records_known old h.bs n h.durable) (in_drop h.records.before n h.bs s h.records.records);
-            };
+            records = subst (λ c. AreRecordsOf c (drop n h.bs) (drop (records_at (take n old.places)) s)) checkpoint_behind (record {
+              none = none_drop before n h.bs s h.durable.stands.sequence.run h.records.records some_block h.records.none;
+              records = subst (λ m. AreIn (checkpoint_in before (take n h.bs)) (drop n h.bs) (drop m s)) (records_known old h.bs n h.durable) (in_drop before n h.bs s h.records.records);
+            });
           };
           numbered = first_behind;
-          checkpoint = checkpoint_behind;
         })
 
   -- what it leaves where none goes
-  pub none_dropped : (log : LogState D) (s w : List Record) (n : ℕ) → (h : IsLogOf told may_leave log s w) → (k : Kept) → may_leave log.device k → StandsForRest h.records.before (first_kept log) s n k
-  none_dropped log s w n h k left = inl (record {
+  pub none_dropped : (log : LogState D) (before : ℕ) (s w : List Record) (n : ℕ) → (h : IsLogOf told may_leave log before s w) → (k : Kept) → may_leave log.device k → StandsForRest before (first_kept log) s n k
+  none_dropped log before s w n h k left = inl (record {
     stands = record { bs = h.bs; stands = subst (StandsFor h.bs) (sym (h.durable.only k left)) h.durable.stands; records = h.records };
-    numbered = omega (arith, first_now log s w h);
-    checkpoint = refl;
+    numbered = omega (arith, first_now log before s w h);
   })
 
-  pub none_recycled : (log : LogState D) (s w : List Record) (n : ℕ) → (h : IsLogOf told may_leave log s w) → RecycleLeaves told may_leave h.records.before (first_kept log) s n log.device
-  none_recycled log s w n h = record {
+  pub none_recycled : (log : LogState D) (before : ℕ) (s w : List Record) (n : ℕ) → (h : IsLogOf told may_leave log before s w) → RecycleLeaves told may_leave before (first_kept log) s n log.device
+  none_recycled log before s w n h = record {
     read = inl (record {
       stands = record { bs = h.bs; stands = h.durable.stands; records = h.records };
-      numbered = omega (arith, first_now log s w h);
-      checkpoint = refl;
+      numbered = omega (arith, first_now log before s w h);
     });
-    crash = none_dropped log s w n h;
+    crash = none_dropped log before s w n h;
   }
 
-  pub recycle_left : (old : LogState D) (device : D) (s w : List Record) (h : IsLogOf told may_leave old s w) (n : ℕ) → n < length old.places → DropLeaves told may_leave h.bs n device
-      → RecycleLeaves told may_leave h.records.before (first_kept old) s (records_at (take n old.places)) device
-  recycle_left old device s w h n lt d = record { read = all_or_dropped old s w h n lt (told device) d.read; crash = λ k left. all_or_dropped old s w h n lt k (d.crash k left) }
+  pub recycle_left : (old : LogState D) (device : D) (before : ℕ) (s w : List Record) (h : IsLogOf told may_leave old before s w) (n : ℕ) → n < length old.places → DropLeaves told may_leave h.bs n device
+      → RecycleLeaves told may_leave before (first_kept old) s (records_at (take n old.places)) device
+  recycle_left old device before s w h n lt d = record { read = all_or_dropped old before s w h n lt (told device) d.read; crash = λ k left. all_or_dropped old before s w h n lt k (d.crash k left) }
 
-  pub none_from : (log : LogState D) (s w : List Record) (h : IsLogOf told may_leave log s w) → IsLogFrom told may_leave h.records.before (first_kept log) s w 0 log
-  none_from log s w h = record { stands = h; numbered = omega arith; checkpoint = refl }
+  pub none_from : (log : LogState D) (before : ℕ) (s w : List Record) (h : IsLogOf told may_leave log before s w) → IsLogFrom told may_leave before (first_kept log) s w 0 log
+  none_from log before s w h = record { stands = h; numbered = omega arith }
 
-  pub dropped_from : (old : LogState D) (device : D) (ended : Option ℕ) (bs : List Block) (s w : List Record) (n : ℕ) → n < length old.places
-      → ((ds : List Block) → Stands old ds → Stands (without_first old device ended n) (drop n ds)) → (h : IsLogOf told may_leave (with_batch old bs) s w)
-      → IsLogFrom told may_leave h.records.before (first_kept (with_batch old bs)) s w (records_at (take n old.places)) (with_batch (without_first old device ended n) bs)
+  pub dropped_from : (old : LogState D) (device : D) (ended : Option ℕ) (bs : List Block) (before : ℕ) (s w : List Record) (n : ℕ) → n < length old.places
+      → ((ds : List Block) → Stands old ds → Stands (without_first old device ended n) (drop n ds)) → (h : IsLogOf told may_leave (with_batch old bs) before s w)
+      → IsLogFrom told may_leave before (first_kept (with_batch old bs)) s w (records_at (take n old.places)) (with_batch (without_first old device ended n) bs)
   unfolding dropped
-  dropped_from old device ended bs s w n lt durable h =
+  dropped_from old device ended bs before s w n lt durable h =
       let new = with_batch (without_first old device ended n) bs in
-      let left = dropped old device ended bs s w n lt durable h in
-      let first : first_lsn (drop n h.bs) ≡ first_kept new = first_now new (drop (records_at (take n old.places)) s) w left in
+      let rest = drop (records_at (take n old.places)) s in
+      let left = dropped old device ended bs before s w n lt durable h in
+      let first : first_lsn (drop n h.bs) ≡ first_kept new = first_now new (checkpoint_in before (take n h.bs)) rest w left in
       record {
-        stands = left;
-        numbered = sym first ∙ first_behind (with_batch old bs) s w h n lt;
-        checkpoint = checkpoint_behind (with_batch old bs) s w h n lt;
+        stands = subst (λ c. IsLogOf told may_leave new c rest w) (checkpoint_behind (with_batch old bs) before s w h n lt) left;
+        numbered = sym first ∙ first_behind (with_batch old bs) before s w h n lt;
       }
 
   -- ---- the record of an LSN
@@ -422,12 +412,11 @@ module _ {D : Type 0} (told : D → Kept) (may_leave : D → Kept → Type 0) wh
     pub place : lsn - get_or (firsts log) i 0 < length own
     pub at : (r : Record) → IsAt own (lsn - get_or (firsts log) i 0) r → IsAt (s ++ w) (lsn - first_kept log) r
 
-  pub reached : (log : LogState D) (bs : List Block) (s w : List Record) (lsn i : ℕ) (h : IsLogOf told may_leave (with_batch log bs) s w) → HasLsn (firsts log) lsn i → lsn < log.next
+  pub reached : (log : LogState D) (bs : List Block) (before : ℕ) (s w : List Record) (lsn i : ℕ) (h : IsLogOf told may_leave (with_batch log bs) before s w) → HasLsn (firsts log) lsn i → lsn < log.next
       → Reached log h.bs s w lsn i
-  reached log bs s w lsn i h has lt =
+  reached log bs before s w lsn i h has lt =
       let ds = h.bs in
       let all = ds ++ log.pending in
-      let before = h.records.before in
       let start = (told log.device).start in
       let split = in_split (checkpoint_in before ds) log.pending (numbered log.next bs) w h.more in
       let num = inner_numbered log bs h.numbered in

@@ -1,9 +1,11 @@
 -- Records of a payload, read one by one.
-use Rattle.std.proofs.Common.{◌≡◌, ℕ, suc, ◌+◌, ◌<◌, ◌≤◌, List, [], ◌∷◌, ◌++◌, length, take, drop, refl, sym, ◌∙◌, ap, subst, arith, append_assoc, append-nil, length-append, length-drop, length-take, take-append-drop}
+use Rattle.std.proofs.Common.{below_more, ◌≡◌, ℕ, suc, ◌+◌, ◌<◌, ◌≤◌, List, [], ◌∷◌, ◌++◌, length, get_or, take, drop, refl, sym, ◌∙◌, ap, subst, arith, append_assoc, append-nil, length-append, length-drop, length-take, take-append-drop}
 use Rattle.std.specs.List.{All}
 use Rattle.std.proofs.lemmas.Grind.{flat_map-append}
 use Rattle.std.proofs.lemmas.List.{drop_at}
-use Rattle.std.proofs.Math.Seq.{drop-append-add}
+use Rattle.std.proofs.lemmas.List.Elements.{All-append, All-cons, All-nil}
+use Rattle.std.proofs.Math.ListN.{get_or-append}
+use Rattle.std.proofs.Math.Seq.{drop-append-add, get_or-append_seam}
 use Rattle.wal_record.specs.Rules.{HasSpelling}
 use Rattle.std.specs.Int.{w32, w64}
 use Rattle.std.specs.Prelude.{Result, Ok, Err, IfOk, IfErr}
@@ -14,6 +16,7 @@ use Rattle.wal_record.specs.declared.record.Record.{Record}
 use Rattle.wal_record.specs.declared.record.Record.TheVariants as kinds
 use Rattle.store_model.specs.declared.fault.Fault.{Fault}
 use Rattle.store_model.specs.declared.fault.Fault.TheVariants as faults
+use Rattle.log_manager.specs.LastRead.{AreStarts, IsStart}
 use Rattle.log_manager.specs.Managed.{IsUnreadAt}
 use Rattle.log_manager.specs.Payload.{NotRead, bytes_of}
 
@@ -48,30 +51,9 @@ reads_more payload at next front r reads is le le2 = record {
       ∙ ap (λ (l : List ℕ). l ++ drop next payload) (sym (bytes_of-push front r));
 }
 
--- what is left of the payload of these records
-pub left_over : (payload : List ℕ) (at : ℕ) (front back : List Record) → Reads payload at front → payload ≡ bytes_of (front ++ back) → drop at payload ≡ bytes_of back
-left_over payload at front back reads is =
-    ap (drop at) (is ∙ flat_map-append spelling front back) ∙ drop_at (bytes_of front) (bytes_of back) at (sym reads.at_is)
-
--- the records that were read are the first of those that the payload has
-abbrev pub Agrees : List ℕ → ℕ → List Record → Type 0
-Agrees payload place front = (rs : List Record) → All HasSpelling rs → payload ≡ bytes_of rs → place < length rs → (back : List Record) × (rs ≡ front ++ back)
-
 all_at : (front back : List Record) (r : Record) → All HasSpelling (front ++ r ∷ back) → HasSpelling r
 all_at [] back r all = all 0 r (omega arith)
 all_at (x ∷ front) back r all = all_at front back r (λ k d lt. all (suc k) d (omega (arith, lt)))
-
--- the record that is read next is the next one that the payload has
-pub next_agrees : (payload : List ℕ) (at place : ℕ) (front : List Record) → Reads payload at front → Agrees payload place front → (rs : List Record) → All HasSpelling rs
-    → payload ≡ bytes_of rs → place < length rs → length front ≤ place
-    → (r : Record) × (back : List Record) × (rs ≡ front ++ r ∷ back) × HasSpelling r × (drop at payload ≡ spelling r ++ bytes_of back)
-next_agrees payload at place front reads agrees rs spelled is lt le =
-    let a = agrees rs spelled is lt in
-    by a.0 a.1
-  where
-    by : (back : List Record) → rs ≡ front ++ back → (r : Record) × (back : List Record) × (rs ≡ front ++ r ∷ back) × HasSpelling r × (drop at payload ≡ spelling r ++ bytes_of back)
-    by [] e = absurd (omega (arith, ap length (e ∙ append-nil front), lt, le))
-    by (r ∷ back) e = (r, back, e, all_at front back r (subst (All HasSpelling) e spelled), left_over payload at front (r ∷ back) reads (is ∙ ap bytes_of e))
 
 pub drop_twice : (m n : ℕ) (l : List ℕ) → m ≤ length l → drop n (drop m l) ≡ drop (m + n) l
 drop_twice m n l le =
@@ -107,6 +89,48 @@ first_records (r ∷ front) (s ∷ own) rest spelled too is le =
     let same = same_next s r (bytes_of own) (bytes_of front ++ rest) (too 0 r (omega arith)) (spelled 0 r (omega arith)) (is ∙ append_assoc (spelling r) (bytes_of front) rest) in
     let more = first_records front own rest (λ k d lt. spelled (suc k) d (omega (arith, lt))) (λ k d lt. too (suc k) d (omega (arith, lt))) same.1 (omega (arith, le)) in
     (more.0, ap (λ (x : Record). x ∷ own) same.0 ∙ ap (λ (l : List Record). r ∷ l) more.1, more.2)
+
+-- ---- where records begin
+
+read_to : (payload : List ℕ) (place at : ℕ) (s : IsStart payload place at) → Reads payload at s.front
+read_to payload place at s = record {
+  at_is = omega (arith, ap length s.bytes, length-append (bytes_of s.front) (drop at payload), length-drop at payload, s.within);
+  bytes = s.bytes;
+}
+
+pub start_none : (payload : List ℕ) → IsStart payload 0 0
+start_none payload = record { front = []; spelled = All-nil HasSpelling; count = refl; within = omega arith; bytes = refl }
+
+-- the record behind begins where this one ends
+pub start_more : (payload : List ℕ) (place at next : ℕ) (r : Record) → IsStart payload place at → HasSpelling r → drop at payload ≡ spelling r ++ drop next payload → next ≤ length payload
+    → IsStart payload (place + 1) next
+start_more payload place at next r s spelled is le =
+    let reads = reads_more payload at next s.front r (read_to payload place at s) is s.within le in
+    record {
+      front = s.front ++ r ∷ [];
+      spelled = All-append HasSpelling s.front (r ∷ []) s.spelled (All-cons HasSpelling r [] spelled (All-nil HasSpelling));
+      count = omega (arith, s.count, length-append s.front (r ∷ []));
+      within = le;
+      bytes = reads.bytes;
+    }
+
+-- one more is noted
+pub starts_more : (payload starts : List ℕ) (next : ℕ) → AreStarts payload starts → IsStart payload (length starts) next → AreStarts payload (starts ++ next ∷ [])
+starts_more payload starts next are more k lt =
+    below_more (λ (k : ℕ). IsStart payload k (get_or (starts ++ next ∷ []) k 0)) (length starts)
+    (λ k lt. subst (IsStart payload k) (sym (get_or-append starts (next ∷ []) 0 k lt)) (are k lt))
+    (subst (IsStart payload (length starts)) (sym (get_or-append_seam starts next [] 0)) more) k (omega (arith, lt, length-append starts (next ∷ [])))
+
+-- the record that begins there is the one that the payload has at this place
+pub next_at : (payload : List ℕ) (place at : ℕ) (s : IsStart payload place at) (rs : List Record) → All HasSpelling rs → payload ≡ bytes_of rs → place < length rs
+    → (r : Record) × (back : List Record) × (rs ≡ s.front ++ r ∷ back) × HasSpelling r × (drop at payload ≡ spelling r ++ bytes_of back)
+next_at payload place at s rs spelled is lt =
+    let f = first_records s.front rs (drop at payload) s.spelled spelled (sym is ∙ s.bytes) (omega (arith, s.count, lt)) in
+    by f.0 f.1 f.2
+  where
+    by : (back : List Record) → rs ≡ s.front ++ back → drop at payload ≡ bytes_of back → (r : Record) × (back : List Record) × (rs ≡ s.front ++ r ∷ back) × HasSpelling r × (drop at payload ≡ spelling r ++ bytes_of back)
+    by [] e d = absurd (omega (arith, ap length (e ∙ append-nil s.front), s.count, lt))
+    by (r ∷ back) e d = (r, back, e, all_at s.front back r (subst (All HasSpelling) e spelled), d)
 
 -- why it isn't read, behind no more records than its place
 pub unread_at : (block : ℕ) (payload : List ℕ) (place : ℕ) (front : List Record) (fault : Fault) → length front ≤ place → NotRead block front payload fault → IsUnreadAt block payload place fault

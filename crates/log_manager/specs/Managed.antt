@@ -152,21 +152,21 @@ pub record IsAt (rs : List Record) (i : ℕ) (r : Record) : Type 0 where
 
 -- What a flush leaves, also one that failed. The first of the waiting records are stable now. A read now, and one after
 -- a crash that comes now, gives the records that were stable, these, and maybe further ones in order; they end where a
--- block ends.
-pub record RecordsLeft {D : Type 0} (told : D → Kept) (may_leave : D → Kept → Type 0) (stable waiting : List Record) (old new : LogState D) : Type 0 where
+-- block ends. The last Checkpoint before them has the LSN `before`, as it had.
+pub record RecordsLeft {D : Type 0} (told : D → Kept) (may_leave : D → Kept → Type 0) (before : ℕ) (stable waiting : List Record) (old new : LogState D) : Type 0 where
   pub done : ℕ
   pub within : done ≤ length waiting
   pub durable : durable_lsn new.places ≡ durable_lsn old.places + done
-  pub read : StandsForMoreRecords (first_kept old) stable waiting done (told new.device)
-  pub crash : (k : Kept) → may_leave new.device k → StandsForMoreRecords (first_kept old) stable waiting done k
+  pub read : StandsForMoreRecords before (first_kept old) stable waiting done (told new.device)
+  pub crash : (k : Kept) → may_leave new.device k → StandsForMoreRecords before (first_kept old) stable waiting done k
   pub read_whole : EndsBlock old.pending read.whole
   pub crash_whole : (k : Kept) (left : may_leave new.device k) → EndsBlock old.pending (crash k left).whole
 
--- Of records that begin with an LSN, behind a last Checkpoint, the kept bytes stand for those from the n-th on.
+-- Of records that begin with an LSN, behind a last Checkpoint, the kept bytes stand for those from the n-th on. The last
+-- Checkpoint before these is then the last one of those that go, or the one before.
 pub record StandsForFrom (before first : ℕ) (rs : List Record) (n : ℕ) (k : Kept) : Type 0 where
-  pub stands : StandsForRecords (drop n rs) k
+  pub stands : StandsForRecords (checkpoint_after before first (take n rs)) (drop n rs) k
   pub numbered : first_lsn stands.bs ≡ first + n
-  pub checkpoint : stands.records.before ≡ checkpoint_after before first (take n rs)
 
 -- all of them, or those from the n-th on
 abbrev pub StandsForRest : ℕ → ℕ → List Record → ℕ → Kept → Type 0
@@ -177,8 +177,7 @@ pub record RecycleLeaves {D : Type 0} (told : D → Kept) (may_leave : D → Kep
   pub read : StandsForRest before first rs n (told device)
   pub crash : (k : Kept) → may_leave device k → StandsForRest before first rs n k
 
--- the log has the stable records from the n-th on, and those that wait
+-- the log has the stable records from the n-th on, and those that wait; the last Checkpoint before them is as above
 pub record IsLogFrom {D : Type 0} (told : D → Kept) (may_leave : D → Kept → Type 0) (before first : ℕ) (stable waiting : List Record) (n : ℕ) (log : LogState D) : Type 0 where
-  pub stands : IsLogOf told may_leave log (drop n stable) waiting
+  pub stands : IsLogOf told may_leave log (checkpoint_after before first (take n stable)) (drop n stable) waiting
   pub numbered : first_kept log ≡ first + n
-  pub checkpoint : stands.records.before ≡ checkpoint_after before first (take n stable)

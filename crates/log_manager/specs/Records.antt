@@ -42,32 +42,32 @@ AreIn before (b ∷ bs) rs = (own : List Record) × (more : List Record) × (rs 
 abbrev pub checkpoint_in : ℕ → List Block → ℕ
 checkpoint_in before bs = last_or before (map (λ b. b.checkpoint) bs)
 
--- The blocks are all of a log, and hold these records. The last Checkpoint before them has the LSN `before`, 0 where
--- none of the log's records was dropped.
-pub record AreRecordsOf (bs : List Block) (rs : List Record) : Type 0 where
-  pub before : ℕ
+-- The blocks are all of a log, and hold these records. The last Checkpoint of the records that were dropped has the LSN
+-- `before`, 0 where none was dropped or none of them is one.
+pub record AreRecordsOf (before : ℕ) (bs : List Block) (rs : List Record) : Type 0 where
   pub none : first_lsn bs ≡ 1 → before ≡ 0
   pub records : AreIn before bs rs
 
--- The kept bytes stand for blocks that hold these records.
-pub record StandsForRecords (rs : List Record) (k : Kept) : Type 0 where
+-- The kept bytes stand for blocks that hold these records, before which the last Checkpoint has the LSN `before`.
+pub record StandsForRecords (before : ℕ) (rs : List Record) (k : Kept) : Type 0 where
   pub bs : List Block
   pub stands : StandsFor bs k
-  pub records : AreRecordsOf bs rs
+  pub records : AreRecordsOf before bs rs
 
--- The log has these records: the stable ones on its disk, whatever crash comes now, and those that wait for a flush.
-pub record IsLogOf {D : Type 0} (told : D → Kept) (may_leave : D → Kept → Type 0) (log : LogState D) (stable waiting : List Record) : Type 0 where
+-- The log has these records: the stable ones on its disk, whatever crash comes now, and those that wait for a flush. The
+-- last Checkpoint of the records that were dropped has the LSN `before`, 0 where there is none.
+pub record IsLogOf {D : Type 0} (told : D → Kept) (may_leave : D → Kept → Type 0) (log : LogState D) (before : ℕ) (stable waiting : List Record) : Type 0 where
   pub bs : List Block
   pub durable : IsDurable told may_leave log bs
-  pub records : AreRecordsOf bs stable
-  pub more : AreIn (checkpoint_in records.before bs) log.pending waiting
+  pub records : AreRecordsOf before bs stable
+  pub more : AreIn (checkpoint_in before bs) log.pending waiting
   pub numbered : AreNumbered log
 
 -- The kept bytes stand for the stable records and some of the waiting ones in order, at least so many of them. The first
--- record has this LSN.
-pub record StandsForMoreRecords (first : ℕ) (stable waiting : List Record) (least : ℕ) (k : Kept) : Type 0 where
+-- record has this LSN, and the last Checkpoint before it the LSN `before`.
+pub record StandsForMoreRecords (before first : ℕ) (stable waiting : List Record) (least : ℕ) (k : Kept) : Type 0 where
   pub whole : ℕ
   pub no_fewer : least ≤ whole
   pub within : whole ≤ length waiting
-  pub stands : StandsForRecords (stable ++ take whole waiting) k
+  pub stands : StandsForRecords before (stable ++ take whole waiting) k
   pub numbered : first_lsn stands.bs ≡ first

@@ -17,6 +17,7 @@
 #![tactic(auto)]
 
 mod counted;
+mod last_read;
 mod laws;
 mod manager;
 mod reading;

@@ -6,32 +6,12 @@ ghost use Rattle.wal_record.specs.Rules.{HasSpelling};
 ghost use Rattle.wal_record.specs.declared.record.Record.{Record};
 ghost use Rattle.wal_record.specs.Spelling.{spelling};
 ghost use Rattle.log_manager.specs.Payload.{IsSurplus, NotRead, bytes_of};
-ghost use Rattle.log_manager.specs.Managed.{IsAt, IsReadAt, IsUnreadAt};
 
 use log_blocks::PAYLOAD_AT;
 use record_codec::{RecordFault, decode};
 use std::alloc::Global;
 use store_model::Fault;
 use wal_record::Record;
-
-/// The record at this place of a block's payload, counted from 0. `block` is the number of the block.
-pub fn record_in(alloc: Global, block: u64, payload: &[u8], place: u64) -> Result<Record, Fault>
-    ensures found { (rs : List Record) → All HasSpelling rs → payload.now ≡ bytes_of rs → place < length rs → IfOk result (IsAt rs place) × IfErr result (λ fault. fault ≡ faults.Memory) }
-    ensures read { IfOk result (IsReadAt payload.now place) }
-    ensures refused { IfErr result (IsUnreadAt block payload.now place) }
-{
-    let mut at = 0;
-    for _ in 0..place {
-        match record_from(alloc, block, payload, at) {
-            Ok((_, next)) => at = next,
-            Err(fault) => return Err(fault),
-        }
-    }
-    match record_from(alloc, block, payload, at) {
-        Ok((found, _)) => Ok(found),
-        Err(fault) => Err(fault),
-    }
-}
 
 /// The record that begins at this byte of a payload, and the byte behind it. `block` is the number of the block.
 pub fn record_from(

@@ -12,7 +12,8 @@ use Rattle.wal_record.specs.declared.record.Record.{Record}
 use Rattle.wal_record.specs.declared.record.Record.TheVariants as kinds
 use Rattle.wal_record.proofs.ExampleLogs.{apple, x, apple_log, loser_log, grown_log}
 use Rattle.log_blocks.specs.Log.{Block}
-use Rattle.log_replay.specs.Devices.{IsEnough, HasLoser, IsUnbuilt}
+use Rattle.log_manager.specs.Devices.{IsEnough}
+use Rattle.log_replay.specs.Unbuilt.{HasLoser, IsUnbuilt}
 use Rattle.log_replay.proofs.WholeLogs.{enough_whole}
 
 -- without a Checkpoint it begins with the first record

@@ -11,7 +11,7 @@ use Rattle.life_laws.proofs.Opened.{leaf_found, calm_opened}
 use Rattle.log_replay.specs.Answers.{Opens}
 use Rattle.log_replay.specs.Counts.{count_of}
 use Rattle.log_replay.specs.Replayed.{IsReplayOf}
-use Rattle.log_replay.specs.Devices.{HasLoser}
+use Rattle.log_replay.specs.Unbuilt.{HasLoser}
 use Rattle.log_replay.specs.declared.replaying.Replay.{Replay}
 
 no_items : {A : Type 0} (xs : List A) → length xs ≡ 0 → xs ≡ []

@@ -10,6 +10,7 @@ use Rattle.log_blocks.specs.Log.{Block, first_lsn}
 use Rattle.log_blocks.specs.LogState.{LogState, IsDurable, firsts}
 use Rattle.log_manager.specs.Records.{AreRecordsOf}
 use Rattle.wal_record.specs.Chains.{pages_step, pages}
+use Rattle.wal_record.specs.Checkpoints.{last_checkpoint}
 use Rattle.wal_record.specs.OpenWrites.{has_items}
 use Rattle.wal_record.specs.Sound.{is_format, IsLawful, AreLawful}
 use Rattle.wal_record.specs.declared.record.Record.{Record}
@@ -19,11 +20,11 @@ use Rattle.wal_record.proofs.Pushes.{lawful_front, pages_push}
 use Rattle.log_laws.proofs.Central.{differ}
 use Rattle.log_replay.specs.Answers.{IsBadIn, IsOfRecords, IsNotFound, IsNotReplayed, IsUnread, IsCaused, Opens}
 use Rattle.log_replay.specs.Replayed.{makes_page}
-use Rattle.log_replay.specs.Devices.{HoldEnd}
+use Rattle.log_manager.specs.Devices.{HoldEnd}
 use Rattle.log_replay.specs.declared.found.Found.{Found}
 use Rattle.log_replay.specs.declared.found.NotReplayed.{NotReplayed}
 use Rattle.log_replay.specs.declared.found.NotReplayed.TheVariants as refusals
-use Rattle.log_replay.proofs.Blocks.{blocks_are, firsts_are}
+use Rattle.log_manager.proofs.Blocks.{blocks_are, firsts_are}
 
 -- ---- pages
 
@@ -99,12 +100,12 @@ first_dropped told may_leave log (b ∷ bs) rs d fresh h other some =
     omega (arith, not_one, low)
 
 -- where none was dropped, the blocks hold the whole log
-pub whole_log : (rs : List Record) (bs : List Block) → HoldEnd rs bs → first_lsn bs ≡ 1 → AreRecordsOf bs rs
-whole_log rs bs h one = by h.dropped h.is (omega (arith, h.first, one))
+pub whole_log : (rs : List Record) (bs : List Block) → HoldEnd rs bs → first_lsn bs ≡ 1 → AreRecordsOf 0 bs rs
+whole_log rs bs h one = by h.dropped h.is (omega (arith, h.first, one)) h.records
   where
-    by : (ds : List Record) → rs ≡ ds ++ h.kept → length ds ≡ 0 → AreRecordsOf bs rs
-    by [] is none = subst (AreRecordsOf bs) (sym is) h.records
-    by (x ∷ xs) is none = absurd (omega (arith, none))
+    by : (ds : List Record) → rs ≡ ds ++ h.kept → length ds ≡ 0 → AreRecordsOf (last_checkpoint ds) bs h.kept → AreRecordsOf 0 bs rs
+    by [] is none records = subst (AreRecordsOf 0 bs) (sym is) records
+    by (x ∷ xs) is none records = absurd (omega (arith, none))
 
 -- ---- answers
 

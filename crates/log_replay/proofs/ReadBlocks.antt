@@ -14,7 +14,7 @@ use Rattle.log_replay.specs.Replayed.{IsReplayOf}
 use Rattle.log_replay.specs.declared.found.NotReplayed.{NotReplayed}
 use Rattle.log_replay.specs.declared.found.NotReplayed.TheVariants as refusals
 use Rattle.log_replay.specs.declared.replaying.Replay.{Replay}
-use Rattle.log_replay.proofs.Blocks.{HasBlock, all_blocks, block_at, blocks_are, counts_are, next_is, payload_is, spelled_front, spelled_more}
+use Rattle.log_manager.proofs.Blocks.{HasBlock, all_blocks, block_at, blocks_are, counts_are, next_is, payload_is, spelled_front, spelled_more}
 use Rattle.log_replay.proofs.Payload.{unread_all}
 
 -- what has been taken of the first blocks
@@ -45,7 +45,7 @@ module _ {D : Type 0} (told : D → Kept) (may_leave : D → Kept → Type 0) (l
   pub count_now : length now.places + length now.pending ≡ length bs
   count_now = blocks_are now start bs places_now pending_now
 
-  pub next_now : (rs : List Record) → AreRecordsOf bs rs → first_lsn bs ≡ 1 → AreNumbered log → now.next ≡ length rs + 1
+  pub next_now : (rs : List Record) → AreRecordsOf 0 bs rs → first_lsn bs ≡ 1 → AreNumbered log → now.next ≡ length rs + 1
   unfolding start
   next_now rs a one numbered = ap (λ (l : LogState D). l.next) same ∙ next_is log start bs d.places_are fresh rs a d.stands.sequence.run one numbered
 
@@ -74,10 +74,10 @@ replayed_more bs n count payload old new h counted read so_far taken =
     }
 
 -- all of them
-pub replayed_all : (bs : List Block) (n : ℕ) (r : Replay) → length bs ≤ n → AreReplayed bs n r → (rs : List Record) → AreRecordsOf bs rs → IsReplayOf rs r
+pub replayed_all : (bs : List Block) (n : ℕ) (r : Replay) → length bs ≤ n → AreReplayed bs n r → (rs : List Record) → AreRecordsOf 0 bs rs → IsReplayOf rs r
 replayed_all bs n r le so_far rs a =
     let whole = subst (λ (l : List Block). AreSpelled l so_far.log) (all_blocks bs n le) so_far.spelled in
-    let f = spelled_front a.before bs [] so_far.log rs whole (subst (λ (l : List Block). AreIn a.before l rs) (sym (append-nil bs)) a.records) in
+    let f = spelled_front 0 bs [] so_far.log rs whole (subst (λ (l : List Block). AreIn 0 l rs) (sym (append-nil bs)) a.records) in
     subst (λ (l : List Record). IsReplayOf l r) (sym (f.2 ∙ ap (λ (l : List Record). so_far.log ++ l) f.3 ∙ append-nil so_far.log)) so_far.replays
 
 -- a block isn't read
@@ -96,9 +96,9 @@ module _ (bs : List Block) (n count : ℕ) (payload : List ℕ) (r : Replay) (h 
           let mine : IsPayloadOf own count payload = subst (λ (k : ℕ). IsPayloadOf own k payload) (sym counted) (subst (IsPayloadOf own h.block.count) (sym read) holds.records) in
           (own, after, whole, met so_far.log own so_far.replays mine (AllAlong_less IsLawful (so_far.log ++ own) after (subst AreLawful whole lawful)))
 
-  pub block_unread : (rs : List Record) → AreRecordsOf bs rs → AreLawful rs → IsUnread rs e
+  pub block_unread : (rs : List Record) → AreRecordsOf 0 bs rs → AreLawful rs → IsUnread rs e
   block_unread rs a lawful =
-      let u = own_unread a.before h.behind rs (subst (λ (l : List Block). AreIn a.before l rs) h.is a.records) lawful in
+      let u = own_unread 0 h.behind rs (subst (λ (l : List Block). AreIn 0 l rs) h.is a.records) lawful in
       unread_all rs so_far.log u.0 u.1 e u.2 u.3
 
   -- and is named as bad, with the byte
@@ -115,8 +115,8 @@ module _ (bs : List Block) (n count : ℕ) (payload : List ℕ) (r : Replay) (h 
         log = so_far.log;
         spelled = so_far.spelled;
         bad = subst (λ (k : ℕ). IsBadByte so_far.log k h.block.payload byte) counted (subst (λ (p : List ℕ). IsBadByte so_far.log count p byte) read bad);
-        unlawful = λ rs a lawful.
-            let u = own_unread a.before [] rs (subst (λ (l : List Block). AreIn a.before l rs) (ap (λ (k : ℕ). take (suc k) bs) same ∙ h.with_it) a.records) lawful in
+        unlawful = λ before rs a lawful.
+            let u = own_unread before [] rs (subst (λ (l : List Block). AreIn before l rs) (ap (λ (k : ℕ). take (suc k) bs) same ∙ h.with_it) a.records) lawful in
             subst (IsUnread u.0) is u.3;
       }
       by f is here = tt

@@ -13,7 +13,7 @@ use Rattle.wal_record.specs.declared.record.OpenWrite.{OpenWrite}
 use Rattle.wal_record.specs.declared.record.Record.{Record}
 use Rattle.log_laws.specs.Places.{AllPlaced}
 use Rattle.log_laws.proofs.Places.{places}
-use Rattle.log_replay.specs.Devices.{IsEnough, HoldEnd, StandsForLog, KeepsLog}
+use Rattle.log_manager.specs.Devices.{IsEnough, HoldEnd, StandsForLog, KeepsLog}
 
 has_lsn : (log : List Record) (n : ℕ) (r : Record) → record_with log n ≡ Some r → 1 ≤ n
 has_lsn log zero r e = absurd cc
@@ -32,10 +32,10 @@ enough_whole log = record {
   runs = omega arith;
 }
 
-pub hold_whole : (log : List Record) (bs : List Block) → AreRecordsOf bs log → first_lsn bs ≡ 1 → HoldEnd log bs
-hold_whole log bs a one = record { dropped = []; kept = log; is = refl; records = a; checkpoint = a.none one; first = one; enough = subst (IsEnough log) (sym one) (enough_whole log) }
+pub hold_whole : (log : List Record) (bs : List Block) → AreRecordsOf 0 bs log → first_lsn bs ≡ 1 → HoldEnd log bs
+hold_whole log bs a one = record { dropped = []; kept = log; is = refl; records = a; first = one; enough = subst (IsEnough log) (sym one) (enough_whole log) }
 
-pub stands_whole : (log : List Record) (k : Kept) (s : StandsForRecords log k) → first_lsn s.bs ≡ 1 → StandsForLog log k
+pub stands_whole : (log : List Record) (k : Kept) (s : StandsForRecords 0 log k) → first_lsn s.bs ≡ 1 → StandsForLog log k
 stands_whole log k s one = record { bs = s.bs; stands = s.stands; records = hold_whole log s.bs s.records one }
 
 -- a disk keeps the log for which its bytes stand, whatever crash comes

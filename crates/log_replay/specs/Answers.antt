@@ -16,7 +16,7 @@ use Rattle.wal_record.specs.declared.page.LeafRow.{LeafRow}
 use Rattle.wal_record.specs.declared.record.Record.{Record}
 use Rattle.life_laws.specs.Calm.{only_leaf, Calm}
 use Rattle.log_replay.specs.Replayed.{IsReplayOf, makes_page}
-use Rattle.log_replay.specs.Devices.{HasLoser, IsUnbuilt}
+use Rattle.log_replay.specs.Unbuilt.{HasLoser, IsUnbuilt}
 use Rattle.log_replay.specs.declared.found.Found.{Found}
 use Rattle.log_replay.specs.declared.found.NotReplayed.{NotReplayed}
 use Rattle.log_replay.specs.declared.found.NotReplayed.TheVariants.{Memory, LogFault, LogBad, NotFormatted, NotBuilt}
@@ -81,7 +81,7 @@ pub record IsBadBlock (bs : List Block) (number byte : ℕ) : Type 0 where
   pub log : List Record
   pub spelled : AreSpelled before log
   pub bad : IsBadByte log block.count block.payload byte
-  pub unlawful : (rs : List Record) → AreRecordsOf (take (suc number) bs) rs → AreLawful rs → ⊥
+  pub unlawful : (before : ℕ) (rs : List Record) → AreRecordsOf before (take (suc number) bs) rs → AreLawful rs → ⊥
 
 abbrev pub IsBadIn : List Block → NotReplayed → Type 0
 IsBadIn bs (LogBad number byte) = IsBadBlock bs number byte

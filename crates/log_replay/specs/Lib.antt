@@ -1,4 +1,4 @@
-pub mod Devices
+pub mod Unbuilt
 pub mod Counts
 pub mod Replayed
 pub mod Answers

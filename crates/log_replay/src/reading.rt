@@ -13,7 +13,7 @@ ghost use Rattle.log_manager.specs.Payload.{IsPayloadOf, bytes_of};
 ghost use Rattle.log_manager.specs.Records.{AreRecordsOf};
 ghost use Rattle.log_replay.specs.Answers.{AreTaken, IsBadBehind, IsBadHere, IsBadIn, IsCaused, IsLogFault, IsNotReplayed, IsTaken, IsUnread, Opens, refusal_of};
 ghost use Rattle.log_replay.specs.Replayed.{HasReplayed, IsReplayOf};
-ghost use Rattle.log_replay.specs.Devices.{HoldEnd};
+ghost use Rattle.log_manager.specs.Devices.{HoldEnd};
 ghost use Rattle.log_replay.specs.declared.found.NotReplayed.TheVariants as refusals;
 
 use crate::found::{Found, NotReplayed};
@@ -40,7 +40,7 @@ pub fn replay<L: Disk>(
     ensures met { L.tells → (bs : List Block) (rs : List Record) → IsDurable L.told L.may_leave log.old bs → HoldEnd rs bs → IsSound rs
         → MatchResult result (Opens rs) (IsNotReplayed rs bs) }
     ensures records { L.tells → (bs : List Block) (rs : List Record) → IsDurable L.told L.may_leave log.old bs → HoldEnd rs bs → IsSound rs
-        → OnOk result (AreRecordsOf bs rs × (log.new.next ≡ length rs + 1)) }
+        → OnOk result (AreRecordsOf 0 bs rs × (log.new.next ≡ length rs + 1)) }
     // Where the disk stands for none, or counts others.
     ensures bad { L.tells → (bs : List Block) → IsDurable L.told L.may_leave log.old bs → IfErr result (IsBadIn bs) }
     // No byte changes.
@@ -76,7 +76,7 @@ fn replay_all<L: Disk>(
 ) -> Result<Replay, NotReplayed>
     requires live { log.old.ended ≡ None }
     requires fresh { log.old.pending ≡ [] }
-    ensures met { L.tells → (bs : List Block) (rs : List Record) → IsDurable L.told L.may_leave log.old bs → AreRecordsOf bs rs → first_lsn bs ≡ 1 → AreLawful rs
+    ensures met { L.tells → (bs : List Block) (rs : List Record) → IsDurable L.told L.may_leave log.old bs → AreRecordsOf 0 bs rs → first_lsn bs ≡ 1 → AreLawful rs
         → MatchResult result (λ found. IsReplayOf rs found × (log.new.next ≡ length rs + 1)) (IsUnread rs) }
     ensures bad { L.tells → (bs : List Block) → IsDurable L.told L.may_leave log.old bs → first_lsn bs ≡ 1 → IfErr result (IsBadIn bs) }
     ensures replayed { IfOk result HasReplayed }

@@ -253,7 +253,7 @@ module _ {D : Type 0} (L : Ghosts D) where
                       waiting = c.waiting;
                       whole = same_records h.here.history (e ∷ []) c.durable c.waiting refl c.whole;
                       uncommitted = c.uncommitted;
-                      stands = subst (λ (x : LogState D). IsLogOf L.told L.may_leave x (h.here.opening ++ c.durable) c.waiting) (sym same) c.stands;
+                      stands = subst (λ (x : LogState D). IsLogOf L.told L.may_leave x 0 (h.here.opening ++ c.durable) c.waiting) (sym same) c.stands;
                     };
               });
           lines = is;
@@ -393,7 +393,7 @@ module _ {D : Type 0} (L : Ghosts D) where
                 }
 
         pub did_put : (log' : LogState D) (standing' : Standing) (page' : Option PageState) (out : List ℕ) → z.puts + 3 ≤ standing.limit → IsTrue (is_key key) → IsTrue (is_value value) → Redone w 1 standing.page page' true → standing'.page ≡ page'
-            → HasMore (w ∷ []) log log' → (L.tells → (stable waiting : List Record) → IsLogOf L.told L.may_leave log stable waiting → IsLogOf L.told L.may_leave log' stable (waiting ++ w ∷ []))
+            → HasMore (w ∷ []) log log' → (L.tells → (stable waiting : List Record) → IsLogOf L.told L.may_leave log 0 stable waiting → IsLogOf L.told L.may_leave log' 0 stable (waiting ++ w ∷ []))
             → standing'.head ≡ standing.last + 1 → standing'.last ≡ standing.last + 1 → standing'.history ≡ standing.history ++ told_put (standing.last + 1) w → HasPut log.next standing.session standing'.session → standing'.next ≡ standing.next → standing'.commits ≡ standing.commits → standing'.limit ≡ standing.limit → log.next < 2 ^ 62 → standing.next < 2 ^ 62
             → out ≡ name ++ codes " put " ++ escaped key ++ (codes " was" ++ shown (page_live standing.page key)) ++ codes "\n" → Adds L.tells (In L log' standing') s (commands.Ask name (requests.Put key value)) out
         did_put log' standing' page' out room k v redone page added adds top last told put next count limit low low_next is =
@@ -444,7 +444,7 @@ module _ {D : Type 0} (L : Ghosts D) where
                       waiting = c.waiting ++ writing o standing.head (rows_of standing.page) key value ∷ [];
                       whole = log_of_append h.here.history es ∙ ap (λ (rs : List Record). rs ++ writing o standing.head (rows_of standing.page) key value ∷ []) c.whole ∙ append_assoc c.durable c.waiting (writing o standing.head (rows_of standing.page) key value ∷ []);
                       uncommitted = list_any-append is_commit c.waiting (writing o standing.head (rows_of standing.page) key value ∷ []) ∙ ap (λ (b : Bool). b || false) c.uncommitted;
-                      stands = subst (λ (x : Record). IsLogOf L.told L.may_leave log' (h.here.opening ++ c.durable) (c.waiting ++ x ∷ [])) w_is (adds u (h.here.opening ++ c.durable) c.waiting c.stands);
+                      stands = subst (λ (x : Record). IsLogOf L.told L.may_leave log' 0 (h.here.opening ++ c.durable) (c.waiting ++ x ∷ [])) w_is (adds u (h.here.opening ++ c.durable) c.waiting c.stands);
                     };
               });
               lines = is;
@@ -453,7 +453,7 @@ module _ {D : Type 0} (L : Ghosts D) where
       -- ---- its commit, flushed with the records that wait
 
       module _ (none : log.ended ≡ None) (mid new : LogState D) (added : HasMore (committing o ∷ []) log mid)
-          (adds : L.tells → (stable waiting : List Record) → IsLogOf L.told L.may_leave log stable waiting → IsLogOf L.told L.may_leave mid stable (waiting ++ committing o ∷ []))
+          (adds : L.tells → (stable waiting : List Record) → IsLogOf L.told L.may_leave log 0 stable waiting → IsLogOf L.told L.may_leave mid 0 stable (waiting ++ committing o ∷ []))
           (low : log.next < 2 ^ 62) (low_next : standing.next < 2 ^ 62) where
         abbrev r : Runs L log standing h.here
         r = running none
@@ -467,7 +467,7 @@ module _ {D : Type 0} (L : Ghosts D) where
         calm_now : (t : L.tells) → Calm h.here.opening h.here.history (rows_of standing.page) standing.head (Some o) standing.next standing.commits r.lsn
         calm_now t = subst (λ (x : Option Opened). Calm h.here.opening h.here.history (rows_of standing.page) standing.head x standing.next standing.commits r.lsn) opened_here (r.calm t).calm
 
-        stands_mid : (t : L.tells) → IsLogOf L.told L.may_leave mid (h.here.opening ++ (r.calm t).durable) ((r.calm t).waiting ++ committing o ∷ [])
+        stands_mid : (t : L.tells) → IsLogOf L.told L.may_leave mid 0 (h.here.opening ++ (r.calm t).durable) ((r.calm t).waiting ++ committing o ∷ [])
         stands_mid t = adds t (h.here.opening ++ (r.calm t).durable) (r.calm t).waiting (r.calm t).stands
 
         first_mid : L.tells → first_kept mid ≡ 1
@@ -501,12 +501,12 @@ module _ {D : Type 0} (L : Ghosts D) where
             left_more h.here.opening c.calm.begins (h.here.history ++ e ∷ []) (right_then t).legal (calm_then t).log.whole c.durable (take n w) (drop n w) kept
             (whole_commit t [] refl ∙ ap (λ (rs : List Record). c.durable ++ rs) (sym (take_drop n w)) ∙ sym (append_assoc c.durable (take n w) (drop n w)))
 
-        module _ (left : (t : L.tells) → RecordsLeft L.told L.may_leave (h.here.opening ++ (r.calm t).durable) ((r.calm t).waiting ++ committing o ∷ []) mid new) where
-          holds_then : (t : L.tells) (k : Kept) → StandsForMoreRecords (first_kept mid) (h.here.opening ++ (r.calm t).durable) ((r.calm t).waiting ++ committing o ∷ []) (left t).done k → HoldsOne (LeftBy after) k
+        module _ (left : (t : L.tells) → RecordsLeft L.told L.may_leave 0 (h.here.opening ++ (r.calm t).durable) ((r.calm t).waiting ++ committing o ∷ []) mid new) where
+          holds_then : (t : L.tells) (k : Kept) → StandsForMoreRecords 0 (first_kept mid) (h.here.opening ++ (r.calm t).durable) ((r.calm t).waiting ++ committing o ∷ []) (left t).done k → HoldsOne (LeftBy after) k
           holds_then t k m =
               let c = r.calm t in
               let w = c.waiting ++ committing o ∷ [] in
-              left_stands after (c.durable ++ take m.whole w) k (left_then t m.whole) (record { bs = m.stands.bs; stands = m.stands.stands; records = subst (AreRecordsOf m.stands.bs) (append_assoc h.here.opening c.durable (take m.whole w)) m.stands.records }) (m.numbered ∙ first_mid t)
+              left_stands after (c.durable ++ take m.whole w) k (left_then t m.whole) (record { bs = m.stands.bs; stands = m.stands.stands; records = subst (AreRecordsOf 0 m.stands.bs) (append_assoc h.here.opening c.durable (take m.whole w)) m.stands.records }) (m.numbered ∙ first_mid t)
 
           pub over_then : L.tells → IsOver L new after
           over_then t = record { right = right_then t; keeps = record { now = holds_then t (L.told new.device) (left t).read; crash = λ c may. holds_then t c ((left t).crash c may) } }
@@ -567,7 +567,7 @@ module _ {D : Type 0} (L : Ghosts D) where
 
         -- it is acknowledged
         pub did_commit : (standing' : Standing) (out : List ℕ) → log.next ≤ durable_lsn new.places → new.ended ≡ None → new.next ≡ mid.next → first_kept new ≡ first_kept mid
-            → (L.tells → (stable waiting : List Record) → IsLogOf L.told L.may_leave mid stable waiting → (new ≡ mid) ⊎ IsLogOf L.told L.may_leave new (stable ++ waiting) [])
+            → (L.tells → (stable waiting : List Record) → IsLogOf L.told L.may_leave mid 0 stable waiting → (new ≡ mid) ⊎ IsLogOf L.told L.may_leave new 0 (stable ++ waiting) [])
             → standing'.session ≡ None → standing'.commits ≡ standing.commits + 1 → standing'.history ≡ (standing.history ++ Rec (standing.last + 1) (committing o) ∷ []) ++ Acked z.tx z.tx ∷ [] → standing'.last ≡ standing.last + 1 → standing'.page ≡ standing.page → standing'.head ≡ standing.head → standing'.next ≡ standing.next → standing'.limit ≡ standing.limit → IsFused L new.device s.armed
             → out ≡ name ++ codes " commit " ++ decimal (standing.commits + 1) ++ codes "\n" → Adds L.tells (In L new standing') s (commands.Commit name) out
         did_commit standing' out reached live next first flushed closed count told last page head number limit fused is =
@@ -611,7 +611,7 @@ module _ {D : Type 0} (L : Ghosts D) where
                         waiting = [];
                         whole = whole_commit u (Acked z.tx z.tx ∷ []) refl ∙ sym (append-nil (c.durable ++ (c.waiting ++ committing o ∷ [])));
                         uncommitted = refl;
-                        stands = subst (λ (rs : List Record). IsLogOf L.told L.may_leave new rs []) (append_assoc h.here.opening c.durable (c.waiting ++ committing o ∷ [])) stands;
+                        stands = subst (λ (rs : List Record). IsLogOf L.told L.may_leave new 0 rs []) (append_assoc h.here.opening c.durable (c.waiting ++ committing o ∷ [])) stands;
                       };
                 });
               };
@@ -622,7 +622,7 @@ module _ {D : Type 0} (L : Ghosts D) where
             gone = rw (names_are, named) refl
 
             -- the records didn't stand on the disk before
-            flushed_whole : (u : L.tells) → IsLogOf L.told L.may_leave new ((h.here.opening ++ (r.calm u).durable) ++ ((r.calm u).waiting ++ committing o ∷ [])) []
+            flushed_whole : (u : L.tells) → IsLogOf L.told L.may_leave new 0 ((h.here.opening ++ (r.calm u).durable) ++ ((r.calm u).waiting ++ committing o ∷ [])) []
             flushed_whole u = ⊎_elim
                 (λ same. absurd (let c = r.calm u in omega (arith, reached, ap (λ (x : LogState D). durable_lsn x.places) (same ∙ added.is), next_is L.told L.may_leave log (h.here.opening ++ c.durable) c.waiting c.stands)))
                 (λ stands. stands)
@@ -630,7 +630,7 @@ module _ {D : Type 0} (L : Ghosts D) where
 
     -- ---- the fuse
 
-    module _ (new : D) (same : L.tells → L.told new ≡ L.told log.device) (nomore : NoMore L.may_leave log.device new) (still : L.tells → (stable waiting : List Record) → IsLogOf L.told L.may_leave log stable waiting → IsLogOf L.told L.may_leave (record log { device = new }) stable waiting) where
+    module _ (new : D) (same : L.tells → L.told new ≡ L.told log.device) (nomore : NoMore L.may_leave log.device new) (still : L.tells → (stable waiting : List Record) → IsLogOf L.told L.may_leave log 0 stable waiting → IsLogOf L.told L.may_leave (record log { device = new }) 0 stable waiting) where
       lives_still : (e : Option ℕ) → LivesOn L log standing h.here e → LivesOn L (record log { device = new }) standing h.here e
       lives_still None runs = record {
         count = runs.count;

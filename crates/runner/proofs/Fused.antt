@@ -5,7 +5,7 @@ use Rattle.media.specs.Kept.{Kept}
 use Rattle.media.specs.Fused.{Fused}
 use Rattle.media.specs.declared.disk.Disk.{Ghosts}
 use Rattle.log_blocks.specs.Log.{StandsFor}
-use Rattle.log_replay.specs.Devices.{DevicesStandFor}
+use Rattle.log_manager.specs.Devices.{DevicesStandFor}
 use Rattle.wal_record.specs.declared.record.Record.{Record}
 use Rattle.script.specs.declared.command.Command.{Command}
 use Rattle.script.specs.declared.command.Command.TheVariants as commands

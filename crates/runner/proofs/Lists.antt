@@ -36,7 +36,7 @@ next_of n k [] rs none = omega (arith, ap length none)
 next_of n k (b ∷ bs) rs (own, more, whole, holds, rest) = next_of (n + b.count) b.checkpoint bs more rest ∙ omega (arith, holds.records.count_is, ap length whole, length-append own more)
 
 -- behind the durable records come those that wait
-pub next_is : {D : Type 0} (told : D → Kept) (may_leave : D → Kept → Type 0) (log : LogState D) (stable waiting : List Record) → IsLogOf told may_leave log stable waiting → log.next ≡ durable_lsn log.places + length waiting + 1
+pub next_is : {D : Type 0} (told : D → Kept) (may_leave : D → Kept → Type 0) (log : LogState D) (stable waiting : List Record) → IsLogOf told may_leave log 0 stable waiting → log.next ≡ durable_lsn log.places + length waiting + 1
 next_is told may_leave log stable waiting h = h.numbered.next ∙ next_of (lsn_behind log.places) _ log.pending waiting h.more ∙ omega arith
 
 -- ---- lists

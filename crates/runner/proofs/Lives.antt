@@ -51,11 +51,11 @@ crashed L old new P only counts c left = only.each c (counts (L.moment old) c on
 
 -- ---- what the kept bytes stand for
 
-pub stands_on : (log : List Record) (k : Kept) → IsSound log → (s : StandsForRecords log k) → first_lsn s.bs ≡ 1 → StandsOn log k
+pub stands_on : (log : List Record) (k : Kept) → IsSound log → (s : StandsForRecords 0 log k) → first_lsn s.bs ≡ 1 → StandsOn log k
 stands_on log k sound s one = record { sound = sound; bs = s.bs; stands = s.stands; records = hold_whole log s.bs s.records one }
 
 -- a member of what a stop may leave of a life
-pub left_stands : (l : Life) (own : List Record) (k : Kept) → IsLeft l.opening l.history own → (s : StandsForRecords (l.opening ++ own) k) → first_lsn s.bs ≡ 1 → HoldsOne (LeftBy l) k
+pub left_stands : (l : Life) (own : List Record) (k : Kept) → IsLeft l.opening l.history own → (s : StandsForRecords 0 (l.opening ++ own) k) → first_lsn s.bs ≡ 1 → HoldsOne (LeftBy l) k
 left_stands l own k left s one = (l.opening ++ own, (own, left, refl), stands_on (l.opening ++ own) k left.sound s one)
 
 -- ---- lives

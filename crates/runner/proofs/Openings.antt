@@ -12,12 +12,13 @@ use Rattle.log_manager.specs.Managed.{HasMore, RecordsLeft, first_kept}
 use Rattle.log_manager.specs.Records.{AreIn, AreRecordsOf, IsLogOf, StandsForRecords, StandsForMoreRecords}
 use Rattle.log_replay.specs.Answers.{Opens, IsNotReplayed}
 use Rattle.log_replay.specs.Answers.{IsLogFault as IsReplayFault}
-use Rattle.log_replay.specs.Devices.{HoldEnd}
+use Rattle.log_manager.specs.Devices.{HoldEnd}
 use Rattle.log_replay.specs.declared.found.Found.{Found}
 use Rattle.log_replay.specs.declared.found.NotReplayed.{NotReplayed}
 use Rattle.log_replay.specs.declared.found.NotReplayed.TheVariants as whys
 use Rattle.store_model.specs.declared.fault.Fault.{Fault}
 use Rattle.store_model.specs.declared.fault.Fault.TheVariants as faults
+use Rattle.wal_record.specs.Checkpoints.{last_checkpoint}
 use Rattle.wal_record.specs.Rules.{is_limit}
 use Rattle.wal_record.specs.Sound.{IsSound}
 use Rattle.wal_record.specs.declared.record.Record.{Record}
@@ -72,10 +73,10 @@ some_records log b bs run h none =
     omega (arith, run.1.count.0, own.3.records.count_is, ap length own.2, length-append own.0 own.1, ap length (sym h.is ∙ none), length-append h.dropped h.kept)
 
 -- all records of the log are kept
-all_kept : (log : List Record) (bs : List Block) → AreRecordsOf bs log → HoldEnd log bs → first_lsn bs ≡ 1
+all_kept : (log : List Record) (bs : List Block) → AreRecordsOf 0 bs log → HoldEnd log bs → first_lsn bs ≡ 1
 all_kept log bs r h =
-    let a = next_of 0 r.before bs log r.records in
-    let b = next_of 0 h.records.before bs h.kept h.records.records in
+    let a = next_of 0 0 bs log r.records in
+    let b = next_of 0 (last_checkpoint h.dropped) bs h.kept h.records.records in
     h.first ∙ omega (arith, a, b, ap length h.is, length-append h.dropped h.kept)
 
 -- ---- a format
@@ -103,17 +104,17 @@ module _ (one_log : OneLog) {D : Type 0} (L : Ghosts D) (limit : ℕ) (is : is_l
       more zero = refl
       more (suc n) = refl
 
-  on_first : (k : Kept) (rs : List Record) (s : StandsForRecords rs k) → first_lsn s.bs ≡ 1 → rs ≡ first_log limit → StandsOn (first_log limit) k
-  on_first k rs s one e = stands_on (first_log limit) k (limit_sound limit is) (record { bs = s.bs; stands = s.stands; records = subst (AreRecordsOf s.bs) e s.records }) one
+  on_first : (k : Kept) (rs : List Record) (s : StandsForRecords 0 rs k) → first_lsn s.bs ≡ 1 → rs ≡ first_log limit → StandsOn (first_log limit) k
+  on_first k rs s one e = stands_on (first_log limit) k (limit_sound limit is) (record { bs = s.bs; stands = s.stands; records = subst (AreRecordsOf 0 s.bs) e s.records }) one
 
-  all_first : (k : Kept) → StandsForMoreRecords 1 [] (first_log limit) 1 k → HoldsOne (Formatted limit) k
+  all_first : (k : Kept) → StandsForMoreRecords 0 1 [] (first_log limit) 1 k → HoldsOne (Formatted limit) k
   all_first k m = (first_log limit, refl, on_first k (take m.whole (first_log limit)) m.stands m.numbered (whole_first m.whole m.no_fewer))
 
-  some_first : (k : Kept) → StandsForMoreRecords 1 [] (first_log limit) 0 k → HoldsOne (Unformatted last limit) k
+  some_first : (k : Kept) → StandsForMoreRecords 0 1 [] (first_log limit) 0 k → HoldsOne (Unformatted last limit) k
   some_first k m = by m.whole refl
     where
       by : (n : ℕ) → m.whole ≡ n → HoldsOne (Unformatted last limit) k
-      by zero e = ([], inl none_found, stands_on [] k nothing_sound (record { bs = m.stands.bs; stands = m.stands.stands; records = subst (AreRecordsOf m.stands.bs) (ap (λ (n : ℕ). take n (first_log limit)) e) m.stands.records }) m.numbered)
+      by zero e = ([], inl none_found, stands_on [] k nothing_sound (record { bs = m.stands.bs; stands = m.stands.stands; records = subst (AreRecordsOf 0 m.stands.bs) (ap (λ (n : ℕ). take n (first_log limit)) e) m.stands.records }) m.numbered)
       by (suc n) e = (first_log limit, inr (none_found, refl), on_first k (take m.whole (first_log limit)) m.stands m.numbered (whole_first m.whole (omega (arith, e))))
 
   pub is_made : (left : D) → IsFirst L.told L.may_leave limit 1 left → IsMade L limit left last
@@ -192,17 +193,17 @@ module _ (one_log : OneLog) {D : Type 0} (L : Ghosts D) (disk : D) (log : LogSta
   none_durable none t = let b = found t in subst (IsDurable L.told L.may_leave log) (no_places b.0 b.1 none) b.1
 
   -- the manager of an empty log, as it begins
-  nothing_stands : AreRecordsOf [] []
-  nothing_stands = record { before = 0; none = λ _. refl; records = refl }
+  nothing_stands : AreRecordsOf 0 [] []
+  nothing_stands = record { none = λ _. refl; records = refl }
 
-  module _ (start : LogState D) (starts : L.tells → (bs : List Block) (rs : List Record) → IsDurable L.told L.may_leave log bs → AreRecordsOf bs rs → IsLogOf L.told L.may_leave start rs []) (none : length log.places + length log.pending ≡ 0) (limit : ℕ) (is : is_limit limit ≡ true) where
-    begun : (t : L.tells) → IsLogOf L.told L.may_leave start [] []
+  module _ (start : LogState D) (starts : L.tells → (bs : List Block) (rs : List Record) → IsDurable L.told L.may_leave log bs → AreRecordsOf 0 bs rs → IsLogOf L.told L.may_leave start 0 rs []) (none : length log.places + length log.pending ≡ 0) (limit : ℕ) (is : is_limit limit ≡ true) where
+    begun : (t : L.tells) → IsLogOf L.told L.may_leave start 0 [] []
     begun t = starts t [] [] (none_durable none t) nothing_stands
 
-    pub format_made : (left : D) → (L.tells → IsLogOf L.told L.may_leave start [] [] → IsFirst L.told L.may_leave limit 1 left) → L.tells → (last : Last) → Keeps L (HoldsOne last) disk → IsMade L limit left last
+    pub format_made : (left : D) → (L.tells → IsLogOf L.told L.may_leave start 0 [] [] → IsFirst L.told L.may_leave limit 1 left) → L.tells → (last : Last) → Keeps L (HoldsOne last) disk → IsMade L limit left last
     format_made left first t last k = is_made one_log L limit is last disk log k (same t) (none_durable none t) left (first t (begun t))
 
-    pub format_cut : (left : D) (status : Status) → IsFault status → (status ≡ statuses.LogFault → L.tells → IsLogOf L.told L.may_leave start [] [] → IsFirst L.told L.may_leave limit 0 left) → (status ≡ statuses.Memory → left ≡ log.device) → IsNotMade L limit disk left status × Shows L left status
+    pub format_cut : (left : D) (status : Status) → IsFault status → (status ≡ statuses.LogFault → L.tells → IsLogOf L.told L.may_leave start 0 [] [] → IsFirst L.told L.may_leave limit 0 left) → (status ≡ statuses.Memory → left ≡ log.device) → IsNotMade L limit disk left status × Shows L left status
     format_cut left statuses.Memory kind cut no_memory = ((λ t last k. subst (Keeps L (HoldsOne last)) (sym (no_memory refl)) (keeps_same L (HoldsOne last) disk log.device (same t) more k)), tt)
     format_cut left statuses.LogFault kind cut no_memory = ((λ t last k. half_made one_log L limit is last disk log k (same t) (none_durable none t) left (cut refl t (begun t))), tt)
     format_cut left _ kind cut no_memory = absurd kind
@@ -238,8 +239,8 @@ module _ (one_log : OneLog) {D : Type 0} (L : Ghosts D) (disk : D) (old new : Lo
   )
 
   pub did_begin_life : (log : LogState D) (standing : Standing) (ok : Found) → (L.tells → (bs : List Block) (rs : List Record) → IsDurable L.told L.may_leave old bs → HoldEnd rs bs → IsSound rs → Opens rs ok)
-      → (L.tells → (bs : List Block) (rs : List Record) → IsDurable L.told L.may_leave old bs → HoldEnd rs bs → IsSound rs → AreRecordsOf bs rs × (new.next ≡ length rs + 1))
-      → (L.tells → (bs : List Block) (rs : List Record) → IsDurable L.told L.may_leave new bs → AreRecordsOf bs rs → first_lsn bs ≡ 1 → Opens rs ok → new.next ≡ length rs + 1 → IsCalm L log standing (record { opening = rs; history = [] }) (length rs))
+      → (L.tells → (bs : List Block) (rs : List Record) → IsDurable L.told L.may_leave old bs → HoldEnd rs bs → IsSound rs → AreRecordsOf 0 bs rs × (new.next ≡ length rs + 1))
+      → (L.tells → (bs : List Block) (rs : List Record) → IsDurable L.told L.may_leave new bs → AreRecordsOf 0 bs rs → first_lsn bs ≡ 1 → Opens rs ok → new.next ≡ length rs + 1 → IsCalm L log standing (record { opening = rs; history = [] }) (length rs))
       → L.tells → (last : Last) → Keeps L (HoldsOne last) disk → IsBegun L log standing last
   did_begin_life log standing ok opens records begun t last k =
       let h = here t last k in
@@ -247,11 +248,11 @@ module _ (one_log : OneLog) {D : Type 0} (L : Ghosts D) (disk : D) (old new : Lo
       record { opening = h.log; found = h.may; calm = begun t (found t).0 h.log (durable_new t last k) r.0 (all_kept h.log (found t).0 r.0 h.records) (opens t (found t).0 h.log (found t).1 h.records h.sound) r.1 }
 
 -- the first record of a log, flushed or not
-pub first_left : {D : Type 0} (L : Ghosts D) (limit : ℕ) (mid new : LogState D) → first_kept mid ≡ 1 → (left : RecordsLeft L.told L.may_leave [] (first_log limit) mid new) → (least : ℕ) → least ≤ left.done → IsFirst L.told L.may_leave limit least new.device
+pub first_left : {D : Type 0} (L : Ghosts D) (limit : ℕ) (mid new : LogState D) → first_kept mid ≡ 1 → (left : RecordsLeft L.told L.may_leave 0 [] (first_log limit) mid new) → (least : ℕ) → least ≤ left.done → IsFirst L.told L.may_leave limit least new.device
 first_left L limit mid new one left least le =
     record { now = fewer (L.told new.device) left.read; crash = λ c may. fewer c (left.crash c may) }
   where
-    fewer : (k : Kept) → StandsForMoreRecords (first_kept mid) [] (first_log limit) left.done k → StandsForMoreRecords 1 [] (first_log limit) least k
+    fewer : (k : Kept) → StandsForMoreRecords 0 (first_kept mid) [] (first_log limit) left.done k → StandsForMoreRecords 0 1 [] (first_log limit) least k
     fewer k m = record { whole = m.whole; no_fewer = omega (arith, le, m.no_fewer); within = m.within; stands = m.stands; numbered = m.numbered ∙ one }
 
 -- ---- faults by other names
@@ -281,9 +282,9 @@ no_blocks : (n k : ℕ) (bs : List Block) → IsRun n bs → AreIn k bs [] → b
 no_blocks n k [] run r = refl
 no_blocks n k (b ∷ bs) run (own, more, whole, holds, rest) = absurd (omega (arith, run.1.count.0, holds.records.count_is, ap length whole, length-append own more))
 
-pub first_flushed : {D : Type 0} (L : Ghosts D) (limit : ℕ) (old mid new : LogState D) → old.next ≡ 1 → HasMore (first_log limit) old mid → IsLogOf L.told L.may_leave old [] [] → IsLogOf L.told L.may_leave mid [] (first_log limit) → (left : RecordsLeft L.told L.may_leave [] (first_log limit) mid new) → (least : ℕ) → least ≤ durable_lsn new.places → IsFirst L.told L.may_leave limit least new.device
+pub first_flushed : {D : Type 0} (L : Ghosts D) (limit : ℕ) (old mid new : LogState D) → old.next ≡ 1 → HasMore (first_log limit) old mid → IsLogOf L.told L.may_leave old 0 [] [] → IsLogOf L.told L.may_leave mid 0 [] (first_log limit) → (left : RecordsLeft L.told L.may_leave 0 [] (first_log limit) mid new) → (least : ℕ) → least ≤ durable_lsn new.places → IsFirst L.told L.may_leave limit least new.device
 first_flushed L limit old mid new next added stands stands_mid left least reached =
-    let none : stands.bs ≡ [] = no_blocks (first_lsn stands.bs) stands.records.before stands.bs stands.durable.stands.sequence.run stands.records.records in
+    let none : stands.bs ≡ [] = no_blocks (first_lsn stands.bs) 0 stands.bs stands.durable.stands.sequence.run stands.records.records in
     let places_none : lsn_from mid.places ≡ 1 = ap (λ (x : LogState _). lsn_from x.places) added.is ∙ ap lsn_from stands.durable.places_are ∙ ap (λ (bs : List Block). lsn_from (places (L.told old.device).start bs)) none in
     first_left L limit mid new (first_kept_is mid stands_mid.numbered ∙ places_none) left least
     (omega (arith, reached, left.durable, next_is L.told L.may_leave mid [] (first_log limit) stands_mid, ap (λ (x : LogState _). x.next) added.is, next))

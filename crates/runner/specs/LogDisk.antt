@@ -4,7 +4,7 @@ use Rattle.media.specs.Kept.{Kept}
 use Rattle.media.specs.declared.disk.Disk.{Ghosts}
 use Rattle.log_blocks.specs.declared.header.Place.{Place}
 use Rattle.log_blocks.specs.Log.{Block, StandsFor, open_gate}
-use Rattle.log_replay.specs.Devices.{HoldEnd}
+use Rattle.log_manager.specs.Devices.{HoldEnd}
 use Rattle.wal_record.specs.Sound.{IsSound}
 use Rattle.wal_record.specs.declared.record.Record.{Record}
 use Rattle.runner.specs.Turns.{Stage, Last, MayFind, last_after}

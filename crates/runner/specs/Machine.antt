@@ -61,7 +61,7 @@ pub record IsCalm {D : Type 0} (L : Ghosts D) (log : LogState D) (standing : Sta
   pub waiting : List Record
   pub whole : log_of l.history ≡ durable ++ waiting
   pub uncommitted : list_any is_commit waiting ≡ false
-  pub stands : IsLogOf L.told L.may_leave log (l.opening ++ durable) waiting
+  pub stands : IsLogOf L.told L.may_leave log 0 (l.opening ++ durable) waiting
 
 -- A life may begin with this log, where the disk tells: the disk stands for it, and so it is calm with what was found.
 pub record BeginsOn {D : Type 0} (L : Ghosts D) (b : Beginning D) (opening : List Record) : Type 0 where

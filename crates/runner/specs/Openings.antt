@@ -24,8 +24,8 @@ Makes L disk Q = L.tells → (last : Last) → Keeps L (HoldsOne last) disk → 
 
 -- the disk's bytes, also after a crash, stand for the record of a format, or for none; at least for so many
 pub record IsFirst {D : Type 0} (told : D → Kept) (may_leave : D → Kept → Type 0) (limit least : ℕ) (disk : D) : Type 0 where
-  pub now : StandsForMoreRecords 1 [] (first_log limit) least (told disk)
-  pub crash : (c : Kept) → may_leave disk c → StandsForMoreRecords 1 [] (first_log limit) least c
+  pub now : StandsForMoreRecords 0 1 [] (first_log limit) least (told disk)
+  pub crash : (c : Kept) → may_leave disk c → StandsForMoreRecords 0 1 [] (first_log limit) least c
 
 -- a log is made where none was
 pub record IsMade {D : Type 0} (L : Ghosts D) (limit : ℕ) (left : D) (last : Last) : Type 0 where

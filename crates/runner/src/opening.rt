@@ -76,8 +76,8 @@ fn enter_format<L: Disk>(alloc: Global, log: &mut LogManager<L>, limit: u32) -> 
     requires limit { IsTrue (is_limit limit) }
     requires first { log.old.log.next ≡ 1 }
     requires goes { log.old.log.ended ≡ None }
-    ensures made { OnOk result (L.tells → IsLogOf L.told L.may_leave log.old.log [] [] → IsFirst L.told L.may_leave limit 1 log.new.log.device) }
-    ensures cut { IfErr result (λ status. status ≡ statuses.LogFault → L.tells → IsLogOf L.told L.may_leave log.old.log [] [] → IsFirst L.told L.may_leave limit 0 log.new.log.device) }
+    ensures made { OnOk result (L.tells → IsLogOf L.told L.may_leave log.old.log 0 [] [] → IsFirst L.told L.may_leave limit 1 log.new.log.device) }
+    ensures cut { IfErr result (λ status. status ≡ statuses.LogFault → L.tells → IsLogOf L.told L.may_leave log.old.log 0 [] [] → IsFirst L.told L.may_leave limit 0 log.new.log.device) }
     ensures same { IfErr result (λ status. status ≡ statuses.Memory → log.new.log.device ≡ log.old.log.device) }
     ensures kind { IfErr result IsFault }
     ensures fuse { Blames L.passes L.refused L.own log.old.log.device log.new.log.device (IsErrAnd result (λ status. status ≡ statuses.LogFault)) }
@@ -142,7 +142,7 @@ fn begin<L: Disk>(alloc: Global, log: BlockLog<L>, found: Found) -> Result<Opene
     requires number { 1 ≤ found.next }
     requires fresh { log.pending ≡ [] }
     requires goes { log.ended ≡ None }
-    ensures begun { IfOk result (λ life. (v : View L.tells) → L.tells → (bs : List Block) (rs : List Record) → IsDurable L.told L.may_leave log bs → AreRecordsOf bs rs → first_lsn bs ≡ 1 → Opens rs found → log.next ≡ length rs + 1 → IsCalm (seen L.Disk v) life.log.log life.standing (record { opening = rs; history = [] }) (length rs)) }
+    ensures begun { IfOk result (λ life. (v : View L.tells) → L.tells → (bs : List Block) (rs : List Record) → IsDurable L.told L.may_leave log bs → AreRecordsOf 0 bs rs → first_lsn bs ≡ 1 → Opens rs found → log.next ≡ length rs + 1 → IsCalm (seen L.Disk v) life.log.log life.standing (record { opening = rs; history = [] }) (length rs)) }
     ensures first { IfOk result (λ life. (life.standing.session ≡ None) × (life.log.log.ended ≡ None) × (life.log.log.device ≡ log.device)) }
     ensures not { IfErr result (λ r. (r.disk ≡ log.device) × (r.status ≡ statuses.Memory)) }
 {

@@ -2,7 +2,7 @@
 ghost use Rattle.std.specs.Prelude.{◌≡◌, ◌≢◌, ◌≤◌, ◌↔◌, ℕ, List, map, true, false};
 ghost use Rattle.media.specs.Cause.{Rose};
 ghost use Rattle.wal_record.specs.declared.record.Record.{Record};
-ghost use Rattle.log_replay.specs.Devices.{DevicesStandFor};
+ghost use Rattle.log_manager.specs.Devices.{DevicesStandFor};
 ghost use Rattle.runner.specs.Lines.{to_come, IsBounded};
 ghost use Rattle.runner.specs.LogDisk.{View, IsWhole, seen};
 ghost use Rattle.runner.specs.Turns.{begin_stage};

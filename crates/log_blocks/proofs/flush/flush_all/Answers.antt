@@ -16,7 +16,7 @@ returns-clause-any_moment g c tells only bs place s seq =
     let behind = c.in_ok-make_gate.ensures.stands tells bs s place in
     joined g.D.Disk.moment g.D.Disk.left_since _ _ _ _ _ _
     (c.make_gate.ensures.any_moment tells only bs s)
-    (c.write_pending.ensures.any_moment tells (c.in_ok-make_gate.ensures.durable tells only) bs (place ∙ ap (λ (n : ℕ). n + length (blocks bs)) (sym e))
+    (c.write_waiting.ensures.any_moment tells (c.in_ok-make_gate.ensures.durable tells only) bs (place ∙ ap (λ (n : ℕ). n + length (blocks bs)) (sym e))
     (subst (λ n. Behind n (blocks bs) (g.D.Disk.told c.make_gate.new.device)) (sym e) behind) (subst (λ n. IsSequence n (bs ++ c.args.pending.now)) (sym e) seq))
     (λ k h. some_none bs c.args.pending.now k h)
     (λ k h. h)
@@ -25,10 +25,10 @@ pub returns-clause-written : goal.returns-clause-written
 returns-clause-written g c tells bs place s seq =
     let e = c.make_gate.ensures.start in
     let behind = c.in_ok-make_gate.ensures.stands tells bs s place in
-    on_ok_weaker c.write_pending.result
-    (λ stood. stands (g.D.Disk.start c.args.device.now) (bs ++ c.args.pending.now) (g.D.Disk.told c.write_pending.new.device)
-    (subst (λ n. Behind n (blocks (bs ++ c.args.pending.now)) (g.D.Disk.told c.write_pending.new.device)) e stood) seq)
-    (c.write_pending.ensures.written tells bs (place ∙ ap (λ (n : ℕ). n + length (blocks bs)) (sym e))
+    on_ok_weaker c.write_waiting.result
+    (λ stood. stands (g.D.Disk.start c.args.device.now) (bs ++ c.args.pending.now) (g.D.Disk.told c.write_waiting.new.device)
+    (subst (λ n. Behind n (blocks (bs ++ c.args.pending.now)) (g.D.Disk.told c.write_waiting.new.device)) e stood) seq)
+    (c.write_waiting.ensures.written tells bs (place ∙ ap (λ (n : ℕ). n + length (blocks bs)) (sym e))
     (subst (λ n. Behind n (blocks bs) (g.D.Disk.told c.make_gate.new.device)) (sym e) behind))
 
 pub returns-in_err-make_gate-clause-progress : goal.returns-in_err-make_gate-clause-progress
@@ -55,5 +55,5 @@ pub returns-clause-left : goal.returns-clause-left
 returns-clause-left g c tells only bs place s seq =
     let e = c.make_gate.ensures.start in
     let behind = c.in_ok-make_gate.ensures.stands tells bs s place in
-    c.write_pending.ensures.left tells (c.in_ok-make_gate.ensures.durable tells only) bs (place ∙ ap (λ (n : ℕ). n + length (blocks bs)) (sym e))
+    c.write_waiting.ensures.left tells (c.in_ok-make_gate.ensures.durable tells only) bs (place ∙ ap (λ (n : ℕ). n + length (blocks bs)) (sym e))
     (subst (λ n. Behind n (blocks bs) (g.D.Disk.told c.make_gate.new.device)) (sym e) behind) (subst (λ n. IsSequence n (bs ++ c.args.pending.now)) (sym e) seq)

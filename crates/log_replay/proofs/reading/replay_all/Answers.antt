@@ -18,7 +18,7 @@ loop-block-preserved g c =
           let lt : c.loop-block.block < length c.loop-block.log.places + length c.loop-block.log.pending = omega (arith, same_count c.args.log.now c.loop-block.log c.loop-block.invariant.same, c.loop-block-test.true, c.blocks-block-end.ensures.value) in
           let h = block_now g.L.Disk.told g.L.Disk.may_leave c.args.log.now c.loop-block.log bs d c.requires.fresh c.loop-block.invariant.same c.loop-block.block lt in
           let payload = payload_now g.L.Disk.told g.L.Disk.may_leave c.args.log.now c.loop-block.log bs d c.requires.fresh c.loop-block.invariant.same c.loop-block.block
-          c.deref.result.now _ _ h c.deref.ensures.value c.new-payload.ensures.items (c.in-Ok.ensures.payload t bs (c.loop-block.invariant.durable t bs d)) in
+          c.deref.result.now _ _ h c.deref.ensures.value c.new-payload.ensures.items (c.in-Ok.ensures.payload t bs (c.loop-block.invariant.durable t bs d).stands (c.loop-block.invariant.durable t bs d).places_are) in
           let counted = counted_now g.L.Disk.told g.L.Disk.may_leave c.args.log.now c.loop-block.log bs d c.requires.fresh c.loop-block.invariant.same c.loop-block.block c.count_of-count.result h c.count_of-count.ensures in
           replayed_more bs c.loop-block.block c.count_of-count.result c.deref.result.now c.loop-block.replay c.replay_block.new.replay h counted payload (c.loop-block.invariant.so_far t bs d) taken;
     }
@@ -28,7 +28,7 @@ returns-in-Err-replay_block-clause-met g c = λ t bs rs d a one lawful.
     let lt : c.loop-block.block < length c.loop-block.log.places + length c.loop-block.log.pending = omega (arith, same_count c.args.log.now c.loop-block.log c.loop-block.invariant.same, c.loop-block-test.true, c.blocks-block-end.ensures.value) in
     let h = block_now g.L.Disk.told g.L.Disk.may_leave c.args.log.now c.loop-block.log bs d c.requires.fresh c.loop-block.invariant.same c.loop-block.block lt in
     let payload = payload_now g.L.Disk.told g.L.Disk.may_leave c.args.log.now c.loop-block.log bs d c.requires.fresh c.loop-block.invariant.same c.loop-block.block
-    c.deref.result.now _ _ h c.deref.ensures.value c.new-payload.ensures.items (c.in-Ok.ensures.payload t bs (c.loop-block.invariant.durable t bs d)) in
+    c.deref.result.now _ _ h c.deref.ensures.value c.new-payload.ensures.items (c.in-Ok.ensures.payload t bs (c.loop-block.invariant.durable t bs d).stands (c.loop-block.invariant.durable t bs d).places_are) in
     let counted = counted_now g.L.Disk.told g.L.Disk.may_leave c.args.log.now c.loop-block.log bs d c.requires.fresh c.loop-block.invariant.same c.loop-block.block c.count_of-count.result h c.count_of-count.ensures in
     block_unread bs c.loop-block.block c.count_of-count.result c.deref.result.now c.loop-block.replay h counted payload (c.loop-block.invariant.so_far t bs d) c.in-Err-replay_block.refused c.in-Err-replay_block.ensures.met rs a lawful
 
@@ -37,7 +37,7 @@ returns-in-Err-replay_block-clause-bad g c = λ t bs d one.
     let lt : c.loop-block.block < length c.loop-block.log.places + length c.loop-block.log.pending = omega (arith, same_count c.args.log.now c.loop-block.log c.loop-block.invariant.same, c.loop-block-test.true, c.blocks-block-end.ensures.value) in
     let h = block_now g.L.Disk.told g.L.Disk.may_leave c.args.log.now c.loop-block.log bs d c.requires.fresh c.loop-block.invariant.same c.loop-block.block lt in
     let payload = payload_now g.L.Disk.told g.L.Disk.may_leave c.args.log.now c.loop-block.log bs d c.requires.fresh c.loop-block.invariant.same c.loop-block.block
-    c.deref.result.now _ _ h c.deref.ensures.value c.new-payload.ensures.items (c.in-Ok.ensures.payload t bs (c.loop-block.invariant.durable t bs d)) in
+    c.deref.result.now _ _ h c.deref.ensures.value c.new-payload.ensures.items (c.in-Ok.ensures.payload t bs (c.loop-block.invariant.durable t bs d).stands (c.loop-block.invariant.durable t bs d).places_are) in
     let counted = counted_now g.L.Disk.told g.L.Disk.may_leave c.args.log.now c.loop-block.log bs d c.requires.fresh c.loop-block.invariant.same c.loop-block.block c.count_of-count.result h c.count_of-count.ensures in
     let so_far = c.loop-block.invariant.so_far t bs d in
     block_bad bs c.loop-block.block c.count_of-count.result c.deref.result.now c.loop-block.replay h counted payload so_far c.in-Err-replay_block.refused c.in-Err-replay_block.ensures.met

@@ -28,8 +28,8 @@ returns-then-count-ne0-clause-shows g c = subst (λ (d : g.row.L.Denot). Shows g
 
 pub returns-in-Ok-enter_format-clause-made : goal.returns-in-Ok-enter_format-clause-made
 returns-in-Ok-enter_format-clause-made g c = λ v. subst (λ (d : g.row.L.Denot). Makes (seen g.L.Disk v) c.args.disk (IsMade (seen g.L.Disk v) c.args.limit d)) (sym c.into_device-in-Ok-enter_format.ensures)
-    (format_made c.one_log.ensures (seen g.L.Disk v) c.args.disk c.in-Ok.log (λ t. c.in-Ok.ensures.blocks (tells_of v t)) (λ t. c.in-Ok.ensures.same (tells_of v t)) (crashed g.L.Disk c.args.disk c.in-Ok.log.device _ c.in-Ok.ensures.any_moment (λ t k le m. g.met.L.Disk.counts_now c.in-Ok.log.device t k le m)) c.in-Ok.ensures.fresh.0 c.start-log.result.log (λ t bs rs d r. c.start-log.ensures.records (tells_of v t) bs rs d r) (omega (arith, c.if-count-ne0.false, c.blocks-count.ensures.value)) c.args.limit c.requires c.enter_format.new.log.log.device (λ t stands. c.in-Ok-enter_format.ensures.made (tells_of v t) stands))
+    (format_made c.one_log.ensures (seen g.L.Disk v) c.args.disk c.in-Ok.log (λ t. c.in-Ok.ensures.blocks (tells_of v t)) (λ t. c.in-Ok.ensures.same (tells_of v t)) (crashed g.L.Disk c.args.disk c.in-Ok.log.device _ c.in-Ok.ensures.any_moment (λ t k le m. g.met.L.Disk.counts_now c.in-Ok.log.device t k le m)) c.in-Ok.ensures.fresh.0 c.start-log.result.log (λ t bs rs d r. c.start-log.ensures.records (tells_of v t) 0 bs rs d r) (omega (arith, c.if-count-ne0.false, c.blocks-count.ensures.value)) c.args.limit c.requires c.enter_format.new.log.log.device (λ t stands. c.in-Ok-enter_format.ensures.made (tells_of v t) stands))
 
 pub returns-in-Err-enter_format-clause-not : goal.returns-in-Err-enter_format-clause-not
 returns-in-Err-enter_format-clause-not g c = λ v. subst (λ (d : g.row.L.Denot). IsNotMade (seen g.L.Disk v) c.args.limit c.args.disk d c.in-Err-enter_format.status) (sym c.into_device-in-Err-enter_format.ensures)
-    (format_cut c.one_log.ensures (seen g.L.Disk v) c.args.disk c.in-Ok.log (λ t. c.in-Ok.ensures.blocks (tells_of v t)) (λ t. c.in-Ok.ensures.same (tells_of v t)) (crashed g.L.Disk c.args.disk c.in-Ok.log.device _ c.in-Ok.ensures.any_moment (λ t k le m. g.met.L.Disk.counts_now c.in-Ok.log.device t k le m)) c.in-Ok.ensures.fresh.0 c.start-log.result.log (λ t bs rs d r. c.start-log.ensures.records (tells_of v t) bs rs d r) (omega (arith, c.if-count-ne0.false, c.blocks-count.ensures.value)) c.args.limit c.requires c.enter_format.new.log.log.device c.in-Err-enter_format.status c.in-Err-enter_format.ensures.kind (λ e t stands. c.in-Err-enter_format.ensures.cut e (tells_of v t) stands) (search rules)).0
+    (format_cut c.one_log.ensures (seen g.L.Disk v) c.args.disk c.in-Ok.log (λ t. c.in-Ok.ensures.blocks (tells_of v t)) (λ t. c.in-Ok.ensures.same (tells_of v t)) (crashed g.L.Disk c.args.disk c.in-Ok.log.device _ c.in-Ok.ensures.any_moment (λ t k le m. g.met.L.Disk.counts_now c.in-Ok.log.device t k le m)) c.in-Ok.ensures.fresh.0 c.start-log.result.log (λ t bs rs d r. c.start-log.ensures.records (tells_of v t) 0 bs rs d r) (omega (arith, c.if-count-ne0.false, c.blocks-count.ensures.value)) c.args.limit c.requires c.enter_format.new.log.log.device c.in-Err-enter_format.status c.in-Err-enter_format.ensures.kind (λ e t stands. c.in-Err-enter_format.ensures.cut e (tells_of v t) stands) (search rules)).0

@@ -9,8 +9,8 @@ use Rattle.log_blocks.proofs.Whole.{chain_at}
 use Rattle.log_blocks.proofs.log.BlockLog.read_block.Goals as goal
 
 pub returns-then-i-durable-clause-payload : goal.returns-then-i-durable-clause-payload
-returns-then-i-durable-clause-payload g c tells bs d =
-    let count : c.durable-durable.result ≡ length bs = c.durable-durable.ensures ∙ ap length d.places_are ∙ length-places _ bs in
+returns-then-i-durable-clause-payload g c tells bs stands are =
+    let count : c.durable-durable.result ≡ length bs = c.durable-durable.ensures ∙ ap length are ∙ length-places _ bs in
     let pending = c.args.self.now.pending in
     let j = c.args.i - c.durable-durable.result in
     let number : c.args.i ≡ length bs + j = omega (arith, count, c.if-i-durable.true) in
@@ -50,11 +50,11 @@ pub lsn_before-requires : goal.lsn_before-requires
 lsn_before-requires g c = let w = c.self.invariant.whole in omega (arith, w.next_is, next_above (lsn_behind (c.self.inside.places.items ++ c.self.inside.recent)) c.self.inside.pending)
 
 pub returns-in-Ok-clause-payload : goal.returns-in-Ok-clause-payload
-returns-in-Ok-clause-payload g c tells bs d =
+returns-in-Ok-clause-payload g c tells bs stands are =
     let p = c.place-place.result in
-    let count : c.durable-durable.result ≡ length bs = c.durable-durable.ensures ∙ ap length d.places_are ∙ length-places _ bs in
+    let count : c.durable-durable.result ≡ length bs = c.durable-durable.ensures ∙ ap length are ∙ length-places _ bs in
     let lt : c.args.i < length bs = omega (arith, count, c.if-i-durable.false) in
-    let is = c.place-place.ensures ∙ ap (λ (l : List Place). get_or l c.args.i p) c.settle.ensures ∙ ap (λ (s : LogState _). get_or s.places c.args.i p) c.self.view_is ∙ ap (λ (l : List Place). get_or l c.args.i p) d.places_are in
-    let read = payload_read bs (g.L.Disk.told c.args.self.now.device) c.args.i p d.stands lt is in
+    let is = c.place-place.ensures ∙ ap (λ (l : List Place). get_or l c.args.i p) c.settle.ensures ∙ ap (λ (s : LogState _). get_or s.places c.args.i p) c.self.view_is ∙ ap (λ (l : List Place). get_or l c.args.i p) are in
+    let read = payload_read bs (g.L.Disk.told c.args.self.now.device) c.args.i p stands lt is in
     c.in-Ok.ensures.bytes tells ∙ ap (λ (s : LogState _). c.args.out.now.items ++ bytes_at (g.L.Disk.told s.device) (p.at + 23) p.length) c.self.view_is
     ∙ ap (λ (l : List ℕ). c.args.out.now.items ++ l) (read ∙ sym (payload_left bs c.args.self.now.pending c.args.i lt))

@@ -51,7 +51,7 @@ returns-in-Ok-append_group-clause-ok g c = λ v s h.
     let more = c.in-Ok-append_group.ensures in
     did_put (seen g.L.Disk v) s old.log.log (standing_with old.leaf old.transactions) h c.args.name.now named.0 named.1 named.2 c.requires.goes c.args.key.now c.args.value.now w writes c.append_group.new.self.log (standing_with c.put.new.self c.wrote.new.self) (Some c.put.new.self.state) c.in-Ok.out.items room (search rules) (search rules) put.0 refl
     (subst (λ (rs : List Record). HasMore rs old.log.log c.append_group.new.self.log) c.from_ref.ensures.value more.added.0)
-    (λ t stable waiting stands. subst (λ (rs : List Record). IsLogOf g.L.Disk.told g.L.Disk.may_leave c.append_group.new.self.log stable (waiting ++ rs)) c.from_ref.ensures.value (more.records (tells_of v t) stable waiting stands))
+    (λ t stable waiting stands. subst (λ (rs : List Record). IsLogOf g.L.Disk.told g.L.Disk.may_leave c.append_group.new.self.log 0 stable (waiting ++ rs)) c.from_ref.ensures.value (more.records (tells_of v t) 0 stable waiting stands))
     put.1 put.2 put.3
     (subst (λ (n : ℕ). HasPut n old.transactions.session c.wrote.new.self.session) more.first c.wrote.ensures.session)
     c.wrote.ensures.same.0 c.wrote.ensures.same.1 c.wrote.ensures.same.2

@@ -21,5 +21,5 @@ returns-clause-ok g c = λ v s h.
     let old = c.args.self.now in
     subst (λ (m : Managed g.row.L.Denot). Adds (IsWhole v) (In M m.log (standing_with old.leaf old.transactions)) s (commands.Renew c.args.device) c.in-Ok.out.items) (sym c.fuse.ensures.same)
     (did_renew M s old.log.log (standing_with old.leaf old.transactions) h c.fuse.new.self.log.device (λ t. c.fuse.ensures.told (tells_of v t)) (crashed g.L.Disk old.log.log.device c.fuse.new.self.log.device _ c.fuse.ensures.any_moment (λ t k le m. g.met.L.Disk.counts_now c.fuse.new.self.log.device t k le m))
-    (λ t stable waiting stands. subst (λ (m : Managed g.row.L.Denot). IsLogOf g.L.Disk.told g.L.Disk.may_leave m.log stable waiting) c.fuse.ensures.same (c.fuse.ensures.records (tells_of v t) stable waiting stands))
+    (λ t stable waiting stands. subst (λ (m : Managed g.row.L.Denot). IsLogOf g.L.Disk.told g.L.Disk.may_leave m.log 0 stable waiting) c.fuse.ensures.same (c.fuse.ensures.records (tells_of v t) 0 stable waiting stands))
     c.args.device c.in-Ok.out.items (search rules) c.fuse.ensures.fuse.armed c.in-Ok.ensures)

@@ -61,10 +61,11 @@ pub record HasBlock (bs : List Block) (n : ℕ) : Type 0 where
   pub number : length (take n bs) ≡ n
   pub payload : payload_at bs n ≡ block.payload
   pub count : get_or (map count_of bs) n 0 ≡ block.count
+  pub first : get_or (map first_of bs) n 0 ≡ block.first
 
 pub block_at : (bs : List Block) (n : ℕ) → n < length bs → HasBlock bs n
 block_at [] n lt = absurd (omega (arith, lt))
-block_at (b ∷ bs) zero lt = record { block = b; behind = bs; is = refl; with_it = refl; number = refl; payload = refl; count = refl }
+block_at (b ∷ bs) zero lt = record { block = b; behind = bs; is = refl; with_it = refl; number = refl; payload = refl; count = refl; first = refl }
 block_at (b ∷ bs) (suc n) lt =
     let h = block_at bs n (omega (arith, lt)) in
     record {
@@ -75,6 +76,7 @@ block_at (b ∷ bs) (suc n) lt =
       number = ap (λ (m : ℕ). suc m) h.number;
       payload = h.payload;
       count = h.count;
+      first = h.first;
     }
 
 -- all blocks
@@ -93,10 +95,10 @@ count_all n before (b ∷ bs) rs (own, more, is, holds, rest) =
     omega (arith, e, holds.records.count_is, ap length is, length-append own more)
 
 -- the LSN behind the records of a log that keeps its first one
-behind_all : (start : ℕ) (bs : List Block) (rs : List Record) → AreRecordsOf bs rs → IsRun (first_lsn bs) bs → first_lsn bs ≡ 1 → lsn_behind (places start bs) ≡ suc (length rs)
+behind_all : (start : ℕ) (bs : List Block) (rs : List Record) → AreRecordsOf 0 bs rs → IsRun (first_lsn bs) bs → first_lsn bs ≡ 1 → lsn_behind (places start bs) ≡ suc (length rs)
 behind_all start [] rs a run one = omega (arith, ap length a.records)
 behind_all start (b ∷ bs) rs a run one =
-    behind_first start b bs run ∙ count_all b.first a.before (b ∷ bs) rs a.records ∙ omega (arith, one)
+    behind_first start b bs run ∙ count_all b.first 0 (b ∷ bs) rs a.records ∙ omega (arith, one)
 
 module _ {D : Type 0} (log : LogState D) (start : ℕ) (bs : List Block) (are : log.places ≡ places start bs) (none : log.pending ≡ []) where
   pub blocks_are : length log.places + length log.pending ≡ length bs
@@ -121,6 +123,6 @@ module _ {D : Type 0} (log : LogState D) (start : ℕ) (bs : List Block) (are : 
   pub payload_is : (n : ℕ) → payload_at (bs ++ log.pending) n ≡ payload_at bs n
   payload_is n = ap (λ (qs : List Block). payload_at (bs ++ qs) n) none ∙ ap (λ (l : List Block). payload_at l n) (append-nil bs)
 
-  pub next_is : (rs : List Record) → AreRecordsOf bs rs → IsRun (first_lsn bs) bs → first_lsn bs ≡ 1 → AreNumbered log → log.next ≡ length rs + 1
+  pub next_is : (rs : List Record) → AreRecordsOf 0 bs rs → IsRun (first_lsn bs) bs → first_lsn bs ≡ 1 → AreNumbered log → log.next ≡ length rs + 1
   next_is rs a run one numbered =
       numbered.next ∙ ap (λ (qs : List Block). next_lsn (lsn_behind log.places) qs) none ∙ ap lsn_behind are ∙ behind_all start bs rs a run one ∙ omega arith

@@ -1,12 +1,11 @@
--- When devices stand for a log, and which of these logs an opening isn't built for.
-use Rattle.std.specs.Prelude.{◌≡◌, ◌≤◌, ◌⊎◌, ℕ, suc, max, List, ◌++◌, length, true}
+-- When devices stand for a log.
+use Rattle.std.specs.Prelude.{◌≡◌, ◌≤◌, ℕ, suc, max, List, ◌++◌, length}
 use Rattle.std.specs.List.{All}
 use Rattle.media.specs.Crash.{Only}
 use Rattle.media.specs.Kept.{Kept}
 use Rattle.log_blocks.specs.Log.{Block, StandsFor, first_lsn}
 use Rattle.log_manager.specs.Records.{AreRecordsOf}
-use Rattle.wal_record.specs.Chains.{pages}
-use Rattle.wal_record.specs.OpenWrites.{is_loser, open_list}
+use Rattle.wal_record.specs.OpenWrites.{open_list}
 use Rattle.wal_record.specs.Sound.{IsSound}
 use Rattle.wal_record.specs.Upkeep.{archived, standing_runs}
 use Rattle.wal_record.specs.declared.record.OpenWrite.{OpenWrite}
@@ -28,8 +27,7 @@ pub record HoldEnd (log : List Record) (bs : List Block) : Type 0 where
   pub dropped : List Record
   pub kept : List Record
   pub is : log ≡ dropped ++ kept
-  pub records : AreRecordsOf bs kept
-  pub checkpoint : records.before ≡ last_checkpoint dropped
+  pub records : AreRecordsOf (last_checkpoint dropped) bs kept
   pub first : first_lsn bs ≡ suc (length dropped)
   pub enough : IsEnough log (first_lsn bs)
 
@@ -53,12 +51,3 @@ pub record KeepsLog {D : Type 0} (told : D → Kept) (may_leave : D → Kept →
 pub record DevicesStandFor {D : Type 0} (told : D → Kept) (may_leave : D → Kept → Type 0) (disk : D) (log : List Record) : Type 0 where
   pub sound : IsSound log
   pub log_disk : KeepsLog told may_leave disk log
-
--- ---- what isn't built
-
-abbrev pub HasLoser : List Record → Type 0
-HasLoser log = (t : ℕ) × (is_loser log t ≡ true)
-
--- a loser, a second page, or a first record that was dropped
-abbrev pub IsUnbuilt : List Record → List Block → Type 0
-IsUnbuilt log bs = HasLoser log ⊎ (2 ≤ pages log) ⊎ (2 ≤ first_lsn bs)
