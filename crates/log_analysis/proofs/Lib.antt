@@ -1,2 +1,5 @@
+mod Reading
+mod OpenBlocks
+mod Standing
 pub mod Listed
 pub mod Payloads

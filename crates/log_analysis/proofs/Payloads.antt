@@ -11,7 +11,7 @@ use Rattle.wal_record.specs.declared.record.Record.{Record}
 use Rattle.log_index.specs.declared.listing.Listing.{Listing}
 use Rattle.log_manager.specs.Payload.{IsFirstFault, IsSurplus, NotRead, bytes_of}
 use Rattle.log_manager.proofs.Taking.{Reads, reads_more, reads_none}
-use Rattle.log_analysis.specs.Taken.{AreTaken, IsNotTaken, IsNotTakenBehind, IsNotTakenIn, IsTaken, ListsMore}
+use Rattle.log_analysis.specs.Taken.{AreTaken, IsNotTaken, IsNotTakenBehind, IsNotTakenIn, IsOfBlock, IsTaken, ListsMore}
 use Rattle.log_analysis.specs.declared.taking.Named.{Named}
 use Rattle.log_analysis.proofs.Listed.{lists_more, lists_none}
 
@@ -96,3 +96,13 @@ module _ (payload : List ℕ) (at n checkpoint first : ℕ) (old now : Listing) 
   pub surplus_bad : (named : Named) (number count : ℕ) (fault : Fault) → n ≡ count → IsSurplus number s.front payload fault → IsNotTakenIn named number first count payload fault
   surplus_bad named number count (faults.LogBad block byte) same (is, bad) = inl (is, subst (λ (k : ℕ). IsFirstFault k payload byte) (s.count ∙ same) bad)
   surplus_bad named number count fault same bad = absurd bad
+
+-- what isn't taken is so for want of memory, or because the block is bad
+pub behind_of_block : (named : Named) (number lsn : ℕ) (front : List Record) (payload : List ℕ) (fault : Fault) → IsNotTakenBehind named number lsn front payload fault → IsOfBlock fault
+behind_of_block named number lsn front payload faults.Memory bad = tt
+behind_of_block named number lsn front payload (faults.LogBad block byte) bad = tt
+behind_of_block named number lsn front payload fault bad = absurd bad
+
+pub surplus_of_block : (number : ℕ) (rs : List Record) (payload : List ℕ) (fault : Fault) → IsSurplus number rs payload fault → IsOfBlock fault
+surplus_of_block number rs payload (faults.LogBad block byte) bad = tt
+surplus_of_block number rs payload fault bad = absurd bad

@@ -72,3 +72,9 @@ IsNotTakenIn named number first count payload Memory = Unit {0}
 IsNotTakenIn named number first count payload (LogBad block byte) =
     ((block ≡ number) × IsFirstFault count payload byte) ⊎ ((block ≡ named.block) × (byte ≡ CHECKPOINT_AT) × HasNoCheckpoint named first count payload)
 IsNotTakenIn named number first count payload fault = ⊥
+
+-- want of memory, or a bad block
+abbrev pub IsOfBlock : Fault → Type 0
+IsOfBlock Memory = Unit {0}
+IsOfBlock (LogBad block byte) = Unit {0}
+IsOfBlock fault = ⊥

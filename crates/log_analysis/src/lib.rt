@@ -8,16 +8,24 @@
 //! a block does to a listing: records before the Checkpoint are passed over, the Checkpoint begins the listing, and those
 //! behind it go on with it.
 //!
+//! [`analyse`] reads a log that has just been opened: the payload of the block that has the last Checkpoint, those behind
+//! it, and none before it. Of each log for which the disk stands, the listing is that of the whole log. Where the disk
+//! stands for none, `specs/Analysed` says which block and byte is named: the first fault of a payload that is read, or the
+//! last header, where the record that it names isn't kept or is no Checkpoint.
+//!
 //! [`take_block`] takes the payload of one block. Once the block of the last Checkpoint and those behind it are taken, one
 //! after the other ([`next_law`]), the listing is that of the whole log, whatever stands in the blocks before
-//! ([`whole_law`]). A block is refused for want of memory, at the first fault of its payload, or because the record that
-//! the last header names as its Checkpoint is none; the fault names the byte.
+//! ([`whole_law`]).
 #![tactic(auto)]
 
+mod analysing;
+#[cfg(test)]
+mod disk_tests;
 mod laws;
 mod taking;
 #[cfg(test)]
 mod tests;
 
+pub use analysing::analyse;
 pub use laws::{next_law, whole_law};
 pub use taking::{Named, take_block};

@@ -6,7 +6,7 @@ ghost use Rattle.wal_record.specs.Rules.{HasSpelling};
 ghost use Rattle.wal_record.specs.declared.record.Record.{Record};
 ghost use Rattle.log_manager.specs.Payload.{bytes_of};
 ghost use Rattle.log_blocks.specs.declared.layout.TheConstants.{CHECKPOINT_AT};
-ghost use Rattle.log_analysis.specs.Taken.{AreTaken, IsNotTaken, IsNotTakenBehind, IsNotTakenIn, IsTaken, ListsMore};
+ghost use Rattle.log_analysis.specs.Taken.{AreTaken, IsNotTaken, IsNotTakenBehind, IsNotTakenIn, IsOfBlock, IsTaken, ListsMore};
 
 use log_blocks::CHECKPOINT_AT;
 use log_index::Listing;
@@ -23,7 +23,7 @@ pub struct Named {
 }
 
 /// The fault of a header that names a record as its Checkpoint that is none.
-fn no_checkpoint(named: Named) -> Fault
+pub(crate) fn no_checkpoint(named: Named) -> Fault
     ensures { result ≡ faults.LogBad named.block CHECKPOINT_AT }
 {
     Fault::LogBad {
@@ -99,9 +99,10 @@ pub fn take_block(
     payload: &[u8],
     listing: &mut Listing,
 ) -> Result<(), Fault>
-    ensures taken { first + count ≤ 2 ^ 63 → OnOk result (AreTaken named.checkpoint first count payload.now listing.old listing.new) }
+    ensures taken { OnOk result (AreTaken named.checkpoint first count payload.now listing.old listing.new) }
     // Why not, with the byte: also of a log that isn't lawful.
     ensures bad { first + count ≤ 2 ^ 63 → IfErr result (IsNotTakenIn named block first count payload.now) }
+    ensures refused { IfErr result IsOfBlock }
 {
     let mut at = 0;
     for place in 0..count {

@@ -5,7 +5,7 @@ use std::alloc::Global;
 use std::test::Fail;
 
 /// Adds what a word stands for: `8.7` for the number 7 in eight bytes, and so on; other words are hexadecimal.
-fn add_word(alloc: Global, word: &str, out: &mut Vec<u8>) -> Option<()> {
+pub(crate) fn add_word(alloc: Global, word: &str, out: &mut Vec<u8>) -> Option<()> {
     match word.split_once('.') {
         None => out.extend_from_slice(&hex::decode(alloc, word).ok()?).ok(),
         Some((width, number)) => {
@@ -25,7 +25,7 @@ fn bytes_of(alloc: Global, text: &str) -> Option<Vec<u8>> {
 }
 
 /// The last LSN, that of page 1's head, the limit, and whether the transactions 1 and 2 are losers.
-fn text_of(alloc: Global, listing: &Listing) -> Option<String> {
+pub(crate) fn text_of(alloc: Global, listing: &Listing) -> Option<String> {
     format!(in alloc;
         "{} {} {} {} {}",
         listing.last(),
