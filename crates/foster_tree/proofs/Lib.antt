@@ -3,3 +3,5 @@ pub mod Checked
 pub mod Ways
 pub mod Desks
 pub mod Causing
+pub mod Scanning
+pub mod Gathering

@@ -18,17 +18,18 @@ use front::Pass;
 use page_ops::{Entering, Held, Life, Pages, Taken};
 use std::alloc::Global;
 use std::sync::Wait;
-use store_model::{Fault, Key, PageNo};
+use store_model::{Fault, PageNo};
 use wal_record::Entry;
 
-/// The leaf whose own part has the key, in hand, as the journal's log makes it now. It starts again at page 1 after it has
-/// waited for a page, brought one, or found two that don't agree: whoever waits holds none.
+/// The leaf whose own part has the key, in hand, as the journal's log makes it now. Any text may stand for the key, as a
+/// range begins at one. It starts again at page 1 after it has waited for a page, brought one, or found two that don't
+/// agree: whoever waits holds none.
 pub fn find_leaf<N: Life, J: Entering<N>, P: Pages<N, J>, R: Wait>(
     rt: &R,
     alloc: Global,
     pages: &mut P,
     journal: &mut J,
-    key: &Key,
+    key: &[u8],
     pass: &mut Pass<Entry, N>,
 ) -> Result<Held<N>, Fault>
     requires none { (P.desk pages.old).out ≡ 0 }
@@ -58,7 +59,7 @@ fn descend<N: Life, J: Entering<N>, P: Pages<N, J>, R: Wait>(
     alloc: Global,
     pages: &mut P,
     journal: &mut J,
-    key: &Key,
+    key: &[u8],
     root: Held<N>,
     pass: &mut Pass<Entry, N>,
 ) -> Result<Option<Held<N>>, Fault>
@@ -105,7 +106,7 @@ fn step<N: Life, J: Entering<N>, P: Pages<N, J>, R: Wait>(
     alloc: Global,
     pages: &mut P,
     journal: &mut J,
-    key: &Key,
+    key: &[u8],
     held: Held<N>,
     way: Way,
     child: PageNo,
@@ -152,7 +153,7 @@ fn fetch<N: Life, J: Entering<N>, P: Pages<N, J>, R: Wait>(
     alloc: Global,
     pages: &mut P,
     journal: &mut J,
-    key: &Key,
+    key: &[u8],
     held: Held<N>,
     way: Way,
     child: PageNo,

@@ -81,7 +81,7 @@ fn work<N: Life, J: Entering<N>, P: Pages<N, J>, R: Wait>(
         let mut held = take(rt, alloc, pages, journal, page, pass)?;
         let done = purge(rt, alloc, journal, &mut held, pass);
         pages.put_back(rt, &mut Some(held));
-        if done? && found == Some(page) && entered < u64::MAX {
+        if done? && found == page && entered < u64::MAX {
             entered += 1;
         }
     }
@@ -96,18 +96,15 @@ fn leaf_page<N: Life, J: Entering<N>, P: Pages<N, J>, R: Wait>(
     journal: &mut J,
     key: &[u8],
     pass: &mut Pass<Entry, N>,
-) -> Result<Option<PageNo>, Fault>
+) -> Result<PageNo, Fault>
     requires untold { (opening : List Record) → N.opens opening → ⊥ }
     requires none { (P.desk pages.old).out ≡ 0 }
     ensures none { IfOk result (λ page. (P.desk pages.new).out ≡ 0) }
 {
-    let Some(key) = Key::new(key) else {
-        return Ok(None);
-    };
-    let leaf = find_leaf(rt, alloc, pages, journal, &key, pass)?;
+    let leaf = find_leaf(rt, alloc, pages, journal, key, pass)?;
     let page = leaf.page;
     pages.put_back(rt, &mut Some(leaf));
-    Ok(Some(page))
+    Ok(page)
 }
 
 /// A branch with all keys. Its one child is page 2.
