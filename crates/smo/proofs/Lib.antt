@@ -1,0 +1,4 @@
+pub mod Moments
+pub mod Settling
+pub mod PurgedLeaf
+pub mod WrittenLeaf

@@ -1,0 +1,4 @@
+pub mod Asked
+pub mod Settled
+pub mod Purges
+pub mod Writes
