@@ -1,5 +1,10 @@
-pub mod Beginning
+pub mod Commits
+pub mod Committing
+pub mod Declining
+pub mod Ending
 pub mod Entering
+pub mod Living
+pub mod Locking
 pub mod Sizes
 pub mod Starting
 pub mod Writing

@@ -25,7 +25,7 @@ use Rattle.page_ops.specs.Seeing.{IsConsistent}
 use Rattle.page_ops.specs.declared.group.Group.{Group}
 use Rattle.page_ops.specs.declared.group.Said.{Said}
 use Rattle.wal_record.specs.Chains.{head, last, finishes}
-use Rattle.wal_record.specs.History.{life_log}
+use Rattle.wal_record.specs.History.{life_log, phase, phase_step}
 use Rattle.wal_record.specs.Legal.{IsLegal, untold, held}
 use Rattle.wal_record.specs.Locks.{Held, locks_step, taken_locks}
 use Rattle.wal_record.specs.Rules.{HasSpelling, KeepsWrite, is_number, is_lsn_or_none}
@@ -35,8 +35,8 @@ use Rattle.wal_record.specs.declared.record.Record.{Record}
 use Rattle.wal_record.specs.declared.record.Record.TheVariants as kinds
 use Rattle.wal_record.specs.declared.entry.Entry.{Entry}
 use Rattle.wal_record.specs.declared.entry.Entry.TheVariants as entries
-use Rattle.wal_record.proofs.Pushes.{legal_front, log_same, log_more, untold_push, taken_push}
-use Rattle.journal.specs.Kept.{IsKept}
+use Rattle.wal_record.proofs.Pushes.{legal_front, log_same, log_more, phase_push, untold_push, taken_push}
+use Rattle.journal.specs.Kept.{AreRecords}
 use Rattle.journal.specs.Puts.{filled_write, IsNext, WriteFollows}
 
 number_fits : (n : ℕ) → is_number n ≡ true → is_lsn_or_none n ≡ true
@@ -67,16 +67,14 @@ module _ (h : List Entry) (lsn : ℕ) (r : Record) (said : Said) where
       by (kinds.Apply a) is = refl
       by _ is = absurd is
 
--- what is kept, behind the calls
-pub kept_write : {D : Type 0} (opens : List Record → Type 0) (tells : Type 0) (told : D → Kept) (may_leave : D → Kept → Type 0) (h h' : List Entry) (m m' : Managed D) (s s' : Listing) (t : RangeLocks) (tx lsn : ℕ) (r : Record) (said : Said)
-    → IsKept opens tells told may_leave h m s t → h' ≡ h ++ told_entries lsn r said → IsWriteBy tx r → m'.log.ended ≡ m.log.ended
-    → ((opening : List Record) → opens opening → IsLogWith tells told may_leave (life_log opening h ++ r ∷ []) m' s') → IsKept opens tells told may_leave h' m' s' t
-kept_write opens tells told may_leave h h' m m' s s' t tx lsn r said k is write ended records = record {
-  goes = ended ∙ k.goes;
-  records = λ opening stands. subst (λ (l : List Record). IsLogWith tells told may_leave l m' s') (sym (ap (life_log opening) is ∙ log_told h lsn r said opening)) (records opening stands);
-  locks = λ l. subst (λ (ls : List Held). Holds t l ↔ IsAmong (held l.range l.mode) ls) (sym (ap (λ x. taken_locks x l.tx) is ∙ locks_told h lsn r said tx write l.tx)) (k.locks l);
-  losers = k.losers;
-}
+  -- no transaction goes on to another phase
+  pub phases_told : (tx : ℕ) → IsWriteBy tx r → (t : ℕ) → phase (h ++ told_entries lsn r said) t ≡ phase h t
+  phases_told tx write t = ap (λ l. phase l t) two ∙ phase_push (h ++ entries.Rec lsn r ∷ []) answer t ∙ phase_push h (entries.Rec lsn r) t ∙ by r write
+    where
+      by : (r : Record) → IsWriteBy tx r → phase_step t (phase h t) (entries.Rec lsn r) ≡ phase h t
+      by (kinds.Write w) is = refl
+      by (kinds.Apply a) is = refl
+      by _ is = absurd is
 
 -- ---- of one that was asked for
 
@@ -151,9 +149,9 @@ number_next last next lsn is some low at =
     nonzero zero some = absurd (some refl)
     nonzero (suc n) some = omega arith
 
-pub next_of : {D : Type 0} (opens : List Record → Type 0) (tells : Type 0) (told : D → Kept) (may_leave : D → Kept → Type 0) (h : List Entry) (m : Managed D) (s : Listing) (t : RangeLocks) (last lsn : ℕ)
-    → IsKept opens tells told may_leave h m s t → last ≡ m.log.next - 1 → last < 2 ^ 62 → lsn ≡ m.log.next → IsNext opens h lsn
-next_of opens tells told may_leave h m s t last lsn k is low at opening stands = let n = (k.records opening stands).next in (omega (arith, n, at), omega (arith, is, low, at))
+pub next_of : {D : Type 0} (opens : List Record → Type 0) (tells : Type 0) (told : D → Kept) (may_leave : D → Kept → Type 0) (h : List Entry) (m : Managed D) (s : Listing) (last lsn : ℕ)
+    → AreRecords opens tells told may_leave h m s → last ≡ m.log.next - 1 → last < 2 ^ 62 → lsn ≡ m.log.next → IsNext opens h lsn
+next_of opens tells told may_leave h m s last lsn records is low at opening stands = let n = (records opening stands).next in (omega (arith, n, at), omega (arith, is, low, at))
 
 -- the group is asked for with room, so it may follow
 follow_of : (opening : List Record) (h : List Entry) (a : Option PageClaim) (g : Group) (w : Write) (said : Said) (lsn : ℕ) → IsAskable opening h a g → g ≡ record { recs = kinds.Write w ∷ []; said = Some said; room = g.room; lsn = g.lsn }

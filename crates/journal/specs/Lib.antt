@@ -1,2 +1,5 @@
+pub mod Declined
+pub mod Ends
 pub mod Kept
+pub mod Locks
 pub mod Puts

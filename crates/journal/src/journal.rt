@@ -1,38 +1,43 @@
 //! The value behind the lock, and its calls.
-ghost use Rattle.std.specs.Prelude.{◌≡◌, ◌+◌, ◌<◌, ◌≤◌, ◌^◌, ℕ, List, [], ◌∷◌, ◌++◌, length, Some, None, IfSome, IsSome, IfOk, IfErr, OnOk, OnErr, IsTrue};
+ghost use Rattle.std.specs.Prelude.{◌≡◌, ◌+◌, ◌<◌, ◌≤◌, ◌^◌, ℕ, List, [], ◌∷◌, ◌++◌, length, min, true, false, Some, None, IfSome, IfNone, IsSome, IfOk, IfErr, OnOk, OnErr, IsTrue};
 ghost use Rattle.life_history.specs.Kept.{IsOnPage, IsWriteBy, counted_more, told_entries};
 ghost use Rattle.log_manager.specs.Payload.{bytes_of};
 ghost use Rattle.listed_log.specs.Listed.{IsLogWith};
-ghost use Rattle.page_ops.specs.Asking.{HasRoomFor, IsAskable};
-ghost use Rattle.page_ops.specs.Causes.{Ends, FailsToEnter, IsOpen, OrFull, OrTooMany};
+ghost use Rattle.page_ops.specs.Asking.{HasRoomFor, IsAskable, LacksRoomFor, MayBeDeclined};
+ghost use Rattle.page_ops.specs.Causes.{Ends, FailsToEnter, FailsToFlush, NoOther, OrConflict, OrFull, OrTooMany, with_one};
 ghost use Rattle.page_ops.specs.Claims.{Agree, SessionAgrees, session_alone};
-ghost use Rattle.page_ops.specs.Groups.{HasRights, IsGroup};
-ghost use Rattle.page_ops.specs.Outcomes.{EntersGroup, IsAnswer, IsCrowd, IsFilledIn, IsFull, KeepsGroup, KeepsRights, OnEntered, begun};
-ghost use Rattle.page_ops.specs.Seeing.{Enters, IsConsistent, IsMoment, known, of_sessions};
-ghost use Rattle.wal_record.specs.Checkpoints.{limit_of};
+ghost use Rattle.page_ops.specs.Groups.{HasRights, HasSpeaker, IsGroup};
+ghost use Rattle.page_ops.specs.Outcomes.{CommitsOr, EntersGroup, IsAnswer, IsConflict, IsCrowd, IsFilledIn, IsFull, IsGrant, KeepsGroup, KeepsRights, OnEntered, begun, locked, refused};
+ghost use Rattle.page_ops.specs.Seeing.{Enters, IsConsistent, IsMoment, Looks, known, of_sessions};
+ghost use Rattle.store_model.specs.declared.reply.Outcome.TheVariants as outcomes;
 ghost use Rattle.wal_record.specs.History.{life_log};
+ghost use Rattle.wal_record.specs.Legal.{MayDecline, held};
 ghost use Rattle.wal_record.specs.Rules.{HasSpelling, is_number};
-ghost use Rattle.wal_record.specs.Sound.{used};
 ghost use Rattle.wal_record.specs.declared.entry.Entry.{Entry};
 ghost use Rattle.wal_record.specs.declared.record.Record.{Record};
-ghost use Rattle.journal.specs.Kept.{HasNoLosers};
+ghost use Rattle.journal.specs.Declined.{IsDeclined, IsTaken};
+ghost use Rattle.journal.specs.Locks.{HasNoLosers};
 ghost use Rattle.journal.specs.Puts.{EntersWrite, IsNext, WriteFollows};
 
-use crate::filling::{fill, write_of};
+use crate::ends::{check_open, make_room, note_fault, tell_durable};
+use crate::filling::{copy_of_range, copy_of_request, fill, in_range, write_of};
+use crate::taken::Taken;
 use books::{PageRight, SessionRight};
-use front::Pass;
+use front::{Mark, Pass};
 use life_history::{Counts, History};
 use listed_log::ListedLog;
 use media::Disk;
-use page_ops::{Entered, Group, Life, Rights, Said};
-use range_lock::RangeLocks;
+use page_ops::{Committed, Entered, Grant, Group, Life, LogFaults, Rights, Said};
+use range_lock::{LockRefused, RangeLocks};
 use std::alloc::Global;
+use std::cmp::min;
 use std::marker::Model;
-use store_model::{Fault, Lsn, Memory, TxId};
+use std::sync::ledger::Book;
+use store_model::{Fault, KeyRange, Lsn, Memory, Mode, Outcome, Pos, Request, TxId};
 use wal_record::{Entry, Record};
 
 /// The bound of the counters, from which on nothing is begun.
-const MOST: u64 = 1 << 62;
+pub(crate) const MOST: u64 = 1 << 62;
 
 /// The log, the locks and the history of a life. Contracts see it as the history.
 #[derive(Drop)]
@@ -40,10 +45,14 @@ pub struct Journal<'a, L: Disk, N: Life> {
     log: ListedLog<L>,
     locks: RangeLocks,
     history: History<'a, N>,
+    mark: Mark<Entry, N>,
+    // Up to which LSN passes were told that the log is durable.
+    marked: Lsn,
+    faults: Book<LogFaults<N>>,
 }
 
 impl<'a, L: Disk, N: Life> Model for Journal<'a, L, N> {
-    ghost use Rattle.std.specs.Prelude.{List};
+    ghost use Rattle.std.specs.Prelude.{◌≡◌, List};
     ghost use Rattle.wal_record.specs.declared.entry.Entry.{Entry};
     ghost use Rattle.journal.specs.Kept.{IsKept};
 
@@ -51,15 +60,23 @@ impl<'a, L: Disk, N: Life> Model for Journal<'a, L, N> {
 
     ghost view = { λ j. j.history };
 
-    ghost invariant = { λ j. IsKept N.opens L.tells L.told L.may_leave j.history j.log.log j.log.listing j.locks };
+    ghost invariant = { λ j. (j.mark ≡ j.marked) × IsKept N.opens L.tells L.told L.may_leave j.history j.log.log j.log.listing j.locks j.marked j.faults.total };
 }
 
 impl<'a, L: Disk, N: Life> Journal<'a, L, N> {
     /// The journal of a life that has just begun, with a log that hasn't ended and that has the records of the opening log,
-    /// among which there are no losers.
-    pub fn start(alloc: Global, log: ListedLog<L>, history: History<'a, N>) -> Journal<'a, L, N>
+    /// among which there are no losers. No fault of the disk was counted, and no pass was told what is durable.
+    pub fn start(
+        alloc: Global,
+        log: ListedLog<L>,
+        history: History<'a, N>,
+        mark: Mark<Entry, N>,
+        faults: Book<LogFaults<N>>,
+    ) -> Journal<'a, L, N>
         requires goes { log.log.log.ended ≡ None }
         requires begins { history ≡ [] }
+        requires fresh { (mark ≡ 0) × (faults.total ≡ 0) }
+        requires few { (opening : List Record) → N.opens opening → length opening ≤ 2 ^ 62 }
         requires records { (opening : List Record) → N.opens opening → IsLogWith L.tells L.told L.may_leave opening log.log log.listing }
         requires losers { HasNoLosers N.opens }
         ensures { result ≡ [] }
@@ -68,6 +85,9 @@ impl<'a, L: Disk, N: Life> Journal<'a, L, N> {
             log,
             locks: RangeLocks::new(alloc),
             history,
+            mark,
+            marked: 0,
+            faults,
         }
     }
 
@@ -78,9 +98,29 @@ impl<'a, L: Disk, N: Life> Journal<'a, L, N> {
         ensures counts { counts.new ≡ counts.old }
         ensures pass { pass.new.log ≡ self.old }
         ensures seen { Enters N.opens N.entries N.session_entries (known counts.old pass.old rights.old) [] (known counts.new pass.new rights.new) }
-        ensures fresh { IsOpen counts.old }
     {
         self.history.see(rights, pass, counts);
+    }
+
+    /// As `Journaling::session`. It wants memory where all numbers are given.
+    pub fn session(
+        &mut self,
+        pass: &mut Pass<Entry, N>,
+        counts: &mut Counts<N>,
+    ) -> Result<SessionRight<N>, Fault>
+        ensures seen { Looks N.opens N.entries N.session_entries (record counts.old { made = counts.new.made }) pass.old counts.new pass.new }
+        ensures made { counts.new.made ≡ with_one counts.old.made result }
+        ensures new { IfOk result (λ s. (s.entries ≡ 0) × (s.tx ≡ 0) × SessionAgrees pass.new.log s) }
+        ensures refused { IfErr result (FailsToEnter NoOther) }
+        ensures ends { Ends N.opens N.log_faults N.made counts.old counts.new pass.new.log result }
+    {
+        match check_open(&self.log, &mut self.faults, counts) {
+            Ok(()) => self.history.session(pass, counts),
+            Err(fault) => {
+                self.history.look(pass, counts);
+                Err(fault)
+            }
+        }
     }
 
     /// As `Journaling::begin`. It makes the room in the log that the commit needs.
@@ -97,38 +137,225 @@ impl<'a, L: Disk, N: Life> Journal<'a, L, N> {
         ensures same { OnErr result (s.new ≡ s.old) }
         ensures crowd { IfErr result (IsCrowd pass.new.log) }
         ensures refused { IfErr result (FailsToEnter OrTooMany) }
-        ensures fresh { IsOpen counts.old × IsOpen counts.new }
+        ensures ends { Ends N.opens N.log_faults N.made counts.old counts.new pass.new.log result }
     {
-        match self.log.reserve_commit() {
+        match make_room(&mut self.log, &mut self.faults, counts) {
             Ok(()) => self.history.begin(s, pass, counts),
-            Err(_) => {
+            Err(fault) => {
                 self.history.watch_session(s, pass, counts);
-                Err(Fault::Memory)
+                Err(fault)
             }
         }
     }
 
-    /// Whether there is room for a write more and a page.
-    fn has_room(&self) -> bool
-        ensures { IsTrue result → (opening : List Record) → N.opens opening → used (life_log opening self.now) + 2 ≤ limit_of (life_log opening self.now) }
+    /// As `Journaling::lock`. It wants memory where the history has 2^62 entries.
+    pub fn lock(
+        &mut self,
+        s: &mut SessionRight<N>,
+        range: &KeyRange,
+        mode: Mode,
+        pass: &mut Pass<Entry, N>,
+        counts: &mut Counts<N>,
+    ) -> Result<Grant, Fault>
+        requires active { 0 < s.old.tx }
+        ensures entered { Enters N.opens N.entries N.session_entries (known counts.old pass.old (session_alone s.old)) (locked s.old.tx range.now mode result) (known counts.new pass.new (session_alone s.new)) }
+        ensures right { s.new ≡ record { session = s.old.session; entries = s.old.entries + length (locked s.old.tx range.now mode result); tx = s.old.tx } }
+        ensures grant { IfOk result (IsGrant N.opens pass.new.log s.old.tx (held range.now mode)) }
+        ensures conflict { IfErr result (IsConflict N.opens pass.new.log (held range.now mode)) }
+        ensures refused { IfErr result (FailsToEnter OrConflict) }
+        ensures ends { Ends N.opens N.log_faults N.made counts.old counts.new pass.new.log result }
     {
-        let listing = self.log.listing();
-        let used = (listing.pages() as u64).saturating_add(listing.pending());
-        used.saturating_add(2) <= u64::from(listing.limit())
+        self.history.watch_session(s, pass, counts);
+        check_open(&self.log, &mut self.faults, counts)?;
+        if self.history.length() >= MOST {
+            return Err(Fault::Memory);
+        }
+        let tx = s.tx();
+        let asked = copy_of_range(range)?;
+        match self.locks.acquire(tx, range, mode) {
+            Ok(()) => {
+                let entry = Entry::Lock {
+                    tx,
+                    range: asked,
+                    mode,
+                };
+                self.history.enter_own(&entry, s, pass, counts);
+                Ok(Grant::Held(self.history.length()))
+            }
+            Err(
+                LockRefused::Overlap {
+                    holder,
+                    range: first,
+                },
+            ) => {
+                let entry = Entry::Refused {
+                    tx,
+                    range: asked,
+                    mode,
+                    holder,
+                };
+                self.history.enter_own(&entry, s, pass, counts);
+                Err(Fault::Conflict {
+                    holder,
+                    range: first,
+                    at: self.history.length(),
+                })
+            }
+            Err(LockRefused::Memory) => Err(Fault::Memory),
+        }
     }
 
-    /// There is the room that the group asks for, or none.
-    fn fits(&self, group: &Group) -> Result<(), Memory>
-        requires told { IsSome group.now.said }
-        ensures { OnOk result ((opening : List Record) → N.opens opening → HasRoomFor opening self.now group.now) }
+    /// As `Journaling::refuse`. It wants memory where the history has 2^62 entries.
+    pub fn refuse(
+        &mut self,
+        s: &mut SessionRight<N>,
+        request: Request,
+        pass: &mut Pass<Entry, N>,
+        counts: &mut Counts<N>,
+    ) -> Result<Pos, Fault>
+        requires lawful { (opening : List Record) (h : List Entry) → N.opens opening → IsMoment N.opens pass.old.log (session_alone s.old) h → MayDecline opening h s.old.session s.old.tx request outcomes.OpRefused }
+        ensures entered { Enters N.opens N.entries N.session_entries (known counts.old pass.old (session_alone s.old)) (refused s.old.session s.old.tx request result) (known counts.new pass.new (session_alone s.new)) }
+        ensures right { s.new ≡ record { session = s.old.session; entries = s.old.entries + length (refused s.old.session s.old.tx request result); tx = s.old.tx } }
+        ensures place { IfOk result (λ pos. pos ≡ length pass.new.log) }
+        ensures refused { IfErr result (FailsToEnter NoOther) }
+        ensures ends { Ends N.opens N.log_faults N.made counts.old counts.new pass.new.log result }
     {
-        match group.room {
-            true => match self.has_room() {
-                true => Ok(()),
-                false => Err(Memory),
-            },
-            false => Ok(()),
+        self.history.watch_session(s, pass, counts);
+        check_open(&self.log, &mut self.faults, counts)?;
+        let (session, tx) = (s.session(), s.tx());
+        if self.history.length() >= MOST || tx == 0 {
+            return Err(Fault::Memory);
         }
+        let entry = Entry::Declined {
+            session,
+            tx,
+            request,
+            why: Outcome::OpRefused,
+        };
+        self.history.enter_own(&entry, s, pass, counts);
+        Ok(self.history.length())
+    }
+
+    /// As `Journaling::commit`. It takes no memory: the room was made as the transaction began.
+    pub fn commit(
+        &mut self,
+        s: &mut SessionRight<N>,
+        pass: &mut Pass<Entry, N>,
+        counts: &mut Counts<N>,
+    ) -> Result<Committed, Fault>
+        requires active { 0 < s.old.tx }
+        ensures entered { CommitsOr N.opens N.entries N.session_entries s.old result (known counts.old pass.old (session_alone s.old)) (known counts.new pass.new (session_alone s.new)) }
+        ensures right { OnOk result (s.new ≡ record { session = s.old.session; entries = s.old.entries + 2; tx = 0 }) }
+        ensures holder { s.new.session ≡ s.old.session }
+        ensures refused { IfErr result FailsToFlush }
+        ensures ends { Ends N.opens N.log_faults N.made counts.old counts.new pass.new.log result }
+    {
+        self.history.watch_session(s, pass, counts);
+        check_open(&self.log, &mut self.faults, counts)?;
+        let tx = s.tx();
+        let prev = in_range(self.log.last_of(tx));
+        let lsn = self.log.commit(tx, prev);
+        self.history.enter_commit(lsn, prev, s, counts);
+        self.locks.release_all(tx);
+        if self.log.flush_to(lsn).is_err() {
+            note_fault(&self.log, &mut self.faults, counts);
+            self.history.look(pass, counts);
+            return Err(Fault::LogFault);
+        }
+        self.history.acknowledge(s, counts);
+        self.history.look(pass, counts);
+        tell_durable(
+            &self.history.ground().board,
+            &mut self.mark,
+            &mut self.marked,
+            self.log.durable(),
+            pass,
+        );
+        Ok(Committed {
+            pos: self.history.length(),
+            number: self.log.listing().commits(),
+        })
+    }
+
+    /// As `Entering::flush`.
+    pub fn flush(
+        &mut self,
+        lsn: Lsn,
+        pass: &mut Pass<Entry, N>,
+        counts: &mut Counts<N>,
+    ) -> Result<(), Fault>
+        ensures seen { Looks N.opens N.entries N.session_entries counts.old pass.old counts.new pass.new }
+        ensures durable { OnOk result ((opening : List Record) → N.opens opening → min lsn (length (life_log opening pass.new.log)) ≤ pass.new.durable) }
+        ensures refused { IfErr result FailsToFlush }
+        ensures ends { Ends N.opens N.log_faults N.made counts.old counts.new pass.new.log result }
+    {
+        self.history.look(pass, counts);
+        check_open(&self.log, &mut self.faults, counts)?;
+        let upto = min(lsn, self.log.last());
+        if upto == 0 {
+            return Ok(());
+        }
+        if self.log.flush_to(upto).is_err() {
+            note_fault(&self.log, &mut self.faults, counts);
+            return Err(Fault::LogFault);
+        }
+        tell_durable(
+            &self.history.ground().board,
+            &mut self.mark,
+            &mut self.marked,
+            self.log.durable(),
+            pass,
+        );
+        Ok(())
+    }
+
+    /// As `Journaling::length`.
+    pub fn length(&mut self, pass: &mut Pass<Entry, N>, counts: &mut Counts<N>) -> Pos
+        ensures counts { counts.new ≡ counts.old }
+        ensures seen { Looks N.opens N.entries N.session_entries counts.old pass.old counts.new pass.new }
+        ensures count { result ≡ length pass.new.log }
+    {
+        self.history.look(pass, counts);
+        self.history.length()
+    }
+
+    /// As `Journaling::ended`.
+    pub fn ended(&mut self, counts: &mut Counts<N>) -> Option<Lsn>
+        ensures same { self.new ≡ self.old }
+        ensures known { counts.new ≡ record counts.old { ended = result } }
+        ensures still { IfSome counts.old.ended (λ at. result ≡ Some at) }
+        ensures none { IfNone result (counts.old.log_faults.amount ≡ 0) }
+    {
+        let _ = check_open(&self.log, &mut self.faults, counts);
+        counts.ended()
+    }
+
+    /// How many pages and pending writes there are. It wants memory where these are more than a store can have.
+    fn taken(&self) -> Result<Taken, Memory>
+        ensures { IfOk result (IsTaken N.opens self.now) }
+    {
+        let listing = self.log.listing();
+        let Ok(pages) = u32::try_from(listing.pages()) else {
+            return Err(Memory);
+        };
+        let Ok(pending) = u32::try_from(listing.pending()) else {
+            return Err(Memory);
+        };
+        Ok(Taken { pages, pending })
+    }
+
+    /// Whether there is the room that the group asks for.
+    fn has_room(&self, group: &Group, taken: &Taken) -> bool
+        requires { IsTaken N.opens self.now taken.now }
+        ensures room { IsTrue result → (opening : List Record) → N.opens opening → HasRoomFor opening self.now group.now }
+        ensures none { result ≡ false → (group.now.room ≡ true) × ((opening : List Record) → N.opens opening → LacksRoomFor opening self.now group.now) }
+    {
+        let needed = match &group.said {
+            Some(_) => 2,
+            None => 3,
+        };
+        let used = u64::from(taken.pages) + u64::from(taken.pending);
+        !group.room || used + needed <= u64::from(self.log.listing().limit())
     }
 
     /// Enters a write that is filled in, and its answer, in the log and in the history.
@@ -183,12 +410,12 @@ impl<'a, L: Disk, N: Life> Journal<'a, L, N> {
         requires agrees { Agree N.opens self.old rights.old }
         requires consistent { IsConsistent N.opens self.old }
         requires askable { (opening : List Record) → N.opens opening → IsAskable opening self.old rights.old.a group.old }
+        requires room { (opening : List Record) → N.opens opening → HasRoomFor opening self.old group.old }
         ensures none { OnErr result ((self.new ≡ self.old) × (rights.new ≡ rights.old) × (counts.new ≡ counts.old)) }
         ensures group { OnErr result (group.new ≡ group.old) }
         ensures entered { OnOk result (EntersWrite group.old group.new rights.old rights.new self.old self.new) }
         ensures counts { OnOk result (counts.new ≡ counted_more counts.old 2) }
         ensures counted { OnOk result (of_sessions self.new ≡ of_sessions self.old + 2) }
-        ensures room { OnOk result ((opening : List Record) → N.opens opening → HasRoomFor opening self.old group.old) }
     {
         let write = write_of(group)?;
         let Some(said) = &group.said else {
@@ -211,7 +438,6 @@ impl<'a, L: Disk, N: Life> Journal<'a, L, N> {
         if prev >= MOST {
             return Err(Memory);
         }
-        self.fits(group)?;
         let filled = fill(write, prev, page.lsn());
         let Some(mut s) = rights.s.take() else {
             unreachable!()
@@ -224,8 +450,56 @@ impl<'a, L: Disk, N: Life> Journal<'a, L, N> {
         Ok(())
     }
 
-    /// As `Entering::enter`. It knows the group of a write that leaves its leaf whole, with its answer. At every other one,
-    /// and where there is no room in the store, it says that it wants memory.
+    /// There is no room for the write of the group: enters that its request is declined, where it has one.
+    fn decline(
+        &mut self,
+        group: &Group,
+        taken: &Taken,
+        rights: &mut Rights<N>,
+        pass: &mut Pass<Entry, N>,
+        counts: &mut Counts<N>,
+    ) -> Result<Entered, Fault>
+        requires seen { pass.old.log ≡ self.old }
+        requires taken { IsTaken N.opens self.old taken.now }
+        requires asked { group.now.room ≡ true }
+        requires lacks { (opening : List Record) → N.opens opening → LacksRoomFor opening self.old group.now }
+        requires declines { (opening : List Record) → N.opens opening → MayBeDeclined opening self.old group.now.said }
+        requires speaker { HasSpeaker rights.old.s group.now.said }
+        requires agrees { Agree N.opens self.old rights.old }
+        requires consistent { IsConsistent N.opens self.old }
+        ensures declined { IsDeclined N.opens group.now result rights.old rights.new counts.old counts.new self.old self.new }
+        ensures seen { pass.new.log ≡ self.new }
+        ensures durable { pass.old.durable ≤ pass.new.durable }
+    {
+        let Some(said) = &group.said else {
+            return Ok(Entered::NoRoom);
+        };
+        if self.history.length() >= MOST || said.tx == 0 {
+            return Err(Fault::Memory);
+        }
+        let entry = Entry::Declined {
+            session: said.session,
+            tx: said.tx,
+            request: copy_of_request(&said.request)?,
+            why: Outcome::Full {
+                pages: taken.pages,
+                pending: taken.pending,
+            },
+        };
+        let Some(mut s) = rights.s.take() else {
+            unreachable!()
+        };
+        self.history.enter_own(&entry, &mut s, pass, counts);
+        rights.s = Some(s);
+        Err(Fault::Full {
+            pages: taken.pages,
+            pending: taken.pending,
+            at: self.history.length(),
+        })
+    }
+
+    /// As `Entering::enter`. It knows the group of a write that leaves its leaf whole, with its answer. At every other one
+    /// it says that it wants memory, or that there is no room, where that was asked for.
     pub fn enter(
         &mut self,
         alloc: Global,
@@ -247,6 +521,13 @@ impl<'a, L: Disk, N: Life> Journal<'a, L, N> {
         ensures ends { Ends N.opens N.log_faults N.made counts.old counts.new pass.new.log result }
     {
         self.history.see(rights, pass, counts);
+        check_open(&self.log, &mut self.faults, counts)?;
+        let taken = self.taken()?;
+        if !self.has_room(group, &taken) {
+            let declined = self.decline(group, &taken, rights, pass, counts);
+            self.history.see(rights, pass, counts);
+            return declined;
+        }
         match self.write(alloc, group, rights, counts) {
             Ok(()) => {
                 self.history.see(rights, pass, counts);

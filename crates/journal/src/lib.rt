@@ -9,20 +9,31 @@
 //! - The history (`life_history`) has the entries, the books of pages and sessions, and the ledgers.
 //!
 //! The model is the history. What holds whenever the lock is free is `IsKept` (`specs/Kept`): for each log with which the
-//! life may have begun, the log and its listing are those of the life, and the table holds exactly the locks that were taken
-//! and not released. What each of the three keeps of itself is its own invariant. What is promised so far:
+//! life may have begun, the log and its listing are those of the life; the table holds exactly the locks that were taken
+//! and not released; there is room for the commit of each live transaction; what passes were told to be durable is; and as
+//! long as the log hasn't ended, no commit waits for its acknowledgement and no fault was counted. What each of the three
+//! keeps of itself is its own invariant. What is promised so far:
 //!
 //! 1. [`Journal::begin`] begins a transaction, and makes the room in the log that its commit needs.
-//! 2. [`Journal::enter`] enters the group of a write that leaves its leaf whole, in any life, told or not: it fills in the
-//!    LSNs before it, adds it to the log and to the history in one step, and raises the rights. Where there is no room, in
-//!    memory or in the store, nothing changes.
+//! 2. [`Journal::lock`] locks a range exactly where no other transaction's lock conflicts. Else it enters the refusal, and
+//!    tells the least holder and the first of its conflicting ranges.
+//! 3. [`Journal::enter`] enters the group of a write that leaves its leaf whole, in any life, told or not: it fills in the
+//!    LSNs before it, adds it to the log and to the history in one step, and raises the rights. Where a group asks for room
+//!    in the store and there is none, its request is entered as declined, and the answer is `Full`; a group without a
+//!    request isn't entered.
+//! 4. [`Journal::commit`] takes no memory. It enters the Commit, gives the locks back, makes the log durable up to it, and
+//!    only then enters that it is acknowledged. [`Journal::flush`] makes the log durable alone.
+//! 5. [`Journal::refuse`] enters that a request is declined, since its operator gives no value.
+//! 6. A fault of the log disk ends the life. From then on each call that enters or flushes tells that, always with the same
+//!    LSN, and enters nothing.
 //!
-//! A group that isn't built yet, or for whose write there is no room in the store, is refused as one that wants memory,
-//! which the traits allow. Not built: giving locks, groups of other kinds, answers `Full` and `Late`, lives that begin with
-//! losers, commits and flushes.
+//! A group that isn't built yet is refused as one that wants memory, which the traits allow. Not built: groups of other
+//! kinds, answers `Late`, lives that begin with losers.
 #![tactic(auto)]
 
+mod ends;
 mod filling;
 mod journal;
+mod taken;
 
 pub use journal::Journal;

@@ -6,9 +6,9 @@ use Rattle.std.proofs.lemmas.Bool.{eqb-true}
 use Rattle.std.proofs.lemmas.List.Elements.{filter-append}
 use Rattle.std.proofs.lemmas.List.Folds.{list_any-append}
 use Rattle.store_model.proofs.Bools.{or_left, or_right, and_true}
-use Rattle.wal_record.specs.History.{Phase, Live, Committed, Acknowledged, is_live, Beginning}
+use Rattle.wal_record.specs.History.{Phase, Live, Acknowledged, is_live, Beginning}
 use Rattle.log_laws.proofs.Central.{eqb_differ, eqb_self, differ}
-use Rattle.life_history.specs.Kept.{times, is_beginning, is_settled, AreBegun}
+use Rattle.life_history.specs.Kept.{times, is_beginning, is_started, AreBegun}
 
 abbrev live_in : (ℕ → Phase) → List Beginning → ℕ
 live_in phases bs = length (filter (λ (b : Beginning). is_live (phases b.tx)) bs)
@@ -101,6 +101,13 @@ module _ (old new : ℕ → Phase) (t : ℕ) (same : (x : ℕ) → x ≢ t → n
           ∙ counts (is_live (old b.tx)) n
           ∙ ap (λ (p : Phase). length (cond (is_live p) (b ∷ news) news) + length own) (sym (same b.tx (differ b.tx t e)))
 
+-- as many are live by phases that tell the same of each
+live_same : (old new : ℕ → Phase) → ((x : ℕ) → is_live (new x) ≡ is_live (old x)) → (bs : List Beginning) → live_in new bs ≡ live_in old bs
+live_same old new same [] = refl
+live_same old new same (b ∷ bs) =
+    ap (λ (c : Bool). length (cond c (b ∷ filter (λ (x : Beginning). is_live (new x.tx)) bs) (filter (λ (x : Beginning). is_live (new x.tx)) bs))) (same b.tx)
+    ∙ both_more b (is_live (old b.tx)) _ _ (live_same old new same bs)
+
 -- ---- a beginning, and an end
 
 cond_true : {A : Type 0} (c : Bool) (x y : A) → c ≡ true → cond c x y ≡ x
@@ -115,68 +122,84 @@ at_most : (c : Bool) (n : ℕ) → n ≤ 1 → (c ≡ true → n ≡ 0) → n + 
 at_most true n few none = let z = none refl in omega (arith, z)
 at_most false n few none = omega (arith, few)
 
-settled_more : (c : Bool) (n : ℕ) (p : Phase) → (0 < n → is_settled p ≡ true) → 0 < n + cond c 1 0 → is_settled (cond c Live p) ≡ true
-settled_more true n p before some = refl
-settled_more false n p before some = before (omega (arith, some))
+started_more : (c : Bool) (n : ℕ) (p : Phase) → (0 < n → is_started p ≡ true) → 0 < n + cond c 1 0 → is_started (cond c Live p) ≡ true
+started_more true n p before some = refl
+started_more false n p before some = before (omega (arith, some))
 
-settled_over : (c : Bool) (p : Phase) → is_settled p ≡ true → is_settled (cond c Acknowledged (cond c Committed p)) ≡ true
-settled_over true p before = refl
-settled_over false p before = before
+started_on : (c : Bool) (next p : Phase) → is_started next ≡ true → is_started p ≡ true → is_started (cond c next p) ≡ true
+started_on true next p new before = new
+started_on false next p new before = before
 
-module _ (bs : List Beginning) (phases : ℕ → Phase) (begun : ℕ → Option ℕ) (next live : ℕ) (k : AreBegun bs phases begun next live) where
+module _ (bs : List Beginning) (phases : ℕ → Phase) (begun : ℕ → Option ℕ) (number live : ℕ) (k : AreBegun bs phases begun number live) where
   -- two sessions own no transaction both
   pub one_owner : (s m t : ℕ) → s ≢ m → list_any (is_beginning s t) bs ≡ true → list_any (is_beginning m t) bs ≡ true → ⊥
   one_owner s m t apart o other = let two = two_times s m t bs apart o other in let one = k.once t in absurd (omega (arith, two, one))
 
-  -- the next one isn't yet owned
-  pub not_next : (s t : ℕ) → begun s ≡ Some t → next ≢ t
+  -- the number one isn't yet owned
+  pub not_next : (s t : ℕ) → begun s ≡ Some t → number ≢ t
   not_next s t is same = let one = own_time s t bs (k.owner s t is) in let none = k.below t (omega (arith, same)) in absurd (omega (arith, one, none))
 
-  pub begun_began : (s : ℕ) → next ≤ 2 ^ 62 → live < 64
-      → AreBegun (bs ++ record { session = s; tx = next } ∷ []) (λ t. cond (eqb next t) Live (phases t)) (λ x. cond (eqb s x) (Some next) (begun x)) (next + 1) (live + 1)
+  pub begun_began : (s : ℕ) → number ≤ 2 ^ 62 → live < 64
+      → AreBegun (bs ++ record { session = s; tx = number } ∷ []) (λ t. cond (eqb number t) Live (phases t)) (λ x. cond (eqb s x) (Some number) (begun x)) (number + 1) (live + 1)
   begun_began s low few =
-      let new : Beginning = record { session = s; tx = next } in
-      let none : times next bs ≡ 0 = k.below next (omega arith) in
-      let none_at : (t : ℕ) → eqb next t ≡ true → times t bs ≡ 0 = λ t e. ap (λ (x : ℕ). times x bs) (sym (eqb-true next t e)) ∙ none in
+      let new : Beginning = record { session = s; tx = number } in
+      let none : times number bs ≡ 0 = k.below number (omega arith) in
+      let none_at : (t : ℕ) → eqb number t ≡ true → times t bs ≡ 0 = λ t e. ap (λ (x : ℕ). times x bs) (sym (eqb-true number t e)) ∙ none in
       record {
-        once = λ t. subst (λ (n : ℕ). n ≤ 1) (sym (times_push t bs new)) (at_most (eqb next t) (times t bs) (k.once t) (none_at t));
-        below = λ t above. times_push t bs new ∙ ap (λ (n : ℕ). n + cond (eqb next t) 1 0) (k.below t (omega (arith, above))) ∙ ap (λ (c : Bool). 0 + cond c 1 0) (eqb_differ next t (λ same. absurd (omega (arith, above, same))));
-        small = λ t above. times_push t bs new ∙ ap (λ (n : ℕ). n + cond (eqb next t) 1 0) (k.small t above) ∙ ap (λ (c : Bool). 0 + cond c 1 0) (eqb_differ next t (λ same. absurd (omega (arith, above, same, low))));
-        settled = λ t some. settled_more (eqb next t) (times t bs) (phases t) (k.settled t) (subst (λ (n : ℕ). 0 < n) (times_push t bs new) some);
+        once = λ t. subst (λ (n : ℕ). n ≤ 1) (sym (times_push t bs new)) (at_most (eqb number t) (times t bs) (k.once t) (none_at t));
+        below = λ t above. times_push t bs new ∙ ap (λ (n : ℕ). n + cond (eqb number t) 1 0) (k.below t (omega (arith, above))) ∙ ap (λ (c : Bool). 0 + cond c 1 0) (eqb_differ number t (λ same. absurd (omega (arith, above, same))));
+        small = λ t above. times_push t bs new ∙ ap (λ (n : ℕ). n + cond (eqb number t) 1 0) (k.small t above) ∙ ap (λ (c : Bool). 0 + cond c 1 0) (eqb_differ number t (λ same. absurd (omega (arith, above, same, low))));
+        started = λ t some. started_more (eqb number t) (times t bs) (phases t) (k.started t) (subst (λ (n : ℕ). 0 < n) (times_push t bs new) some);
         owner = owner;
         counted =
-            let grown : live_in (λ t. cond (eqb next t) Live (phases t)) (bs ++ new ∷ []) ≡ live_in (λ t. cond (eqb next t) Live (phases t)) bs + 1 =
-            live_push (λ t. cond (eqb next t) Live (phases t)) bs new ∙ ap (λ (c : Bool). live_in (λ t. cond (eqb next t) Live (phases t)) bs + cond (is_live (cond c Live (phases next))) 1 0) (eqb_self next) in
-            let same = live_apart phases (λ t. cond (eqb next t) Live (phases t)) next (λ x apart. ap (λ (c : Bool). cond c Live (phases x)) (eqb_differ next x (λ e. apart (sym e)))) bs none in
+            let grown : live_in (λ t. cond (eqb number t) Live (phases t)) (bs ++ new ∷ []) ≡ live_in (λ t. cond (eqb number t) Live (phases t)) bs + 1 =
+            live_push (λ t. cond (eqb number t) Live (phases t)) bs new ∙ ap (λ (c : Bool). live_in (λ t. cond (eqb number t) Live (phases t)) bs + cond (is_live (cond c Live (phases number))) 1 0) (eqb_self number) in
+            let same = live_apart phases (λ t. cond (eqb number t) Live (phases t)) number (λ x apart. ap (λ (c : Bool). cond c Live (phases x)) (eqb_differ number x (λ e. apart (sym e)))) bs none in
             let before = k.counted in
             omega (arith, grown, same, before);
         most = omega (arith, few);
       }
     where
-      owner : (x t : ℕ) → cond (eqb s x) (Some next) (begun x) ≡ Some t → IsTrue (list_any (is_beginning x t) (bs ++ record { session = s; tx = next } ∷ []))
-      owner x t is = list_any-append (is_beginning x t) bs (record { session = s; tx = next } ∷ []) ∙ by (eqb s x) refl is
+      owner : (x t : ℕ) → cond (eqb s x) (Some number) (begun x) ≡ Some t → IsTrue (list_any (is_beginning x t) (bs ++ record { session = s; tx = number } ∷ []))
+      owner x t is = list_any-append (is_beginning x t) bs (record { session = s; tx = number } ∷ []) ∙ by (eqb s x) refl is
         where
-          by : (c : Bool) → eqb s x ≡ c → cond c (Some next) (begun x) ≡ Some t → (list_any (is_beginning x t) bs || list_any (is_beginning x t) (record { session = s; tx = next } ∷ [])) ≡ true
+          by : (c : Bool) → eqb s x ≡ c → cond c (Some number) (begun x) ≡ Some t → (list_any (is_beginning x t) bs || list_any (is_beginning x t) (record { session = s; tx = number } ∷ [])) ≡ true
           by true e is =
-              let here : eqb next t ≡ true = subst (λ (n : ℕ). eqb next n ≡ true) (cc is) (eqb_self next) in
-              or_right (list_any (is_beginning x t) bs) _ (or_left (eqb s x && eqb next t) false (and_true (eqb s x) (eqb next t) e here))
+              let here : eqb number t ≡ true = subst (λ (n : ℕ). eqb number n ≡ true) (cc is) (eqb_self number) in
+              or_right (list_any (is_beginning x t) bs) _ (or_left (eqb s x && eqb number t) false (and_true (eqb s x) (eqb number t) e here))
           by false e is = or_left (list_any (is_beginning x t) bs) _ (k.owner x t is)
 
-  pub begun_over : (t left : ℕ) → phases t ≡ Live → times t bs ≡ 1 → left + 1 ≡ live → AreBegun bs (λ x. cond (eqb t x) Acknowledged (cond (eqb t x) Committed (phases x))) begun next left
-  begun_over t left live_now one less = record {
+  -- one that was live is over, or as good as over
+  pub begun_over : (t left : ℕ) (next : Phase) → is_started next ≡ true → is_live next ≡ false → phases t ≡ Live → times t bs ≡ 1 → left + 1 ≡ live → AreBegun bs (λ x. cond (eqb t x) next (phases x)) begun number left
+  begun_over t left next started over live_now one less = record {
     once = k.once;
     below = k.below;
     small = k.small;
-    settled = λ x some. settled_over (eqb t x) (phases x) (k.settled x some);
+    started = λ x some. started_on (eqb t x) next (phases x) started (k.started x some);
     owner = k.owner;
-    counted = let n = over t live_now in let before = k.counted in omega (arith, n, before, one, less);
+    counted =
+        let n = live_over phases (λ x. cond (eqb t x) next (phases x)) t (λ x apart. ap (λ (c : Bool). cond c next (phases x)) (eqb_differ t x (λ e. apart (sym e)))) live_now
+        (ap (λ (c : Bool). is_live (cond c next (phases t))) (eqb_self t) ∙ over) bs in
+        let before = k.counted in
+        omega (arith, n, before, one, less);
     most = let before = k.most in omega (arith, before, less);
   }
+
+  -- one that wasn't live isn't so afterwards
+  pub begun_on : (t : ℕ) (next : Phase) → is_started next ≡ true → is_live next ≡ false → is_live (phases t) ≡ false → AreBegun bs (λ x. cond (eqb t x) next (phases x)) begun number live
+  begun_on t next started over before = record {
+    once = k.once;
+    below = k.below;
+    small = k.small;
+    started = λ x some. started_on (eqb t x) next (phases x) started (k.started x some);
+    owner = k.owner;
+    counted = k.counted ∙ sym (live_same phases (λ x. cond (eqb t x) next (phases x)) (λ x. same (eqb t x) x refl) bs);
+    most = k.most;
+  }
     where
-      over : (t : ℕ) → phases t ≡ Live → live_in phases bs ≡ live_in (λ x. cond (eqb t x) Acknowledged (cond (eqb t x) Committed (phases x))) bs + times t bs
-      over t live_now =
-          live_over phases (λ x. cond (eqb t x) Acknowledged (cond (eqb t x) Committed (phases x))) t (λ x apart. ap (λ (c : Bool). cond c Acknowledged (cond c Committed (phases x))) (eqb_differ t x (λ e. apart (sym e))))
-          live_now (ap (λ (c : Bool). is_live (cond c Acknowledged (cond c Committed (phases t)))) (eqb_self t)) bs
+      same : (c : Bool) (x : ℕ) → eqb t x ≡ c → is_live (cond c next (phases x)) ≡ is_live (phases x)
+      same true x e = over ∙ sym before ∙ ap (λ (y : ℕ). is_live (phases y)) (eqb-true t x e)
+      same false x e = refl
 
   -- a live one is counted
   pub some_live : (t : ℕ) → phases t ≡ Live → times t bs ≡ 1 → 1 ≤ live

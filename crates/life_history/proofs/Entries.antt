@@ -11,7 +11,7 @@ use Rattle.books.specs.Rights.{PageClaim, page_entry, SessionClaim, session_entr
 use Rattle.books.proofs.Keeping.{entry_of-other, entry_of-replaced}
 use Rattle.wal_record.specs.Books.{page_book, session_entries}
 use Rattle.wal_record.specs.Chains.{head, names}
-use Rattle.wal_record.specs.History.{life_log, is_owner}
+use Rattle.wal_record.specs.History.{life_log, is_owner, live_count}
 use Rattle.wal_record.specs.declared.record.Record.{Record}
 use Rattle.wal_record.specs.declared.record.Record.TheVariants as kinds
 use Rattle.wal_record.specs.declared.entry.Entry.{Entry}
@@ -27,7 +27,7 @@ use Rattle.page_ops.specs.Seeing.{Account, known, Keeps, Enters, IsMoment, IsCon
 use Rattle.page_ops.specs.declared.group.Said.{Said}
 use Rattle.life_history.specs.Kept.{IsKept, IsWriteBy, IsOnPage, counted_more, told_entries, is_calm, is_of}
 use Rattle.life_history.proofs.Keeping.{of_sessions_push, some_is}
-use Rattle.life_history.proofs.Own.{IsCalmOf, Continues, continues_one, continues_then, agreeing, owner, owned_by_none, begun_by, calm_of, kept_on, agrees_then, kept_began, began_consistent, began_entries, began_tx, session_within}
+use Rattle.life_history.proofs.Own.{IsCalmOf, Continues, continues_live, continues_one, continues_then, agreeing, owner, owned_by_none, begun_by, calm_of, kept_on, agrees_then, kept_began, began_consistent, began_entries, began_tx, session_within}
 
 agree_alone : (opens : List Record → Type 0) (h : List Entry) (x : SessionClaim) → SessionAgrees h x → Agree opens h (session_alone x)
 agree_alone opens h x agrees = record { a = tt; b = tt; c = tt; s = agrees; m = tt }
@@ -89,6 +89,15 @@ module _ (opens : List Record → Type 0) (h : List Entry) (count session tx liv
       subst (λ (y : List Entry × List BookEntry × List BookEntry × List BookEntry × ℕ × ℕ). IsKept opens y.0 (record { entries = count + 1; session = session; tx = tx + 1; live = live + 1 }) (record { pages = y.1; sessions = y.2; maint = y.3 }) y.4 y.5)
       (λ i. (sym (now ∙ ap (λ m. h ++ Began m tx ∷ []) same) i, sym others.0 i, sym book i, sym others.1 i, sym sum i, sym sums i)) done
 
+  pub begin_live : (h' : List Entry) (number : ℕ) → entry_of x.session ss ≡ Some (session_entry x) → h' ≡ h ++ Began number tx ∷ [] → number ≡ x.session → x.tx ≡ 0 → live ≢ 64 → count < 2 ^ 62 → tx < 2 ^ 62
+      → (live_count h' ≡ live_count h + 1) × (live_count h' ≤ 64)
+  begin_live h' number there now same none few short small =
+      let most = k.begun.most in
+      let before : live ≡ live_count h = k.begun.counted in
+      let done = kept_began opens h _ _ total of_session k x there none (omega (arith, most, few)) short small in
+      let after : live + 1 ≡ live_count h' = done.begun.counted ∙ ap live_count (sym (now ∙ ap (λ m. h ++ Began m tx ∷ []) same)) in
+      (omega (arith, before, after), omega (arith, after, most, few))
+
   pub begin_entered : (entries sessions : LedgerName) (a a' : Account) (seen done : PassSeen Entry) (number : ℕ) (y : SessionClaim) → entry_of x.session ss ≡ Some (session_entry x) → Watched opens entries sessions a seen h x → x.tx ≡ 0 → live ≢ 64
       → done.log ≡ h ++ Began number tx ∷ [] → seen.durable ≤ done.durable → number ≡ x.session → a' ≡ counted_more a 1 → y ≡ record { session = x.session; entries = x.entries + 1; tx = tx }
       → Enters opens entries sessions (known a seen (session_alone x)) (Began x.session tx ∷ []) (known a' done (session_alone y))
@@ -136,6 +145,9 @@ module _ (opens : List Record → Type 0) (h : List Entry) (count session tx liv
 
       pub own_counted : (h' : List Entry) → h' ≡ h ++ e ∷ [] → of_sessions h' ≡ of_sessions h + 1
       own_counted h' now = ap of_sessions now ∙ continues.counted
+
+      pub own_live : (h' : List Entry) → h' ≡ h ++ e ∷ [] → (live_count h' ≡ live_count h) × (live_count h ≤ 64)
+      own_live h' now = (ap live_count now ∙ continues_live h (h ++ e ∷ []) x.session 1 continues, subst (λ m. m ≤ 64) k.begun.counted k.begun.most)
 
     -- ---- a write and its answer
 
@@ -241,3 +253,6 @@ module _ (opens : List Record → Type 0) (h : List Entry) (count session tx liv
 
       pub write_counted : (h' : List Entry) → h' ≡ h ++ told_entries lsn r said → of_sessions h' ≡ of_sessions h + 2
       write_counted h' now = ap of_sessions now ∙ both.counted
+
+      pub write_live : (h' : List Entry) → h' ≡ h ++ told_entries lsn r said → (live_count h' ≡ live_count h) × (live_count h ≤ 64)
+      write_live h' now = (ap live_count now ∙ continues_live h (h ++ told_entries lsn r said) x.session 2 both, subst (λ m. m ≤ 64) k.begun.counted k.begun.most)

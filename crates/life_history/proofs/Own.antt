@@ -1,6 +1,6 @@
 -- What is kept where entries of one session are entered: a beginning, and entries by which no transaction begins or ends.
 use Rattle.std.proofs.Common.{◌≡◌, ◌≢◌, ℕ, suc, eqb, cond, ◌+◌, ◌≤◌, ◌<◌, ◌^◌, List, [], ◌∷◌, ◌++◌, length, Option, Some, None, Bool, true, false, refl, sym, ap, ◌∙◌, subst, arith, length-append, append-nil}
-use Rattle.std.specs.Prelude.{max, IsTrue, ◌&&◌, ◌||◌}
+use Rattle.std.specs.Prelude.{filter, max, IsTrue, ◌&&◌, ◌||◌}
 use Rattle.std.proofs.lemmas.Bool.{eqb-true}
 use Rattle.store_model.proofs.Bools.{false_unless}
 use Rattle.std.specs.List.{list_any}
@@ -9,7 +9,7 @@ use Rattle.books.specs.declared.entry.BookEntry.{BookEntry}
 use Rattle.books.specs.Rights.{SessionClaim, session_entry}
 use Rattle.wal_record.specs.Books.{page_book, maintenance_step, maintenance_book, belongs, session_entries, unless_over, session_transaction}
 use Rattle.wal_record.specs.Chains.{head, greatest}
-use Rattle.wal_record.specs.History.{log_of, life_log, Phase, Live, Acknowledged, Ended, phase, phase_step, is_over, Beginning, beginnings, is_owner, begun_step, greatest_begun, session_step, last_begun, IsFree}
+use Rattle.wal_record.specs.History.{log_of, life_log, Phase, Live, Acknowledged, Ended, phase, phase_step, is_live, is_over, live_count, Beginning, beginnings, is_owner, begun_step, greatest_begun, session_step, last_begun, IsFree}
 use Rattle.wal_record.specs.Legal.{untold_step, split_leaf, split_step, FollowsSplit, EntryRule, IsAllowed, IsLegal}
 use Rattle.wal_record.specs.Sound.{IsSound}
 use Rattle.wal_record.specs.declared.page.PageState.{PageState}
@@ -22,7 +22,7 @@ use Rattle.log_laws.proofs.Central.{eqb_differ, eqb_self}
 use Rattle.log_laws.proofs.Serial.{owner_new}
 use Rattle.page_ops.specs.Claims.{SessionAgrees}
 use Rattle.page_ops.specs.Seeing.{IsConsistent, is_begun, is_of_session, of_sessions}
-use Rattle.life_history.specs.Kept.{Numbers, BooksOf, AreBegun, IsKept, is_settled, is_beginning, times, is_calm, is_of}
+use Rattle.life_history.specs.Kept.{Numbers, BooksOf, AreBegun, IsKept, is_beginning, times, is_calm, is_of}
 use Rattle.life_history.proofs.Beginnings.{own_time, one_owner, not_next, begun_began}
 use Rattle.life_history.proofs.Sessions.{OthersStay, tx_same, sessions_after, fresh_after}
 use Rattle.life_history.proofs.Keeping.{of_sessions_push, no_session}
@@ -46,7 +46,7 @@ consistent_entry opens h e c none told split rule = record {
 -- ---- the session's transaction
 
 -- a transaction that isn't over
-unless_live : (h : List Entry) (x : Option ℕ) (t : ℕ) → t ≡ unless_over h x → 0 < t → (x ≡ Some t) × (is_over (phase h t) ≡ false)
+pub unless_live : (h : List Entry) (x : Option ℕ) (t : ℕ) → t ≡ unless_over h x → 0 < t → (x ≡ Some t) × (is_over (phase h t) ≡ false)
 unless_live h None t is some = absurd (omega (arith, is, some))
 unless_live h (Some u) t is some = by (is_over (phase h u)) refl is
   where
@@ -62,11 +62,6 @@ free_if h (Some t) is above = by (is_over (phase h t)) is (above t refl)
     by : (b : Bool) → 0 ≡ cond b 0 t → 0 < t → IsTrue b
     by true is above = refl
     by false is above = absurd (omega (arith, is, above))
-
-only_live : (p : Phase) → is_settled p ≡ true → is_over p ≡ false → p ≡ Live
-only_live Live settled over = refl
-only_live Acknowledged settled over = absurd (cc over)
-only_live _ settled over = absurd (cc settled)
 
 one_time : (n : ℕ) → 1 ≤ n → n ≤ 1 → n ≡ 1
 one_time n least most = omega (arith, least, most)
@@ -146,6 +141,10 @@ continues_then h h1 h2 session n m a b = record {
   counted = let x = a.counted in let y = b.counted in omega (arith, x, y);
 }
 
+-- as many are live
+pub continues_live : (h h' : List Entry) (session n : ℕ) → Continues h h' session n → live_count h' ≡ live_count h
+continues_live h h' session n c i = length (filter (λ (b : Beginning). is_live (c.phases b.tx i)) (c.begins i))
+
 module _ (opens : List Record → Type 0) (h : List Entry) (n : Numbers) (b : BooksOf) (total of_session : ℕ) (k : IsKept opens h n b total of_session) (s : SessionClaim) where
   -- the book of sessions has the session's entry
   abbrev IsThere : Type 0
@@ -166,12 +165,11 @@ module _ (opens : List Record → Type 0) (h : List Entry) (n : Numbers) (b : Bo
     pub owned_by_none : 0 < s.tx → (m : ℕ) → m ≢ s.session → is_owner h m s.tx ≡ false
     owned_by_none some m apart = false_unless (is_owner h m s.tx) (λ other. one_owner _ _ _ _ _ k.begun m s.session s.tx apart other (owner some))
 
-    -- and live
-    pub live : 0 < s.tx → phase h s.tx ≡ Live
-    live some =
-        let own = unless_live h (last_begun h s.session) s.tx agrees.tx some in
-        let one = own_time s.session s.tx (beginnings h) (owner some) in
-        only_live (phase h s.tx) (k.begun.settled s.tx (omega (arith, one))) own.1
+    -- which was begun once
+    pub begun_once : 0 < s.tx → times s.tx (beginnings h) ≡ 1
+    begun_once some =
+        let least = own_time s.session s.tx (beginnings h) (owner some) in
+        one_time (times s.tx (beginnings h)) least (k.begun.once s.tx)
 
     -- an entry of its own is one of this session alone
     pub calm_of : 0 < s.tx → (e : Entry) → is_calm e ≡ true → is_of s.session s.tx e ≡ true → IsCalmOf h s.session e

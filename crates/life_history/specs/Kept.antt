@@ -1,17 +1,18 @@
 -- What a life's history keeps.
-use Rattle.std.specs.Prelude.{◌≡◌, ◌≢◌, ℕ, suc, max, ◌+◌, ◌*◌, ◌^◌, ◌<◌, ◌≤◌, List, [], ◌∷◌, ◌++◌, length, filter, Option, Some, None, Bool, true, false, ◌&&◌, ◌==◌, IsTrue}
+use Rattle.std.specs.Prelude.{◌≡◌, ◌≢◌, ℕ, suc, max, ◌+◌, ◌*◌, ◌^◌, ◌<◌, ◌≤◌, List, [], ◌∷◌, ◌++◌, length, filter, Option, Some, None, is_some, Bool, true, false, ◌&&◌, ◌==◌, IsTrue}
 use Rattle.std.specs.List.{list_any}
 use Rattle.books.specs.Booking.{entry_of}
 use Rattle.books.specs.declared.entry.BookEntry.{BookEntry}
 use Rattle.wal_record.specs.Books.{page_book, maintenance_book, session_entries, session_transaction}
 use Rattle.wal_record.specs.Chains.{greatest}
 use Rattle.wal_record.specs.Sound.{IsSound}
-use Rattle.wal_record.specs.History.{Phase, Live, Acknowledged, Ended, phase, is_live, Beginning, beginnings, greatest_begun, last_begun}
+use Rattle.wal_record.specs.History.{Phase, Idle, phase, is_live, Beginning, beginnings, greatest_begun, last_begun}
 use Rattle.wal_record.specs.declared.record.Record.{Record}
 use Rattle.wal_record.specs.declared.record.Record.TheVariants as kinds
 use Rattle.wal_record.specs.declared.entry.Entry.{Entry}
 use Rattle.wal_record.specs.declared.entry.Entry.TheVariants as entries
-use Rattle.page_ops.specs.Seeing.{Account, IsConsistent, of_sessions}
+use Rattle.page_ops.specs.Names.{LedgerName}
+use Rattle.page_ops.specs.Seeing.{Account, Counted, IsConsistent, of_sessions}
 use Rattle.page_ops.specs.declared.group.Said.{Said}
 
 -- the numbers that it counts: its entries, the next session, the next transaction, and how many transactions are live
@@ -46,20 +47,17 @@ times t bs = length (filter (λ (b : Beginning). b.tx == t) bs)
 abbrev pub is_beginning : ℕ → ℕ → Beginning → Bool
 is_beginning session tx b = b.session == session && b.tx == tx
 
--- live, or over
-abbrev pub is_settled : Phase → Bool
-is_settled Live = true
-is_settled Acknowledged = true
-is_settled Ended = true
-is_settled _ = false
+abbrev pub is_started : Phase → Bool
+is_started Idle = false
+is_started _ = true
 
--- Each transaction was begun once, below the next number and up to 2^62, and is live or acknowledged. Of a session, the one that it
+-- Each transaction was begun once, below the next number and up to 2^62, and is no more idle. Of a session, the one that it
 -- began last is its own. As many are live as are counted, and no more than 64.
 pub record AreBegun (bs : List Beginning) (phases : ℕ → Phase) (begun : ℕ → Option ℕ) (next live : ℕ) : Type 0 where
   pub once : (t : ℕ) → times t bs ≤ 1
   pub below : (t : ℕ) → next ≤ t → times t bs ≡ 0
   pub small : (t : ℕ) → 2 ^ 62 < t → times t bs ≡ 0
-  pub settled : (t : ℕ) → 0 < times t bs → IsTrue (is_settled (phases t))
+  pub started : (t : ℕ) → 0 < times t bs → IsTrue (is_started (phases t))
   pub owner : (s t : ℕ) → begun s ≡ Some t → IsTrue (list_any (is_beginning s t) bs)
   pub counted : live ≡ length (filter (λ (b : Beginning). is_live (phases b.tx)) bs)
   pub most : live ≤ 64
@@ -71,7 +69,7 @@ pub record IsKept (opens : List Record → Type 0) (h : List Entry) (n : Numbers
   pub number : (opening : List Record) → opens opening → n.tx ≡ suc (max (greatest opening) (greatest_begun h))
   pub least : 1 ≤ n.tx
   -- a commit of each live transaction enters two entries
-  pub room : n.entries + 2 * n.live < 2 ^ 64
+  pub room : n.entries + 2 * n.live < 2 ^ 63
   pub begun : AreBegun (beginnings h) (phase h) (last_begun h) n.tx n.live
   pub fresh : (s : ℕ) → n.session ≤ s → IsFresh h b.sessions s
   pub books : AreKept opens h b
@@ -98,6 +96,10 @@ is_of session tx _ = false
 abbrev pub told_entries : ℕ → Record → Said → List Entry
 told_entries lsn r said = entries.Rec lsn r ∷ entries.Said said.session said.tx said.request said.reply ∷ []
 
+-- the commit of a transaction
+abbrev pub commit_entry : ℕ → ℕ → ℕ → Entry
+commit_entry lsn tx prev = entries.Rec lsn (kinds.Commit (record { tx = tx; prev = prev }))
+
 -- a sound log that isn't empty, with this number above all its transactions
 pub record Begins (opening : List Record) (next : ℕ) : Type 0 where
   pub sound : IsSound opening
@@ -115,6 +117,14 @@ abbrev pub IsOnPage : ℕ → Record → Type 0
 IsOnPage page (kinds.Write w) = w.page ≡ page
 IsOnPage page (kinds.Apply a) = a.page ≡ page
 IsOnPage page _ = ⊥
+
+-- whoever has all parts of the ledger of the log disk's faults has counted one
+abbrev pub HasCause : LedgerName → Counted → Type 0
+HasCause log_faults x = x.parts ≡ log_faults.parts → x.amount ≢ 0
+
+-- who knows of an end knows that
+abbrev pub KnowsWhy : LedgerName → Option ℕ → Counted → Type 0
+KnowsWhy log_faults ended x = is_some ended ≡ true → HasCause log_faults x
 
 -- so many entries more, of a session, in both shares
 abbrev pub counted_more : Account → ℕ → Account

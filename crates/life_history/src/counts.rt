@@ -1,11 +1,14 @@
 //! A thread's shares of the ledgers.
-ghost use Rattle.std.specs.Prelude.{◌≡◌, ◌<◌};
+ghost use Rattle.std.specs.Prelude.{◌≡◌, ◌<◌, ⊤, Some, IfSome};
+ghost use Rattle.life_history.specs.Kept.{HasCause};
 
 use page_ops::{Entries, Life, LogFaults, Made, SessionEntries, VaultFaults};
 use std::marker::Model;
 use std::sync::ledger::Share;
+use store_model::Lsn;
 
-/// A thread's shares of the ledgers of its life. Its store has no devices, so no faults are counted, and its life has no end.
+/// A thread's shares of the ledgers of its life, and the LSN up to which the log was durable as the life ended, where the
+/// thread knows that it has. It calls no vault, so no fault of one is counted.
 #[derive(Drop)]
 pub struct Counts<N: Life> {
     pub entries: Share<Entries<N>>,
@@ -13,11 +16,13 @@ pub struct Counts<N: Life> {
     pub log_faults: Share<LogFaults<N>>,
     pub vault_faults: Share<VaultFaults<N>>,
     pub made: Share<Made<N>>,
+    pub ended: Option<Lsn>,
 }
 
 impl<N: Life> Model for Counts<N> {
-    ghost use Rattle.std.specs.Prelude.{◌≡◌, ◌<◌, None};
+    ghost use Rattle.std.specs.Prelude.{◌≡◌, ◌<◌};
     ghost use Rattle.page_ops.specs.Seeing.{Account};
+    ghost use Rattle.life_history.specs.Kept.{KnowsWhy};
 
     ghost Value = { Account };
 
@@ -27,17 +32,34 @@ impl<N: Life> Model for Counts<N> {
       log_faults = record { parts = c.log_faults.parts; amount = c.log_faults.amount };
       vault_faults = record { parts = c.vault_faults.parts; amount = c.vault_faults.amount };
       made = record { parts = c.made.parts; amount = c.made.amount };
-      ended = None;
+      ended = c.ended;
     } };
 
-    ghost invariant = { λ c. (0 < c.entries.parts) × (0 < c.session_entries.parts) × (0 < c.made.parts) × (c.log_faults.amount ≡ 0) × (c.vault_faults.amount ≡ 0) };
+    ghost invariant = { λ c. (0 < c.entries.parts) × (0 < c.session_entries.parts) × (0 < c.log_faults.parts) × (0 < c.made.parts) × (c.vault_faults.amount ≡ 0) × KnowsWhy N.log_faults c.ended (record { parts = c.log_faults.parts; amount = c.log_faults.amount }) };
 }
 
 impl<N: Life> Counts<N> {
-    ghost use Rattle.std.specs.Prelude.{◌≡◌, ◌<◌, ◌+◌};
+    ghost use Rattle.std.specs.Prelude.{◌≡◌, ◌<◌, ◌+◌, None};
 
-    /// One part of each share, with which nothing was counted yet.
+    /// It knows then that the life has ended, since the log disk failed.
+    pub fn end(&mut self, at: Lsn)
+        requires cause { HasCause N.log_faults self.old.log_faults }
+        ensures { self.new ≡ record self.old { ended = Some at } }
+    {
+        self.ended = Some(at);
+    }
+
+    /// The LSN up to which the log was durable as the life ended, if it knows that it has.
+    pub fn ended(&self) -> Option<Lsn>
+        ensures known { result ≡ self.now.ended }
+        ensures cause { IfSome result (λ at. HasCause N.log_faults self.now.log_faults) }
+    {
+        self.ended
+    }
+
+    /// One part of each share, with which nothing was counted yet, where it doesn't know of an end.
     pub fn split(&mut self) -> Counts<N>
+        requires open { self.old.ended ≡ None }
         requires entries { 1 < self.old.entries.parts }
         requires session_entries { 1 < self.old.session_entries.parts }
         requires log_faults { 1 < self.old.log_faults.parts }
@@ -56,10 +78,11 @@ impl<N: Life> Counts<N> {
             log_faults: self.log_faults.split_off(1, 0),
             vault_faults: self.vault_faults.split_off(1, 0),
             made: self.made.split_off(1, 0),
+            ended: None,
         }
     }
 
-    /// Takes a part of each share back, with what was counted with it.
+    /// Takes a part of each share back, with what was counted with it. Of an end it asks anew.
     pub fn join(&mut self, other: Counts<N>)
         ensures parts { self.new.entries.parts ≡ self.old.entries.parts + other.entries.parts }
         ensures amount { self.new.entries.amount ≡ self.old.entries.amount + other.entries.amount }
@@ -70,11 +93,13 @@ impl<N: Life> Counts<N> {
             log_faults,
             vault_faults,
             made,
+            ended: _,
         } = other;
         self.entries.merge(entries);
         self.session_entries.merge(session_entries);
         self.log_faults.merge(log_faults);
         self.vault_faults.merge(vault_faults);
         self.made.merge(made);
+        self.ended = None;
     }
 }

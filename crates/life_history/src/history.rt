@@ -1,27 +1,28 @@
 //! The history, and what it keeps beside the entries.
-ghost use Rattle.std.specs.Prelude.{◌≡◌, ◌+◌, ◌<◌, ◌≤◌, ◌^◌, List, [], ◌∷◌, ◌++◌, length, true, Some, IfSome, IsSome, OnOk, OnErr, IfOk, IfErr, IsTrue};
+ghost use Rattle.std.specs.Prelude.{◌≡◌, ◌⊎◌, ◌+◌, ◌*◌, ◌<◌, ◌≤◌, ◌^◌, List, [], ◌∷◌, ◌++◌, length, true, Some, IfSome, IsSome, OnOk, OnErr, IfOk, IfErr, IsTrue};
 ghost use mathlib.Core.List.{IsPrefix};
-ghost use Rattle.page_ops.specs.Causes.{FailsToEnter, IsOpen, OrTooMany, with_one};
+ghost use Rattle.page_ops.specs.Causes.{with_one};
 ghost use Rattle.page_ops.specs.Claims.{MaintAgrees, PageAgrees, SessionAgrees, no_claims, session_alone};
 ghost use Rattle.page_ops.specs.Outcomes.{IsCrowd, begun};
-ghost use Rattle.page_ops.specs.Seeing.{Enters, HasTotals, IsConsistent, known, of_sessions};
+ghost use Rattle.page_ops.specs.Seeing.{Enters, HasTotals, IsConsistent, Looks, known, of_sessions};
 ghost use Rattle.store_model.specs.declared.fault.Fault.TheVariants as faults;
-ghost use Rattle.wal_record.specs.History.{life_log};
+ghost use Rattle.wal_record.specs.History.{Committed, Live, life_log, live_count, phase};
 ghost use Rattle.wal_record.specs.Rules.{is_number};
 ghost use Rattle.wal_record.specs.Sound.{IsSound};
 ghost use Rattle.wal_record.specs.declared.entry.Entry.{Entry};
+ghost use Rattle.wal_record.specs.declared.entry.Entry.TheVariants as entries;
 ghost use Rattle.wal_record.specs.declared.record.Record.{Record};
-ghost use Rattle.life_history.specs.Kept.{AreKept, Begins, IsOnPage, IsWriteBy, counted_more, is_calm, is_of, told_entries};
+ghost use Rattle.life_history.specs.Kept.{AreKept, Begins, IsOnPage, IsWriteBy, commit_entry, counted_more, is_calm, is_of, told_entries};
 
 use crate::counts::Counts;
 use crate::stand::Stand;
 use books::{Books, MaintRight, PageRight, SessionRight};
-use front::{Front, Mark, Pass};
+use front::{Front, Pass};
 use page_ops::{Entries, Ground, Life, Made, Rights, Said, SessionEntries};
 use std::marker::Model;
 use std::sync::ledger;
 use store_model::{Fault, Lsn, Pos, TxId};
-use wal_record::{Entry, Record};
+use wal_record::{Commit, Entry, Record};
 
 /// The bound of the counters, from which on nothing is begun.
 const MOST: u64 = 1 << 62;
@@ -57,7 +58,6 @@ impl<'a, N: Life> History<'a, N> {
     pub fn new(
         ground: &'a Ground<N>,
         front: Front<Entry, N>,
-        mark: Mark<Entry, N>,
         mut books: Books<N>,
         entries: ledger::Book<Entries<N>>,
         session_entries: ledger::Book<SessionEntries<N>>,
@@ -80,7 +80,6 @@ impl<'a, N: Life> History<'a, N> {
             stand: Stand {
                 ground,
                 front,
-                mark,
                 books,
                 spare: Some(spare),
                 entries,
@@ -151,7 +150,7 @@ impl<'a, N: Life> History<'a, N> {
     }
 
     /// Shows the pass the whole history. The shares count what they counted.
-    pub(crate) fn look(&mut self, pass: &mut Pass<Entry, N>, counts: &mut Counts<N>)
+    pub fn look(&mut self, pass: &mut Pass<Entry, N>, counts: &mut Counts<N>)
         ensures same { self.new ≡ self.old }
         ensures counts { counts.new ≡ counts.old }
         ensures pass { pass.new.log ≡ self.old }
@@ -159,7 +158,7 @@ impl<'a, N: Life> History<'a, N> {
         ensures durable { pass.old.durable ≤ pass.new.durable }
         ensures consistent { IsConsistent N.opens self.old }
         ensures totals { HasTotals N.entries N.session_entries counts.old self.old }
-        ensures fresh { IsOpen counts.old }
+        ensures seen { Looks N.opens N.entries N.session_entries counts.old pass.old counts.new pass.new }
     {
         let ground = self.stand.ground;
         self.stand.front.meet(&ground.board, pass);
@@ -176,7 +175,6 @@ impl<'a, N: Life> History<'a, N> {
         ensures counts { counts.new ≡ counts.old }
         ensures pass { pass.new.log ≡ self.old }
         ensures seen { Enters N.opens N.entries N.session_entries (known counts.old pass.old rights.old) [] (known counts.new pass.new rights.new) }
-        ensures fresh { IsOpen counts.old }
     {
         self.see_page(&mut rights.a);
         self.see_page(&mut rights.b);
@@ -199,7 +197,7 @@ impl<'a, N: Life> History<'a, N> {
         ensures counts { counts.new ≡ counts.old }
         ensures pass { pass.new.log ≡ self.old }
         ensures seen { Enters N.opens N.entries N.session_entries (known counts.old pass.old (session_alone s.old)) [] (known counts.new pass.new (session_alone s.new)) }
-        ensures fresh { IsOpen counts.old }
+        ensures number { 0 < s.old.tx → s.old.tx ≤ 2 ^ 62 }
     {
         let (entries, tx) = (s.entries(), s.tx());
         self.stand.set_session(s, entries, tx);
@@ -215,6 +213,7 @@ impl<'a, N: Life> History<'a, N> {
         ensures same { self.new ≡ self.old }
         ensures seen { Enters N.opens N.entries N.session_entries (record (known counts.old pass.old no_claims) { account = record counts.old { made = counts.new.made } }) [] (known counts.new pass.new no_claims) }
         ensures made { counts.new.made ≡ with_one counts.old.made result }
+        ensures counts { counts.new ≡ record counts.old { made = counts.new.made } }
         ensures new { IfOk result (λ s. (s.entries ≡ 0) × (s.tx ≡ 0) × SessionAgrees pass.new.log s) }
         ensures refused { IfErr result (λ fault. fault ≡ faults.Memory) }
     {
@@ -244,12 +243,13 @@ impl<'a, N: Life> History<'a, N> {
         requires free { s.old.tx ≡ 0 }
         ensures entered { Enters N.opens N.entries N.session_entries (known counts.old pass.old (session_alone s.old)) (begun s.old.session result) (known counts.new pass.new (session_alone s.new)) }
         ensures history { self.new ≡ self.old ++ begun s.old.session result }
+        ensures live { OnOk result ((live_count self.new ≡ live_count self.old + 1) × (live_count self.new ≤ 64)) }
         ensures right { IfOk result (λ tx. s.new ≡ record { session = s.old.session; entries = s.old.entries + 1; tx = tx }) }
         ensures number { IfOk result (λ tx. IsTrue (is_number tx)) }
-        ensures same { OnErr result (s.new ≡ s.old) }
+        ensures counts { OnOk result (counts.new ≡ counted_more counts.old 1) }
+        ensures same { OnErr result ((self.new ≡ self.old) × (s.new ≡ s.old) × (counts.new ≡ counts.old)) }
         ensures crowd { IfErr result (IsCrowd pass.new.log) }
-        ensures refused { IfErr result (FailsToEnter OrTooMany) }
-        ensures fresh { IsOpen counts.old × IsOpen counts.new }
+        ensures refused { IfErr result (λ fault. (fault ≡ faults.Memory) ⊎ (fault ≡ faults.TooManyActive)) }
     {
         self.watch_session(s, pass, counts);
         if self.live == MOST_LIVE {
@@ -286,6 +286,7 @@ impl<'a, N: Life> History<'a, N> {
         requires agrees { SessionAgrees self.old s.old }
         requires consistent { IsConsistent N.opens (self.old ++ entry.now ∷ []) }
         ensures history { self.new ≡ self.old ++ entry.now ∷ [] }
+        ensures live { (live_count self.new ≡ live_count self.old) × (live_count self.old ≤ 64) }
         ensures seen { pass.new.log ≡ self.new }
         ensures durable { pass.old.durable ≤ pass.new.durable }
         ensures right { s.new ≡ record { session = s.old.session; entries = s.old.entries + 1; tx = s.old.tx } }
@@ -320,6 +321,7 @@ impl<'a, N: Life> History<'a, N> {
         requires agrees { SessionAgrees self.old s.old }
         requires consistent { IsConsistent N.opens (self.old ++ told_entries lsn rec.now said.now) }
         ensures history { self.new ≡ self.old ++ told_entries lsn rec.now said.now }
+        ensures live { (live_count self.new ≡ live_count self.old) × (live_count self.old ≤ 64) }
         ensures right { s.new ≡ record { session = s.old.session; entries = s.old.entries + 2; tx = s.old.tx } }
         ensures page { IfSome page.old (λ p. page.new ≡ Some (record { page = p.page; lsn = lsn })) }
         ensures counts { counts.new ≡ counted_more counts.old 2 }
@@ -327,6 +329,56 @@ impl<'a, N: Life> History<'a, N> {
     {
         self.stand.enter_told(lsn, rec, said, page, s, counts);
         self.count += 2;
+    }
+
+    /// Enters the commit of the session's transaction, as the record with this LSN.
+    pub fn enter_commit(
+        &mut self,
+        lsn: Lsn,
+        prev: Lsn,
+        s: &mut SessionRight<N>,
+        counts: &mut Counts<N>,
+    )
+        requires active { 0 < s.old.tx }
+        requires live { phase self.old s.old.tx ≡ Live }
+        requires agrees { SessionAgrees self.old s.old }
+        requires consistent { IsConsistent N.opens (self.old ++ commit_entry lsn s.old.tx prev ∷ []) }
+        ensures history { self.new ≡ self.old ++ commit_entry lsn s.old.tx prev ∷ [] }
+        ensures live { live_count self.new + 1 ≡ live_count self.old }
+        ensures room { length self.new + 2 * live_count self.new + 1 < 2 ^ 63 }
+        ensures right { s.new ≡ record { session = s.old.session; entries = s.old.entries + 1; tx = s.old.tx } }
+        ensures agrees { SessionAgrees self.new s.new }
+        ensures counts { counts.new ≡ counted_more counts.old 1 }
+        ensures counted { of_sessions self.new ≡ of_sessions self.old + 1 }
+    {
+        let tx = s.tx();
+        let entry = Entry::Rec {
+            lsn,
+            rec: Record::Commit(Commit { tx, prev }),
+        };
+        self.stand.enter(&entry, s, tx, counts);
+        self.count += 1;
+        self.live -= 1;
+    }
+
+    /// Enters that the commit of the session's transaction is acknowledged. The session has then no transaction.
+    pub fn acknowledge(&mut self, s: &mut SessionRight<N>, counts: &mut Counts<N>)
+        requires active { 0 < s.old.tx }
+        requires committed { phase self.old s.old.tx ≡ Committed }
+        requires room { length self.old + 2 * live_count self.old + 1 < 2 ^ 63 }
+        requires agrees { SessionAgrees self.old s.old }
+        ensures history { self.new ≡ self.old ++ entries.Acked s.old.session s.old.tx ∷ [] }
+        ensures live { live_count self.new ≡ live_count self.old }
+        ensures consistent { IsConsistent N.opens self.new }
+        ensures right { s.new ≡ record { session = s.old.session; entries = s.old.entries + 1; tx = 0 } }
+        ensures agrees { SessionAgrees self.new s.new }
+        ensures counts { counts.new ≡ counted_more counts.old 1 }
+        ensures counted { of_sessions self.new ≡ of_sessions self.old + 1 }
+    {
+        let (session, tx) = (s.session(), s.tx());
+        self.stand
+            .enter(&Entry::Acked { session, tx }, s, 0, counts);
+        self.count += 1;
     }
 
     /// What the threads of the life share.

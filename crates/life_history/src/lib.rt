@@ -12,8 +12,10 @@
 //! 2. [`History::session`] gives a session that nobody has yet, and [`History::begin`] the next transaction.
 //! 3. [`History::enter_own`] adds an entry of a session that is no record and moves no transaction: a lock, a refusal, an
 //!    answer. [`History::enter_write`] adds a write and its answer, in one step.
+//! 4. [`History::enter_commit`] adds a transaction's commit, and [`History::acknowledge`] that it is acknowledged, with
+//!    which its session has no transaction any more. The room for both was made as it began.
 //!
-//! [`Counts`] are a thread's shares of the ledgers of its life.
+//! [`Counts`] are a thread's shares of the ledgers of its life, and what it knows of the life's end.
 #![tactic(auto)]
 
 mod counts;

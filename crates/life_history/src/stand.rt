@@ -7,7 +7,7 @@ ghost use Rattle.life_history.specs.Kept.{told_entries};
 
 use crate::counts::Counts;
 use books::{Books, PageRight, SessionRight};
-use front::{Added, Board, Front, Mark};
+use front::{Added, Board, Front};
 use page_ops::{Entries, Ground, Life, Made, Said, SessionEntries};
 use std::marker::Brand;
 use std::mem;
@@ -15,12 +15,11 @@ use std::sync::ledger;
 use store_model::{Lsn, TxId};
 use wal_record::{Entry, Record};
 
-/// What a journal has of its life: the words that threads share, the front and the mark, the books, and those of the ledgers.
+/// What a journal has of its life: the words that threads share, the front, the books, and those of the ledgers.
 #[derive(Drop)]
 pub(crate) struct Stand<'a, N: Life> {
     pub(crate) ground: &'a Ground<N>,
     pub(crate) front: Front<Entry, N>,
-    pub(crate) mark: Mark<Entry, N>,
     pub(crate) books: Books<N>,
     // A right that stands in for a session's while that one is being changed.
     pub(crate) spare: Option<SessionRight<N>>,
@@ -67,7 +66,6 @@ impl<'a, N: Life> Stand<'a, N> {
         ensures spare { IsSome self.new.spare }
         ensures others { (self.new.books.pages ≡ self.old.books.pages) × (self.new.books.maint ≡ self.old.books.maint) }
         ensures front { self.new.front ≡ self.old.front }
-        ensures mark { self.new.mark ≡ self.old.mark }
         ensures totals { (self.new.entries.total ≡ self.old.entries.total) × (self.new.session_entries.total ≡ self.old.session_entries.total) }
     {
         let Some(spare) = self.spare.take() else {
@@ -100,7 +98,6 @@ impl<'a, N: Life> Stand<'a, N> {
         ensures spare { IsSome self.new.spare }
         ensures others { (self.new.books.pages ≡ self.old.books.pages) × (self.new.books.maint ≡ self.old.books.maint) }
         ensures front { self.new.front ≡ self.old.front ++ added.now ∷ [] }
-        ensures mark { self.new.mark ≡ self.old.mark }
         ensures total { self.new.entries.total ≡ self.old.entries.total + 1 }
         ensures sessions_total { self.new.session_entries.total ≡ self.old.session_entries.total + 1 }
         ensures counts { counts.new ≡ record counts.old { entries = record { parts = counts.old.entries.parts; amount = counts.old.entries.amount + 1 }; session_entries = record { parts = counts.old.session_entries.parts; amount = counts.old.session_entries.amount + 1 } } }

@@ -1,8 +1,16 @@
-use Rattle.std.proofs.Common.{ap}
-use Rattle.journal.proofs.Beginning.{kept_begin}
+use Rattle.std.proofs.Common.{sym, ap, ◌∙◌, refl, subst}
+use Rattle.page_ops.specs.Seeing.{Account}
+use Rattle.journal.specs.Ends.{IsStopped}
+use Rattle.journal.proofs.Ending.{stopped_ends}
+use Rattle.journal.proofs.Living.{kept_begin}
 use Rattle.journal.proofs.journal.Journal.begin.Goals as goal
 
 pub invariant_of-self : goal.invariant_of-self
 invariant_of-self g c =
-    let reserved = c.in-Ok.ensures.ok in
-    kept_begin _ _ _ _ _ _ _ _ _ _ _ c.args.s.now.session c.begin.result c.self.invariant (ap (λ x. x.log.log) reserved) (ap (λ x. x.listing) reserved) c.begin.ensures.history
+    let room = c.in-Ok.ensures in (
+      c.self.invariant.0,
+      kept_begin _ _ _ _ _ _ _ _ _ _ c.self.inside.locks c.self.inside.locks _ _ _ c.self.invariant.1 room.total c.args.s.now.session c.begin.result (ap (λ x. x.log) room.ok) (ap (λ x. x.listing) room.ok) room.few c.begin.ensures.history c.begin.ensures.live,
+    )
+
+pub returns-in-Err-clause-ends : goal.returns-in-Err-clause-ends
+returns-in-Err-clause-ends g c = stopped_ends _ g.N.Life.log_faults _ _ _ _ _ _ refl (subst (λ (a : Account). IsStopped g.N.Life.log_faults c.args.counts.now a c.in-Err.fault) (sym c.watch_session.ensures.counts) c.in-Err.ensures.stopped)

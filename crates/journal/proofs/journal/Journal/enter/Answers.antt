@@ -1,13 +1,39 @@
-use Rattle.std.proofs.Common.{sym, ap, ◌∙◌}
+use Rattle.std.proofs.Common.{refl, sym, ap, ◌∙◌}
+use Rattle.std.proofs.lemmas.Result.{err_from_is_err_and}
+use Rattle.life_history.specs.Kept.{counted_more}
+use Rattle.page_ops.specs.Seeing.{Account}
+use Rattle.journal.proofs.Declining.{declined_group, full_of}
+use Rattle.journal.proofs.Ending.{told_stops, stopped_ends}
 use Rattle.journal.proofs.Entering.{entered_group, filled_in}
 use Rattle.journal.proofs.journal.Journal.enter.Goals as goal
+
+pub returns-in_err-check_open-clause-ends : goal.returns-in_err-check_open-clause-ends
+returns-in_err-check_open-clause-ends g c =
+    let p = err_from_is_err_and c.from_residual.result c.from_residual.ensures.1 in
+    rw (p.1, p.2) (stopped_ends _ g.N.Life.log_faults _ _ _ _ _ _ c.see.ensures.counts (told_stops g.N.Life.log_faults _ _ _ c.in_err-check_open.ensures.ended))
+
+pub returns-then-not-has_room-clause-entered : goal.returns-then-not-has_room-clause-entered
+returns-then-not-has_room-clause-entered g c =
+    let see = c.see.ensures in
+    let done = c.decline-declined.ensures in
+    let again = c.see-then-not-has_room.ensures in
+    declined_group _ _ _ c.args.group.now _ _ _ _ _ _ _ _ _ c.see.new.self c.decline-declined.new.self _ _ _ _ see.seen see.counts c.in_ok-check_open.ensures.open.1 see.rights (see.pass ∙ sym see.same) done.durable again.seen again.counts
+    (again.pass ∙ c.self-then-not-has_room.view_is) c.decline-declined.result done.declined
+
+pub returns-then-not-has_room-clause-full : goal.returns-then-not-has_room-clause-full
+returns-then-not-has_room-clause-full g c =
+    let done = c.decline-declined.ensures in
+    let again = c.see-then-not-has_room.ensures in
+    let lacks = c.if-not-has_room.ensures.none refl in
+    full_of g.N.Life.opens c.args.group.now _ _ _ _ c.see.new.self c.decline-declined.new.self _ c.decline-declined.result done.declined (again.pass ∙ c.self-then-not-has_room.view_is) lacks.0 lacks.1
 
 pub returns-in-Ok-clause-entered : goal.returns-in-Ok-clause-entered
 returns-in-Ok-clause-entered g c =
     let see = c.see.ensures in
     let done = c.in-Ok.ensures in
     let again = c.see-in-Ok.ensures in
-    entered_group _ _ _ _ _ _ _ _ _ _ _ _ _ _ _ _ _ _ _ see.seen see.counts see.rights (see.pass ∙ sym see.same) done.entered done.counts done.counted again.seen again.counts (again.pass ∙ c.self-2.view_is) done.room
+    entered_group _ _ _ _ _ _ _ _ _ _ _ _ _ _ _ _ _ _ _ see.seen see.counts see.rights (see.pass ∙ sym see.same) done.entered (done.counts ∙ ap (λ (a : Account). counted_more a 2) c.in_ok-check_open.ensures.open.1) done.counted again.seen again.counts (again.pass ∙ c.self-2.view_is)
+    (c.if-not-has_room.ensures.room refl)
 
 pub returns-in-Ok-clause-filled : goal.returns-in-Ok-clause-filled
 returns-in-Ok-clause-filled g c = filled_in _ _ _ _ _ _ _ _ c.in-Ok.ensures.entered c.see.ensures.rights c.see-in-Ok.ensures.rights

@@ -36,7 +36,7 @@ enter_filled-entered-requires-clause-follows g c lsn next =
     subst (λ (r : Record). WriteFollows opens c.args.self.now lsn r c.in-Some.said) (sym filled)
     (write_follows opens c.args.self.now c.args.rights.now.a c.args.group.now w c.in-Some.said prev lsn page c.requires.consistent c.requires.askable
     (λ i. record { recs = c.in_ok-write.ensures i; said = c.in-Some.is i; room = c.args.group.now.room; lsn = c.args.group.now.lsn })
-    c.in_ok-fits.ensures
-    (subst (λ (h : List Entry). (opening : List Record) → opens opening → list_any (finishes w.tx) (life_log opening h) ≡ false → prev ≡ last (life_log opening h) w.tx) c.self.view_is (λ opening stands none. c.last_of-prev.ensures _ (c.self.invariant.records opening stands) none))
+    c.requires.room
+    (subst (λ (h : List Entry). (opening : List Record) → opens opening → list_any (finishes w.tx) (life_log opening h) ≡ false → prev ≡ last (life_log opening h) w.tx) c.self.view_is (λ opening stands none. c.last_of-prev.ensures _ (c.self.invariant.1.life.records opening stands) none))
     (omega (arith, c.if-page-write.false, c.page.ensures))
     (if_some (PageAgrees opens c.args.self.now) c.args.rights.now.a page right c.requires.agrees.a) next)

@@ -1,7 +1,8 @@
-use Rattle.std.proofs.Common.{refl, sym, ap, ◌∙◌, arith, length, subst, ◌+◌, ◌++◌, [], ◌∷◌}
+use Rattle.std.proofs.Common.{◌≤◌, refl, sym, ap, ◌∙◌, arith, length, subst, ◌+◌, ◌++◌, [], ◌∷◌}
+use Rattle.wal_record.specs.History.{live_count}
 use Rattle.page_ops.specs.Claims.{SessionAgrees}
 use Rattle.page_ops.specs.Seeing.{IsConsistent, of_sessions}
-use Rattle.life_history.proofs.Entries.{session_fits, own_kept, own_agrees, own_counted}
+use Rattle.life_history.proofs.Entries.{session_fits, own_kept, own_agrees, own_counted, own_live}
 use Rattle.life_history.proofs.history.History.enter_own.Goals as goal
 
 pub enter-requires-clause-room : goal.enter-requires-clause-room
@@ -25,3 +26,9 @@ pub returns-clause-counted : goal.returns-clause-counted
 returns-clause-counted g c =
     let enter = c.enter.ensures in
     own_counted _ _ _ _ _ _ _ _ _ _ _ c.self.invariant.1 _ enter.before c.requires.active _ c.requires.calm c.requires.own _ (c.meet.ensures.list ∙ enter.front) ∙ ap (λ h. of_sessions h + 1) c.self.view_is
+
+pub returns-clause-live : goal.returns-clause-live
+returns-clause-live g c =
+    let enter = c.enter.ensures in
+    let live = own_live _ _ _ _ _ _ _ _ _ _ _ c.self.invariant.1 _ enter.before c.requires.active _ c.requires.calm c.requires.own _ (c.meet.ensures.list ∙ enter.front) in
+    (live.0 ∙ ap live_count c.self.view_is, subst (λ h. live_count h ≤ 64) c.self.view_is live.1)

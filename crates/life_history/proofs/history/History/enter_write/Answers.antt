@@ -1,9 +1,9 @@
-use Rattle.std.proofs.Common.{refl, sym, ap, ◌∙◌, arith, length, ◌++◌, ◌+◌, subst, List, ◌≡◌}
+use Rattle.std.proofs.Common.{◌≤◌, refl, sym, ap, ◌∙◌, arith, length, ◌++◌, ◌+◌, subst, List, ◌≡◌}
 use Rattle.wal_record.specs.declared.record.Record.{Record}
-use Rattle.wal_record.specs.History.{life_log}
+use Rattle.wal_record.specs.History.{life_log, live_count}
 use Rattle.page_ops.specs.Seeing.{IsConsistent, of_sessions}
 use Rattle.life_history.specs.Kept.{told_entries}
-use Rattle.life_history.proofs.Entries.{session_fits, write_kept_by, write_counted}
+use Rattle.life_history.proofs.Entries.{session_fits, write_kept_by, write_counted, write_live}
 use Rattle.life_history.proofs.history.History.enter_write.Goals as goal
 
 pub enter_told-requires-clause-room : goal.enter_told-requires-clause-room
@@ -24,3 +24,9 @@ pub returns-clause-counted : goal.returns-clause-counted
 returns-clause-counted g c =
     let enter = c.enter_told.ensures in
     write_counted _ _ _ _ _ _ _ _ _ _ _ c.self.invariant.1 _ enter.before c.requires.active _ _ c.args.said.now c.requires.write c.requires.speaker _ enter.front ∙ ap (λ h. of_sessions h + 2) c.self.view_is
+
+pub returns-clause-live : goal.returns-clause-live
+returns-clause-live g c =
+    let enter = c.enter_told.ensures in
+    let live = write_live _ _ _ _ _ _ _ _ _ _ _ c.self.invariant.1 _ enter.before c.requires.active _ _ c.args.said.now c.requires.write c.requires.speaker _ enter.front in
+    (live.0 ∙ ap live_count c.self.view_is, subst (λ h. live_count h ≤ 64) c.self.view_is live.1)

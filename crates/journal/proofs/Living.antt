@@ -1,0 +1,245 @@
+-- What each kind of step makes of what the journal keeps: an entry that is no record, a beginning, a write with its answer, a
+-- commit, a flush.
+use Rattle.std.proofs.Common.{◌≡◌, ◌≢◌, ℕ, suc, eqb, cond, ◌+◌, ◌≤◌, ◌<◌, ◌^◌, List, [], ◌∷◌, ◌++◌, length, Option, Some, None, Bool, true, false, refl, sym, ap, ◌∙◌, subst, inl, inr, arith, append-nil, length-append}
+use Rattle.std.specs.Prelude.{◌-◌, ◌⊎◌, ◌↔◌, Result, Ok, Err, OnOk, is_some}
+use Rattle.std.proofs.lemmas.Bool.{eqb-true}
+use Rattle.log_blocks.specs.LogState.{LogState, durable_lsn}
+use Rattle.log_index.specs.declared.listing.Listing.{Listing}
+use Rattle.log_manager.specs.Managed.{Managed}
+use Rattle.media.specs.Kept.{Kept}
+use Rattle.page_ops.specs.Outcomes.{begun}
+use Rattle.page_ops.specs.declared.group.Said.{Said}
+use Rattle.range_lock.specs.Held as table
+use Rattle.range_lock.specs.Lock.{Lock, IsAmong}
+use Rattle.range_lock.specs.declared.range_locks.RangeLocks.{RangeLocks}
+use Rattle.store_model.specs.declared.fault.Fault.{Fault}
+use Rattle.wal_record.specs.History.{log_of, life_log, Phase, Live, Committed, Acknowledged, phase, phase_step, live_count}
+use Rattle.wal_record.specs.Legal.{held}
+use Rattle.wal_record.specs.Locks.{Held, taken_locks}
+use Rattle.wal_record.specs.declared.record.Record.{Record}
+use Rattle.wal_record.specs.declared.record.Record.TheVariants as kinds
+use Rattle.wal_record.specs.declared.entry.Entry.{Entry}
+use Rattle.wal_record.specs.declared.entry.Entry.TheVariants as entries
+use Rattle.wal_record.proofs.Pushes.{log_same, log_more, phase_push, taken_push}
+use Rattle.log_laws.proofs.Central.{differ, eqb_self}
+use Rattle.life_history.specs.Kept.{IsWriteBy, commit_entry, told_entries}
+use Rattle.listed_log.specs.Listed.{HoldsEnd, IsLogWith}
+use Rattle.journal.specs.Kept.{HasPlaces, IsOfLife, EndsByFault, IsKept}
+use Rattle.journal.specs.Locks.{AreHeld}
+use Rattle.journal.specs.Puts.{IsNext}
+use Rattle.journal.proofs.Locking.{held_same}
+use Rattle.journal.proofs.Writing.{log_told, locks_told, phases_told}
+
+-- ---- no commit waits
+
+abbrev pub StaysAcknowledged : Entry → Type 0
+StaysAcknowledged e = (t : ℕ) (p : Phase) → p ≢ Committed → phase_step t p e ≢ Committed
+
+pub began_stays : (session tx : ℕ) → StaysAcknowledged (entries.Began session tx)
+began_stays session tx t p waits = by (eqb tx t)
+  where
+    by : (b : Bool) → cond b Live p ≢ Committed
+    by true e = absurd (cc e)
+    by false e = waits e
+
+pub ends_entry : (ended : Option ℕ) (h h' : List Entry) (faults faults' : ℕ) (e : Entry) → EndsByFault ended h faults → h' ≡ h ++ e ∷ [] → faults' ≡ faults → StaysAcknowledged e → EndsByFault ended h' faults'
+ends_entry ended h h' faults faults' e k now same stays = record {
+  acknowledged = λ runs t is. stays t (phase h t) (k.acknowledged runs t) (sym (ap (λ l. phase l t) now ∙ phase_push h e t) ∙ is);
+  none = λ runs. same ∙ k.none runs;
+  one = λ over. subst (λ n. 0 < n) (sym same) (k.one over);
+}
+
+-- an end by a fault
+pub ends_failed : (ended : Option ℕ) (h : List Entry) (faults faults' : ℕ) → is_some ended ≡ true → faults' ≡ faults + 1 → EndsByFault ended h faults'
+ends_failed ended h faults faults' over more = record {
+  acknowledged = λ runs. absurd (cc (over, ap is_some runs));
+  none = λ runs. absurd (cc (over, ap is_some runs));
+  one = λ _. omega (arith, more);
+}
+
+-- ---- the log and the locks
+
+same_blocks : {D : Type 0} (tells : Type 0) (told : D → Kept) (may_leave : D → Kept → Type 0) (rs : List Record) (m m' : Managed D) (s : Listing) → IsLogWith tells told may_leave rs m s → m'.log ≡ m.log → IsLogWith tells told may_leave rs m' s
+same_blocks tells told may_leave rs m m' s k same = record {
+  lawful = k.lawful;
+  listing = k.listing;
+  noted = k.noted;
+  next = ap (λ (l : LogState _). l.next) same ∙ k.next;
+  records = λ t runs. subst (λ (l : LogState _). HoldsEnd told may_leave l rs) (sym same) (k.records t (ap (λ (l : LogState _). l.ended) (sym same) ∙ runs));
+}
+
+module _ {D : Type 0} (opens : List Record → Type 0) (tells : Type 0) (told : D → Kept) (may_leave : D → Kept → Type 0) (h h' : List Entry) (m m' : Managed D) (s s' : Listing) (t : RangeLocks) (mark : ℕ) (k : IsOfLife opens tells told may_leave h m s t mark) where
+  -- an entry that is no record, and takes nobody's place
+  pub life_entry : (t' : RangeLocks) (e : Entry) → h' ≡ h ++ e ∷ [] → log_of (e ∷ []) ≡ [] → AreHeld (h ++ e ∷ []) t' → live_count h' ≡ live_count h → IsOfLife opens tells told may_leave h' m s t' mark
+  life_entry t' e now none locks live =
+      let log : (opening : List Record) → life_log opening h' ≡ life_log opening h = λ opening. ap (life_log opening) now ∙ log_same opening h e none in
+      record {
+        records = λ opening stands. subst (λ (l : List Record). IsLogWith tells told may_leave l m s) (sym (log opening)) (k.records opening stands);
+        locks = subst (λ (l : List Entry). AreHeld l t') (sym now) locks;
+        losers = k.losers;
+        places = record {
+          commits = let c = k.places.commits in omega (arith, c, live);
+          numbers = λ opening stands. let n = k.places.numbers opening stands in omega (arith, n, live, ap (λ (l : List Record). length l) (log opening));
+        };
+        durable = k.durable;
+      }
+
+  -- room for a commit more
+  life_room : m' ≡ record m { spare = m.spare + 1 } → s' ≡ s → IsOfLife opens tells told may_leave h m' s' t mark
+  life_room room listing =
+      let same : m'.log ≡ m.log = ap (λ (x : Managed D). x.log) room in
+      record {
+        records = λ opening stands. subst (λ (x : Listing). IsLogWith tells told may_leave (life_log opening h) m' x) (sym listing) (same_blocks tells told may_leave (life_log opening h) m m' s (k.records opening stands) same);
+        locks = k.locks;
+        losers = k.losers;
+        places = record {
+          commits = let c = k.places.commits in omega (arith, c, ap (λ (x : Managed D). x.spare) room);
+          numbers = k.places.numbers;
+        };
+        durable = λ opening stands tell runs. subst (λ (l : LogState D). mark ≤ durable_lsn l.places) (sym same) (k.durable opening stands tell (ap (λ (l : LogState D). l.ended) (sym same) ∙ runs));
+      }
+
+  -- a beginning, or only room for its commit
+  pub life_begin : (session : ℕ) (result : Result ℕ Fault) → m' ≡ record m { spare = m.spare + 1 } → s' ≡ s → m.log.next - 1 < 2 ^ 62 → h' ≡ h ++ begun session result
+      → OnOk result ((live_count h' ≡ live_count h + 1) × (live_count h' ≤ 64)) → IsOfLife opens tells told may_leave h' m' s' t mark
+  life_begin session (Err fault) room listing few now live = subst (λ (l : List Entry). IsOfLife opens tells told may_leave l m' s' t mark) (sym (now ∙ append-nil h)) (life_room room listing)
+  life_begin session (Ok tx) room listing few now live =
+      let roomy = life_room room listing in
+      let log : (opening : List Record) → life_log opening h' ≡ life_log opening h = λ opening. ap (life_log opening) now ∙ log_same opening h (entries.Began session tx) refl in
+      record {
+        records = λ opening stands. subst (λ (l : List Record). IsLogWith tells told may_leave l m' s') (sym (log opening)) (roomy.records opening stands);
+        locks = λ l. subst (λ (ls : List Held). table.Holds t l ↔ IsAmong (held l.range l.mode) ls) (sym (ap (λ x. taken_locks x l.tx) now ∙ taken_push h (entries.Began session tx) l.tx)) (k.locks l);
+        losers = k.losers;
+        places = record {
+          commits = let c = k.places.commits in let one = ap (λ (x : Managed D). x.spare) room in let more = live.0 in omega (arith, c, one, more);
+          numbers = λ opening stands. let n = (k.records opening stands).next in let most = live.1 in omega (arith, n, few, most, ap (λ (l : List Record). length l) (log opening));
+        };
+        durable = roomy.durable;
+      }
+
+  -- a write and its answer
+  pub life_write : (tx lsn : ℕ) (r : Record) (said : Said) → h' ≡ h ++ told_entries lsn r said → IsWriteBy tx r → m'.log.ended ≡ m.log.ended → m'.log.places ≡ m.log.places → m'.spare ≡ m.spare
+      → (live_count h' ≡ live_count h) × (live_count h ≤ 64) → IsNext opens h lsn
+      → ((opening : List Record) → opens opening → IsLogWith tells told may_leave (life_log opening h ++ r ∷ []) m' s') → IsOfLife opens tells told may_leave h' m' s' t mark
+  life_write tx lsn r said now write ended places spare live next records =
+      let log : (opening : List Record) → life_log opening h' ≡ life_log opening h ++ r ∷ [] = λ opening. ap (life_log opening) now ∙ log_told h lsn r said opening in
+      record {
+        records = λ opening stands. subst (λ (l : List Record). IsLogWith tells told may_leave l m' s') (sym (log opening)) (records opening stands);
+        locks = λ l. subst (λ (ls : List Held). table.Holds t l ↔ IsAmong (held l.range l.mode) ls) (sym (ap (λ x. taken_locks x l.tx) now ∙ locks_told h lsn r said tx write l.tx)) (k.locks l);
+        losers = k.losers;
+        places = record {
+          commits = let c = k.places.commits in let same = live.0 in omega (arith, c, spare, same);
+          numbers = λ opening stands.
+              let at = (next opening stands).0 in
+              let low = (next opening stands).1 in
+              let most = live.1 in
+              let same = live.0 in
+              omega (arith, at, low, most, same, ap (λ (l : List Record). length l) (log opening), length-append (life_log opening h) (r ∷ []));
+        };
+        durable = λ opening stands tell runs. subst (λ ps. mark ≤ durable_lsn ps) (sym places) (k.durable opening stands tell (sym ended ∙ runs));
+      }
+
+  -- ---- a commit
+
+  released : (t' : RangeLocks) (lsn tx prev : ℕ) → table.Releases t t' tx → AreHeld (h ++ commit_entry lsn tx prev ∷ []) t'
+  released t' lsn tx prev free l = subst (λ (ls : List Held). table.Holds t' l ↔ IsAmong (held l.range l.mode) ls) (sym (taken_push h (commit_entry lsn tx prev) l.tx)) (by (eqb tx l.tx) refl)
+    where
+      by : (b : Bool) → eqb tx l.tx ≡ b → table.Holds t' l ↔ IsAmong (held l.range l.mode) (cond b [] (taken_locks h l.tx))
+      by true e = (λ now. absurd (((free l).0 now).0 (sym (eqb-true tx l.tx e))), λ among. absurd among)
+      by false e = (λ now. (k.locks l).0 ((free l).0 now).1, λ among. (free l).1 (λ same. absurd (differ tx l.tx e (sym same)), (k.locks l).1 among))
+
+  pub life_commit : (t' : RangeLocks) (lsn tx prev : ℕ) → h' ≡ h ++ commit_entry lsn tx prev ∷ [] → table.Releases t t' tx → live_count h' + 1 ≡ live_count h → m'.spare + 1 ≡ m.spare → m'.log.places ≡ m.log.places → m'.log.ended ≡ m.log.ended
+      → ((opening : List Record) → opens opening → IsLogWith tells told may_leave (life_log opening h ++ kinds.Commit (record { tx = tx; prev = prev }) ∷ []) m' s') → IsOfLife opens tells told may_leave h' m' s' t' mark
+  life_commit t' lsn tx prev now free live spare places ended records =
+      let r : Record = kinds.Commit (record { tx = tx; prev = prev }) in
+      let log : (opening : List Record) → life_log opening h' ≡ life_log opening h ++ r ∷ [] = λ opening. ap (life_log opening) now ∙ log_more opening h lsn r in
+      record {
+        records = λ opening stands. subst (λ (l : List Record). IsLogWith tells told may_leave l m' s') (sym (log opening)) (records opening stands);
+        locks = subst (λ (l : List Entry). AreHeld l t') (sym now) (released t' lsn tx prev free);
+        losers = k.losers;
+        places = record {
+          commits = let c = k.places.commits in omega (arith, c, spare, live);
+          numbers = λ opening stands.
+              let n = k.places.numbers opening stands in
+              omega (arith, n, live, ap (λ (l : List Record). length l) (log opening), length-append (life_log opening h) (r ∷ []));
+        };
+        durable = λ opening stands tell runs. subst (λ ps. mark ≤ durable_lsn ps) (sym places) (k.durable opening stands tell (sym ended ∙ runs));
+      }
+
+-- ---- a flush
+
+pub life_flush : {D : Type 0} (opens : List Record → Type 0) (tells : Type 0) (told : D → Kept) (may_leave : D → Kept → Type 0) (h : List Entry) (m m' : Managed D) (s s' : Listing) (t : RangeLocks) (mark mark' durable : ℕ)
+    → IsOfLife opens tells told may_leave h m s t mark → m.log.ended ≡ None → ((rs : List Record) → IsLogWith tells told may_leave rs m s → IsLogWith tells told may_leave rs m' s') → m'.spare ≡ m.spare
+    → ((rs : List Record) → IsLogWith tells told may_leave rs m s → tells → m.log.ended ≡ None → durable_lsn m.log.places ≤ durable_lsn m'.log.places)
+    → durable ≡ durable_lsn m'.log.places → (mark' ≡ mark) ⊎ (mark' ≡ durable) → IsOfLife opens tells told may_leave h m' s' t mark'
+life_flush opens tells told may_leave h m m' s s' t mark mark' durable k runs same spare rises is marked = record {
+  records = λ opening stands. same (life_log opening h) (k.records opening stands);
+  locks = k.locks;
+  losers = k.losers;
+  places = record { commits = subst (λ n. live_count h ≤ n) (sym spare) k.places.commits; numbers = k.places.numbers };
+  durable = λ opening stands tell _.
+      let more = rises (life_log opening h) (k.records opening stands) tell runs in
+      let was = k.durable opening stands tell runs in
+      elim marked [
+        | inl old ↦ omega (arith, old, was, more)
+        | inr new ↦ omega (arith, new, is)
+      ];
+}
+
+-- ---- behind a commit
+
+-- the transaction is acknowledged, and no other one waits
+pub ends_acknowledged : (ended : Option ℕ) (h h1 h2 : List Entry) (faults faults' lsn session tx prev : ℕ) → EndsByFault ended h faults → h1 ≡ h ++ commit_entry lsn tx prev ∷ [] → h2 ≡ h1 ++ entries.Acked session tx ∷ [] → faults' ≡ faults → (ended2 : Option ℕ) → ended2 ≡ ended → EndsByFault ended2 h2 faults'
+ends_acknowledged ended h h1 h2 faults faults' lsn session tx prev k first second same ended2 still = record {
+  acknowledged = λ runs t is.
+      let now : phase h2 t ≡ cond (eqb tx t) Acknowledged (cond (eqb tx t) Committed (phase h t)) =
+      ap (λ l. phase l t) second ∙ phase_push h1 (entries.Acked session tx) t ∙ ap (λ (p : Phase). cond (eqb tx t) Acknowledged p) (ap (λ l. phase l t) first ∙ phase_push h (commit_entry lsn tx prev) t) in
+      by (eqb tx t) (phase h t) (k.acknowledged (sym still ∙ runs) t) (sym now ∙ is);
+  none = λ runs. same ∙ k.none (sym still ∙ runs);
+  one = λ over. subst (λ n. 0 < n) (sym same) (k.one (ap is_some (sym still) ∙ over));
+}
+  where
+    by : (b : Bool) (p : Phase) → p ≢ Committed → cond b Acknowledged (cond b Committed p) ≡ Committed → ⊥
+    by true p waits e = absurd (cc e)
+    by false p waits e = waits e
+
+-- ---- whole steps
+
+module _ {D : Type 0} (opens : List Record → Type 0) (tells : Type 0) (told : D → Kept) (may_leave : D → Kept → Type 0) (h h' : List Entry) (m m' : Managed D) (s s' : Listing) (t t' : RangeLocks) (mark faults faults' : ℕ) (k : IsKept opens tells told may_leave h m s t mark faults) (same : faults' ≡ faults) where
+  pub kept_begin : (session : ℕ) (result : Result ℕ Fault) → m' ≡ record m { spare = m.spare + 1 } → s' ≡ s → m.log.next - 1 < 2 ^ 62 → h' ≡ h ++ begun session result
+      → OnOk result ((live_count h' ≡ live_count h + 1) × (live_count h' ≤ 64)) → IsKept opens tells told may_leave h' m' s' t mark faults'
+  kept_begin session result room listing few now live = record {
+    life = life_begin opens tells told may_leave h h' m m' s s' t mark k.life session result room listing few now live;
+    ends = subst (λ (e : Option ℕ). EndsByFault e h' faults') (sym (ap (λ (x : Managed D). x.log.ended) room)) (by result now);
+  }
+    where
+      by : (result : Result ℕ Fault) → h' ≡ h ++ begun session result → EndsByFault m.log.ended h' faults'
+      by (Ok tx) now = ends_entry m.log.ended h h' faults faults' (entries.Began session tx) k.ends now same (began_stays session tx)
+      by (Err fault) now = subst (λ (x : List Entry × ℕ). EndsByFault m.log.ended x.0 x.1) (λ i. (sym (now ∙ append-nil h) i, sym same i)) k.ends
+
+  -- an entry that is no record, and by which no commit waits
+  pub kept_entry : (e : Entry) → h' ≡ h ++ e ∷ [] → log_of (e ∷ []) ≡ [] → AreHeld (h ++ e ∷ []) t' → live_count h' ≡ live_count h → StaysAcknowledged e → IsKept opens tells told may_leave h' m s t' mark faults'
+  kept_entry e now none locks live stays = record {
+    life = life_entry opens tells told may_leave h h' m m s s t mark k.life t' e now none locks live;
+    ends = ends_entry m.log.ended h h' faults faults' e k.ends now same stays;
+  }
+
+  -- a write and its answer
+  pub kept_write : (tx lsn : ℕ) (r : Record) (said : Said) → h' ≡ h ++ told_entries lsn r said → IsWriteBy tx r → m'.log.ended ≡ m.log.ended → m'.log.places ≡ m.log.places → m'.spare ≡ m.spare
+      → (live_count h' ≡ live_count h) × (live_count h ≤ 64) → IsNext opens h lsn
+      → ((opening : List Record) → opens opening → IsLogWith tells told may_leave (life_log opening h ++ r ∷ []) m' s') → IsKept opens tells told may_leave h' m' s' t mark faults'
+  kept_write tx lsn r said now write ended places spare live next records = record {
+    life = life_write opens tells told may_leave h h' m m' s s' t mark k.life tx lsn r said now write ended places spare live next records;
+    ends = record {
+      acknowledged = λ runs u is. k.ends.acknowledged (sym ended ∙ runs) u (sym (ap (λ l. phase l u) now ∙ phases_told h lsn r said tx write u) ∙ is);
+      none = λ runs. same ∙ k.ends.none (sym ended ∙ runs);
+      one = λ over. subst (λ n. 0 < n) (sym same) (k.ends.one (ap is_some (sym ended) ∙ over));
+    };
+  }
+
+  -- where nothing is entered, the locks may stand otherwise in their table
+  pub kept_locks : h' ≡ h → table.HoldsTheSame t t' → IsKept opens tells told may_leave h' m s t' mark faults'
+  kept_locks now held = subst (λ (x : List Entry × ℕ). IsKept opens tells told may_leave x.0 m s t' mark x.1) (λ i. (sym now i, sym same i)) (record {
+    life = record { records = k.life.records; locks = held_same h t k.life.locks t' held; losers = k.life.losers; places = k.life.places; durable = k.life.durable };
+    ends = k.ends;
+  })

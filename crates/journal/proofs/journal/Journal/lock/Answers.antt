@@ -1,0 +1,149 @@
+use Rattle.std.proofs.Common.{◌++◌, ◌∷◌, [], ◌≡◌, ℕ, List, length, false, sym, ap, ◌∙◌, refl, subst}
+use Rattle.std.proofs.lemmas.Result.{err_from_is_err_and}
+use Rattle.page_ops.specs.Outcomes.{IsFirstConflict}
+use Rattle.page_ops.specs.Seeing.{IsConsistent}
+use Rattle.range_lock.specs.Held as table
+use Rattle.range_lock.specs.Lock.{Lock, conflict}
+use Rattle.range_lock.specs.Nearest.{IsFirstInConflict}
+use Rattle.range_lock.specs.declared.rival.Rival.{Rival}
+use Rattle.store_model.specs.Range.{Interval}
+use Rattle.wal_record.specs.History.{Live, phase, live_count}
+use Rattle.wal_record.specs.Legal.{held}
+use Rattle.wal_record.specs.Locks.{locks}
+use Rattle.wal_record.specs.declared.entry.Entry.{Entry}
+use Rattle.wal_record.specs.declared.entry.Entry.TheVariants as entries
+use Rattle.journal.specs.Locks.{AreHeld}
+use Rattle.journal.proofs.Ending.{told_stops, stopped_ends}
+use Rattle.journal.proofs.Entering.{looked, entered_entry}
+use Rattle.journal.proofs.Living.{kept_entry, kept_locks}
+use Rattle.journal.proofs.Locking.{lock_consistent, refused_consistent, conflict_told, held_more, held_refused}
+use Rattle.journal.proofs.journal.Journal.lock.Goals as goal
+
+pub returns-in_err-check_open-clause-ends : goal.returns-in_err-check_open-clause-ends
+returns-in_err-check_open-clause-ends g c =
+    let p = err_from_is_err_and c.from_residual.result c.from_residual.ensures.1 in
+    rw (p.1, p.2) (stopped_ends _ g.N.Life.log_faults _ _ _ _ _ _ c.watch_session.ensures.counts (told_stops g.N.Life.log_faults _ _ _ c.in_err-check_open.ensures.ended))
+
+pub enter_own-requires-clause-consistent : goal.enter_own-requires-clause-consistent
+enter_own-requires-clause-consistent g c =
+    let watch = c.watch_session.ensures in
+    let h = c.watch_session.new.self in
+    let t = c.self.inside.locks in
+    let k = c.self.invariant.1 in
+    let l = looked _ _ _ _ _ _ _ _ _ _ h watch.seen watch.pass watch.same (k.ends.acknowledged c.in_ok-check_open.ensures.open.0) watch.right c.requires.active in
+    let a : Lock = record { tx = c.args.s.now.tx; range = c.args.range.now; mode = c.args.mode } in
+    let tx : c.tx-tx.result ≡ c.args.s.now.tx = c.tx-tx.ensures ∙ ap (λ x. x.tx) watch.right in
+    let range : c.in_ok-asked.asked ≡ c.args.range.now = c.in_ok-asked.ensures in
+    let here = subst (λ (x : List Entry). AreHeld x t) (sym watch.same) k.life.locks in
+    let live : phase h c.args.s.now.tx ≡ Live = subst (λ (n : ℕ). phase h n ≡ Live) (ap (λ x. x.tx) watch.right) l.live in
+    subst (λ (x : ℕ × Interval). IsConsistent g.N.Life.opens (h ++ entries.Lock x.0 x.1 c.args.mode ∷ [])) (λ i. (sym tx i, sym range i))
+    (lock_consistent g.N.Life.opens h l.consistent t here k.life.losers a live (λ x has. subst (λ (n : ℕ). conflict (record { tx = n; range = c.args.range.now; mode = c.args.mode }) x ≡ false) tx (c.in-Ok.ensures.free x has)))
+
+pub invariant_of-self-in-Ok-13 : goal.invariant_of-self-in-Ok-13
+invariant_of-self-in-Ok-13 g c =
+    let watch = c.watch_session.ensures in
+    let own = c.enter_own.ensures in
+    let k = c.self.invariant.1 in
+    let a : Lock = record { tx = c.tx-tx.result; range = c.args.range.now; mode = c.args.mode } in
+    let e : Entry = entries.Lock c.tx-tx.result c.args.range.now c.args.mode in (
+      c.self.invariant.0,
+      kept_entry _ _ _ _ _ _ c.self.inside.log.log c.self.inside.log.log c.self.inside.log.listing c.self.inside.log.listing c.self.inside.locks c.acquire.new.self _ _ _ k c.check_open.ensures.total e
+          (own.history ∙ (λ i. watch.same i ++ entries.Lock c.tx-tx.result (c.in_ok-asked.ensures i) c.args.mode ∷ [])) refl (held_more c.self.inside.history c.self.inside.locks k.life.locks c.acquire.new.self a c.in-Ok.ensures.ok) (own.live.0 ∙ ap live_count watch.same) (λ t p waits. waits),
+    )
+
+pub returns-in-Ok-clause-entered : goal.returns-in-Ok-clause-entered
+returns-in-Ok-clause-entered g c =
+    let watch = c.watch_session.ensures in
+    let h = c.watch_session.new.self in
+    let t = c.self.inside.locks in
+    let k = c.self.invariant.1 in
+    let l = looked _ _ _ _ _ _ _ _ _ _ h watch.seen watch.pass watch.same (k.ends.acknowledged c.in_ok-check_open.ensures.open.0) watch.right c.requires.active in
+    let a : Lock = record { tx = c.args.s.now.tx; range = c.args.range.now; mode = c.args.mode } in
+    let tx : c.tx-tx.result ≡ c.args.s.now.tx = c.tx-tx.ensures ∙ ap (λ x. x.tx) watch.right in
+    let range : c.in_ok-asked.asked ≡ c.args.range.now = c.in_ok-asked.ensures in
+    let here = subst (λ (x : List Entry). AreHeld x t) (sym watch.same) k.life.locks in
+    let live : phase h c.args.s.now.tx ≡ Live = subst (λ (n : ℕ). phase h n ≡ Live) (ap (λ x. x.tx) watch.right) l.live in
+    let own = c.enter_own.ensures in
+    entered_entry _ _ _ _ _ _ _ _ _ _ _ _ _ h _ (entries.Lock c.args.s.now.tx c.args.range.now c.args.mode) watch.seen watch.counts c.in_ok-check_open.ensures.open.1 watch.right (watch.pass ∙ sym watch.same)
+    (own.history ∙ (λ i. h ++ entries.Lock (tx i) (range i) c.args.mode ∷ [])) own.seen own.durable own.counts own.counted
+    (lock_consistent g.N.Life.opens h l.consistent t here k.life.losers a live (λ x has. subst (λ (n : ℕ). conflict (record { tx = n; range = c.args.range.now; mode = c.args.mode }) x ≡ false) tx (c.in-Ok.ensures.free x has)))
+    own.agrees
+
+-- ---- refused
+
+pub enter_own-requires-in-Err-Overlap-clause-consistent : goal.enter_own-requires-in-Err-Overlap-clause-consistent
+enter_own-requires-in-Err-Overlap-clause-consistent g c =
+    let watch = c.watch_session.ensures in
+    let h = c.watch_session.new.self in
+    let t = c.self.inside.locks in
+    let k = c.self.invariant.1 in
+    let l = looked _ _ _ _ _ _ _ _ _ _ h watch.seen watch.pass watch.same (k.ends.acknowledged c.in_ok-check_open.ensures.open.0) watch.right c.requires.active in
+    let a : Lock = record { tx = c.args.s.now.tx; range = c.args.range.now; mode = c.args.mode } in
+    let tx : c.tx-tx.result ≡ c.args.s.now.tx = c.tx-tx.ensures ∙ ap (λ x. x.tx) watch.right in
+    let range : c.in_ok-asked.asked ≡ c.args.range.now = c.in_ok-asked.ensures in
+    let here = subst (λ (x : List Entry). AreHeld x t) (sym watch.same) k.life.locks in
+    let live : phase h c.args.s.now.tx ≡ Live = subst (λ (n : ℕ). phase h n ≡ Live) (ap (λ x. x.tx) watch.right) l.live in
+    let r : Rival = record { holder = c.in-Err-Overlap.holder; range = c.in-Err-Overlap.first } in
+    let first = rw c.in-Err-Overlap.field-0-is at c.in-Err-Overlap.ensures.refused in
+    let f : IsFirstInConflict a (table.held t) r = subst (λ (n : ℕ). IsFirstInConflict (record { tx = n; range = c.args.range.now; mode = c.args.mode }) (table.held t) r) tx first in
+    subst (λ (x : ℕ × Interval). IsConsistent g.N.Life.opens (h ++ entries.Refused x.0 x.1 c.args.mode c.in-Err-Overlap.holder ∷ [])) (λ i. (sym tx i, sym range i))
+    (refused_consistent g.N.Life.opens h l.consistent t here k.life.losers a live r f)
+
+pub invariant_of-self-in-Err-Overlap-13 : goal.invariant_of-self-in-Err-Overlap-13
+invariant_of-self-in-Err-Overlap-13 g c =
+    let watch = c.watch_session.ensures in
+    let own = c.enter_own-in-Err-Overlap.ensures in
+    let k = c.self.invariant.1 in
+    let a : Lock = record { tx = c.tx-tx.result; range = c.args.range.now; mode = c.args.mode } in
+    let e : Entry = entries.Refused c.tx-tx.result c.args.range.now c.args.mode c.in-Err-Overlap.holder in (
+      c.self.invariant.0,
+      kept_entry _ _ _ _ _ _ c.self.inside.log.log c.self.inside.log.log c.self.inside.log.listing c.self.inside.log.listing c.self.inside.locks c.acquire.new.self _ _ _ k c.check_open.ensures.total e
+          (own.history ∙ (λ i. watch.same i ++ entries.Refused c.tx-tx.result (c.in_ok-asked.ensures i) c.args.mode c.in-Err-Overlap.holder ∷ [])) refl (held_refused c.self.inside.history c.self.inside.locks k.life.locks c.acquire.new.self a c.in-Err-Overlap.holder c.in-Err-Overlap.ensures.err) (own.live.0 ∙ ap live_count watch.same) (λ t p waits. waits),
+    )
+
+pub returns-in-Err-Overlap-clause-entered : goal.returns-in-Err-Overlap-clause-entered
+returns-in-Err-Overlap-clause-entered g c =
+    let watch = c.watch_session.ensures in
+    let h = c.watch_session.new.self in
+    let t = c.self.inside.locks in
+    let k = c.self.invariant.1 in
+    let l = looked _ _ _ _ _ _ _ _ _ _ h watch.seen watch.pass watch.same (k.ends.acknowledged c.in_ok-check_open.ensures.open.0) watch.right c.requires.active in
+    let a : Lock = record { tx = c.args.s.now.tx; range = c.args.range.now; mode = c.args.mode } in
+    let tx : c.tx-tx.result ≡ c.args.s.now.tx = c.tx-tx.ensures ∙ ap (λ x. x.tx) watch.right in
+    let range : c.in_ok-asked.asked ≡ c.args.range.now = c.in_ok-asked.ensures in
+    let here = subst (λ (x : List Entry). AreHeld x t) (sym watch.same) k.life.locks in
+    let live : phase h c.args.s.now.tx ≡ Live = subst (λ (n : ℕ). phase h n ≡ Live) (ap (λ x. x.tx) watch.right) l.live in
+    let r : Rival = record { holder = c.in-Err-Overlap.holder; range = c.in-Err-Overlap.first } in
+    let first = rw c.in-Err-Overlap.field-0-is at c.in-Err-Overlap.ensures.refused in
+    let f : IsFirstInConflict a (table.held t) r = subst (λ (n : ℕ). IsFirstInConflict (record { tx = n; range = c.args.range.now; mode = c.args.mode }) (table.held t) r) tx first in
+    let own = c.enter_own-in-Err-Overlap.ensures in
+    entered_entry _ _ _ _ _ _ _ _ _ _ _ _ _ h _ (entries.Refused c.args.s.now.tx c.args.range.now c.args.mode c.in-Err-Overlap.holder) watch.seen watch.counts c.in_ok-check_open.ensures.open.1 watch.right (watch.pass ∙ sym watch.same)
+    (own.history ∙ (λ i. h ++ entries.Refused (tx i) (range i) c.args.mode c.in-Err-Overlap.holder ∷ [])) own.seen own.durable own.counts own.counted
+    (refused_consistent g.N.Life.opens h l.consistent t here k.life.losers a live r f)
+    own.agrees
+
+pub returns-in-Err-Overlap-clause-conflict : goal.returns-in-Err-Overlap-clause-conflict
+returns-in-Err-Overlap-clause-conflict g c =
+    let watch = c.watch_session.ensures in
+    let h = c.watch_session.new.self in
+    let t = c.self.inside.locks in
+    let k = c.self.invariant.1 in
+    let l = looked _ _ _ _ _ _ _ _ _ _ h watch.seen watch.pass watch.same (k.ends.acknowledged c.in_ok-check_open.ensures.open.0) watch.right c.requires.active in
+    let a : Lock = record { tx = c.args.s.now.tx; range = c.args.range.now; mode = c.args.mode } in
+    let tx : c.tx-tx.result ≡ c.args.s.now.tx = c.tx-tx.ensures ∙ ap (λ x. x.tx) watch.right in
+    let range : c.in_ok-asked.asked ≡ c.args.range.now = c.in_ok-asked.ensures in
+    let here = subst (λ (x : List Entry). AreHeld x t) (sym watch.same) k.life.locks in
+    let live : phase h c.args.s.now.tx ≡ Live = subst (λ (n : ℕ). phase h n ≡ Live) (ap (λ x. x.tx) watch.right) l.live in
+    let r : Rival = record { holder = c.in-Err-Overlap.holder; range = c.in-Err-Overlap.first } in
+    let first = rw c.in-Err-Overlap.field-0-is at c.in-Err-Overlap.ensures.refused in
+    let f : IsFirstInConflict a (table.held t) r = subst (λ (n : ℕ). IsFirstInConflict (record { tx = n; range = c.args.range.now; mode = c.args.mode }) (table.held t) r) tx first in
+    let own = c.enter_own-in-Err-Overlap.ensures in
+    let now = own.seen ∙ own.history ∙ (λ i. h ++ entries.Refused (tx i) (range i) c.args.mode c.in-Err-Overlap.holder ∷ []) in (
+      c.length-in-Err-Overlap.ensures ∙ ap (λ (l : List Entry). length l) (sym own.seen),
+      λ opening stands. subst (λ (x : List Entry). IsFirstConflict (locks opening x c.in-Err-Overlap.holder) (held c.args.range.now c.args.mode) c.in-Err-Overlap.first) (sym now)
+          (conflict_told g.N.Life.opens h l.consistent t here k.life.losers a live r f opening stands),
+    )
+
+pub invariant_of-self-in-Err-Memory : goal.invariant_of-self-in-Err-Memory
+invariant_of-self-in-Err-Memory g c =
+    (c.self.invariant.0, kept_locks _ _ _ _ _ _ c.self.inside.log.log c.self.inside.log.log c.self.inside.log.listing c.self.inside.log.listing c.self.inside.locks c.acquire.new.self _ _ _ c.self.invariant.1 c.check_open.ensures.total c.watch_session.ensures.same c.in-Err-Memory.ensures.err)
