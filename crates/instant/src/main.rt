@@ -1,8 +1,9 @@
 //! The program: a script on standard input, its transcript on standard output.
 //!
-//! `instant PLACE [run]` keeps its log at PLACE: `mem`, or a folder that is there. It makes the devices and the
-//! operators, runs the words behind PLACE, says on standard error why the run ended where it isn't done, and ends with
-//! the status' code.
+//! `instant PLACE [run | generate N] [--workers W] [--frames F]` keeps its log at PLACE: `mem`, or a folder that is there.
+//! It makes the devices and the operators, does what the words behind PLACE ask for, says on standard error why the run
+//! ended where it isn't done, and ends with the status' code. Workers and frames have no effect today, and no script is
+//! generated yet.
 #![tactic(auto)]
 
 ghost use Rattle.std.specs.Prelude.{◌≡◌};
@@ -10,6 +11,7 @@ ghost use Rattle.operators.specs.Means.{made_by};
 
 mod ended;
 
+use call_words::{Mode, call_of};
 use ended::Ended;
 use media::{Devices, Disk, PageDevice, Vault};
 use media_file::{FileDisk, FilePages, FileVault, Folder, StreamSink, StreamSource};
@@ -31,19 +33,38 @@ fn words(rt: &HostRuntime, alloc: Global) -> io::Result<Vec<String>> {
     Ok(words)
 }
 
-/// Runs the words on devices at their place.
+/// Where a store is kept.
+#[derive(Clone, Copy)]
+enum Place<'a> {
+    Memory,
+    Folder(&'a str),
+}
+
+/// Does what the words ask for.
 fn run(rt: &HostRuntime, alloc: Global, words: &[String]) -> Ended {
-    match words {
-        [place, rest @ ..] => {
-            if place.as_str() == "mem" {
-                run_in_memory(rt, alloc, rest)
-            } else if is_folder(rt, place.as_str()) {
-                run_in_folder(rt, alloc, place.as_str(), rest)
-            } else {
-                Ended::Ran(Status::Usage)
-            }
-        }
-        [] => Ended::Ran(Status::Usage),
+    let [place, rest @ ..] = words else {
+        return Ended::Ran(Status::Usage);
+    };
+    let Some(place) = place_of(rt, place.as_str()) else {
+        return Ended::Ran(Status::Usage);
+    };
+    match call_of(alloc, rest) {
+        Ok(call) => match call.mode {
+            Mode::Run => run_at(rt, alloc, place),
+            Mode::Generate(_) => Ended::NotBuilt,
+        },
+        Err(refusal) => Ended::from(refusal),
+    }
+}
+
+/// The place that a word names: memory, or a folder that is there.
+fn place_of<'a>(rt: &HostRuntime, word: &'a str) -> Option<Place<'a>> {
+    if word == "mem" {
+        Some(Place::Memory)
+    } else if is_folder(rt, word) {
+        Some(Place::Folder(word))
+    } else {
+        None
     }
 }
 
@@ -55,25 +76,33 @@ fn is_folder(rt: &HostRuntime, path: &str) -> bool {
     }
 }
 
-/// Runs the words on devices in memory, blank at each start.
-fn run_in_memory(rt: &HostRuntime, alloc: Global, words: &[String]) -> Ended {
+/// Runs the script on devices at the place.
+fn run_at(rt: &HostRuntime, alloc: Global, place: Place<'_>) -> Ended {
+    match place {
+        Place::Memory => run_in_memory(rt, alloc),
+        Place::Folder(path) => run_in_folder(rt, alloc, path),
+    }
+}
+
+/// Runs the script on devices in memory, blank at each start.
+fn run_in_memory(rt: &HostRuntime, alloc: Global) -> Ended {
     let devices = Devices {
         log: MemDisk::new(alloc),
         pages: MemPages::new(alloc),
         vault: MemVault::new(alloc),
     };
-    run_on(rt, alloc, words, devices)
+    run_on(rt, alloc, devices)
 }
 
-/// Runs the words on the devices in the files of a folder, which no other process has meanwhile.
-fn run_in_folder(rt: &HostRuntime, alloc: Global, path: &str, words: &[String]) -> Ended {
+/// Runs the script on the devices in the files of a folder, which no other process has meanwhile.
+fn run_in_folder(rt: &HostRuntime, alloc: Global, path: &str) -> Ended {
     let lock = match locked(rt, path) {
         Ok(lock) => lock,
         Err(TryLockError::WouldBlock) => return Ended::InUse,
         Err(TryLockError::Error(_)) => return Ended::Unopened,
     };
     let ended = match opened(rt, alloc, path) {
-        Ok(devices) => run_on(rt, alloc, words, devices),
+        Ok(devices) => run_on(rt, alloc, devices),
         Err(_) => Ended::Unopened,
     };
     drop(lock);
@@ -106,14 +135,13 @@ fn opened<'a>(
     })
 }
 
-/// Runs the words on these devices, with the operators of the store.
+/// Runs the script on these devices, with the operators of the store.
 fn run_on<L: Disk + Drop, P: PageDevice + Drop, V: Vault + Drop>(
     rt: &HostRuntime,
     alloc: Global,
-    words: &[String],
     devices: Devices<L, P, V>,
 ) -> Ended {
-    match run_with(rt, alloc, words, devices) {
+    match run_with(rt, alloc, devices) {
         Ok(status) => Ended::Ran(status),
         Err(_) => Ended::Ran(Status::Memory),
     }
@@ -122,7 +150,6 @@ fn run_on<L: Disk + Drop, P: PageDevice + Drop, V: Vault + Drop>(
 fn run_with<L: Disk + Drop, P: PageDevice + Drop, V: Vault + Drop>(
     rt: &HostRuntime,
     alloc: Global,
-    words: &[String],
     devices: Devices<L, P, V>,
 ) -> Result<Status, AllocError> {
     let operators = Operators::new(
@@ -153,7 +180,7 @@ fn run_with<L: Disk + Drop, P: PageDevice + Drop, V: Vault + Drop>(
         writer: rt.stdout(),
         faults: 0,
     };
-    let (status, _devices) = run_words(alloc, words, &mut source, &mut sink, devices, &operators);
+    let (status, _devices) = run_words(alloc, &[], &mut source, &mut sink, devices, &operators);
     Ok(status)
 }
 

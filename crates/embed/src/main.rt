@@ -1,0 +1,71 @@
+//! A store inside a program: the smallest one that opens a store, writes, commits, and reads what it wrote in a later life.
+//!
+//! Each run takes the devices and hands them back, so the second run finds what the first one left. For a store that stays
+//! take the devices of a folder, as the program `instant` does.
+#![tactic(auto)]
+
+ghost use Rattle.std.specs.Prelude.{◌≡◌};
+ghost use Rattle.operators.specs.Means.{made_by};
+
+use media::Devices;
+use media_file::StreamSink;
+use media_mem::{MemDisk, MemPages, MemSource, MemVault};
+use operators::{Operators, add, join, max};
+use runner::{Status, run_words};
+use std::alloc::Global;
+use std::io;
+use std::process::ExitCode;
+use store_model::{OpValue, Value};
+
+/// A store is made, and a row written.
+const FIRST: &str = "format\nopen\nbegin A\nput A apple 1\ncommit A\n";
+
+/// The store is opened again, and the row read.
+const SECOND: &str = "open\nbegin B\nget B apple\ncommit B\n";
+
+fn main(rt: HostRuntime) -> io::Result<ExitCode> {
+    let alloc = rt.alloc();
+    let operators = Operators::new(
+        Box::new(
+            alloc,
+            |old: &Option<Value>, argument: &OpValue|
+                ensures { result ≡ made_by 1 old.now argument.now }
+            { add(old, argument) },
+        )?,
+        Box::new(
+            alloc,
+            |old: &Option<Value>, argument: &OpValue|
+                ensures { result ≡ made_by 2 old.now argument.now }
+            { max(old, argument) },
+        )?,
+        Box::new(
+            alloc,
+            |old: &Option<Value>, argument: &OpValue|
+                ensures { result ≡ made_by 3 old.now argument.now }
+            { join(old, argument) },
+        )?,
+    );
+    two_lives(&rt, alloc, &operators)
+}
+
+/// Runs both scripts on one store in memory, and prints what they answer.
+fn two_lives(rt: &HostRuntime, alloc: Global, operators: &Operators) -> io::Result<ExitCode> {
+    let mut devices = Devices {
+        log: MemDisk::new(alloc),
+        pages: MemPages::new(alloc),
+        vault: MemVault::new(alloc),
+    };
+    let mut sink = StreamSink {
+        writer: rt.stdout(),
+        faults: 0,
+    };
+    for script in [FIRST, SECOND] {
+        let mut source = MemSource::new(alloc, script.as_bytes().to_vec(alloc)?);
+        let (status, left) = run_words(alloc, &[], &mut source, &mut sink, devices, operators);
+        if status != Status::Done {
+            return Ok(ExitCode::from(status.code()));
+        }
+        devices = left;
+    }
+    Ok(ExitCode::SUCCESS)
+}
