@@ -24,8 +24,8 @@
 //! 4. [`Journal::commit`] takes no memory. It enters the Commit, gives the locks back, makes the log durable up to it, and
 //!    only then enters that it is acknowledged. [`Journal::flush`] makes the log durable alone.
 //! 5. [`Journal::refuse`] enters that a request is declined, since its operator gives no value.
-//! 6. A fault of the log disk ends the life. From then on each call that enters or flushes tells that, always with the same
-//!    LSN, and enters nothing.
+//! 6. A fault of the log disk ends the life. From then on each call that enters or flushes tells that, and enters
+//!    nothing; through one account it is always the same LSN.
 //!
 //! A group that isn't built yet is refused as one that wants memory, which the traits allow. Not built: groups of other
 //! kinds, answers `Late`, lives that begin with losers.
