@@ -1,6 +1,6 @@
 -- What a caller knows behind a group that was entered, or wasn't.
 use Rattle.std.proofs.Common.{◌≡◌, ℕ, suc, ◌+◌, ◌≤◌, List, [], ◌∷◌, ◌++◌, length, Option, Some, None, true, refl, sym, ap, ◌∙◌, subst, arith}
-use Rattle.std.specs.Prelude.{◌<◌, Ok, Err}
+use Rattle.std.specs.Prelude.{◌<◌, IsSome, Ok, Err}
 use Rattle.std.specs.Option.{option_map}
 use Rattle.books.specs.Rights.{PageClaim, SessionClaim, MaintClaim}
 use Rattle.front.specs.Seen.{PassSeen}
@@ -114,4 +114,5 @@ filled_in asked now h1 h3 x0 x1 x3 x4 p first last =
         m = ap (λ (x : Claims). option_map (λ (m : MaintClaim). m.number) x.m) rights;
       };
       made = ap (λ (x : Claims). page_of x.c) rights ∙ sym (ap (λ (g : Group). new_place (made_by g.recs) 0 (page_of x0.c)) asks.is);
+      numbered = λ makes. absurd (subst (λ (g : Group). IsSome (made_by g.recs)) asks.is makes);
     }

@@ -12,6 +12,7 @@ use Rattle.store_model.specs.declared.range.Mode.{Mode}
 use Rattle.store_model.specs.declared.reply.Outcome.TheVariants as outcomes
 use Rattle.store_model.specs.declared.request.Request.{Request}
 use Rattle.wal_record.specs.Rules.{HasSpelling}
+use Rattle.wal_record.specs.State.{is_child}
 use Rattle.wal_record.specs.Chains.{pages, finishes, record_with}
 use Rattle.wal_record.specs.OpenWrites.{pending, is_loser, losers, open_list}
 use Rattle.wal_record.specs.Upkeep.{segment_of, unrestored, standing_runs, archived}
@@ -85,12 +86,14 @@ abbrev pub KeepsGroup : Result Entered Fault → Group → Group → Type 0
 KeepsGroup (Ok (entered.At pos)) asked now = Unit {0}
 KeepsGroup _ asked now = now ≡ asked
 
--- the group is filled in, and the right to the page that it makes is there
+-- the group is filled in, the right to the page that it makes is there, and that page has the number of one that isn't
+-- the root
 pub record IsFilledIn (asked now : Group) (old new : Claims) : Type 0 where
   pub child : ℕ
   pub recs : AreFilled child asked.recs now.recs
   pub holders : SameHolders old new
   pub made : page_of new.c ≡ new_place (made_by asked.recs) child (page_of old.c)
+  pub numbered : IsSome (made_by asked.recs) → IsTrue (is_child child)
 
 -- its records have the LSNs from the group's on, and at the moment at which they came there was the room that was
 -- asked for

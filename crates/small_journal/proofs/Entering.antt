@@ -10,7 +10,7 @@ use Rattle.wal_record.specs.declared.record.Record.{Record}
 use Rattle.wal_record.specs.declared.record.Record.TheVariants as kinds
 use Rattle.wal_record.specs.declared.entry.Entry.{Entry}
 use Rattle.wal_record.proofs.Pushes.{legal_front}
-use Rattle.std.specs.Prelude.{Result, Ok, Err, IfOk, IfErr, OnOk, OnErr}
+use Rattle.std.specs.Prelude.{Result, Ok, Err, IfOk, IfErr, IsSome, OnOk, OnErr}
 use Rattle.std.specs.Option.{option_map}
 use Rattle.books.specs.Rights.{PageClaim, SessionClaim, MaintClaim}
 use Rattle.store_model.specs.declared.fault.Fault.{Fault}
@@ -120,6 +120,7 @@ module _ (asked now : Group) (page prev : ℕ) (s3 h1 : List Entry) (x0 x1 x3 : 
           m = ap (λ (x : Claims). option_map (λ (m : MaintClaim). m.number) x.m) rights;
         };
         made = ap (λ (x : Claims). page_of x.c) rights ∙ sym (ap (λ (g : Group). new_place (made_by g.recs) 0 (page_of x0.c)) asks.is);
+        numbered = λ makes. absurd (subst (λ (g : Group). IsSome (made_by g.recs)) asks.is makes);
       }
 
   pub on_entered : (result : Result Entered Fault) → OnOk result (EntersPurge page prev asked now x1 x3 h1 s3) → x1 ≡ x0 → AsksPurge asked page → x0.a ≡ Some (record { page = page; lsn = prev }) → OnEntered result (IsFilledIn asked now x0 x3)
