@@ -1,5 +1,5 @@
 -- What the entering of a purge makes of what a caller knows.
-use Rattle.std.proofs.Common.{◌≡◌, ℕ, suc, ◌+◌, List, [], ◌∷◌, ◌++◌, length, Option, Some, None, false, refl, sym, ap, ◌∙◌, subst, arith}
+use Rattle.std.proofs.Common.{◌≡◌, ℕ, suc, ◌+◌, List, [], ◌∷◌, ◌++◌, length, Option, Some, None, false, true, refl, sym, ap, ◌∙◌, subst, arith}
 use Rattle.front.specs.Seen.{PassSeen}
 use Rattle.front.proofs.Keeping.{prefix_trans}
 use Rattle.wal_record.specs.Chains.{head}
@@ -120,7 +120,7 @@ module _ (asked now : Group) (page prev : ℕ) (s3 h1 : List Entry) (x0 x1 x3 : 
           m = ap (λ (x : Claims). option_map (λ (m : MaintClaim). m.number) x.m) rights;
         };
         made = ap (λ (x : Claims). page_of x.c) rights ∙ sym (ap (λ (g : Group). new_place (made_by g.recs) 0 (page_of x0.c)) asks.is);
-        numbered = λ makes. absurd (subst (λ (g : Group). IsSome (made_by g.recs)) asks.is makes);
+        numbered = λ makes. let none : false ≡ true = subst (λ (g : Group). IsSome (made_by g.recs)) asks.is makes in absurd (cc none);
       }
 
   pub on_entered : (result : Result Entered Fault) → OnOk result (EntersPurge page prev asked now x1 x3 h1 s3) → x1 ≡ x0 → AsksPurge asked page → x0.a ≡ Some (record { page = page; lsn = prev }) → OnEntered result (IsFilledIn asked now x0 x3)
