@@ -3,7 +3,7 @@ use Rattle.std.specs.List.Sorted.{IsStrictlySortedBy}
 use Rattle.range_lock.specs.Lock.{Lock}
 use Rattle.range_lock.specs.Nearest.{nearest}
 use Rattle.range_lock.specs.Tables.{lock_at_point, point_cmp}
-use Rattle.range_lock.proofs.search.first_point.Given as goal
+use Rattle.range_lock.proofs.search.first_in_range.Given as goal
 
 abbrev pub invariant-loop-lock : goal.invariant-loop-lock
 invariant-loop-lock l =
