@@ -1,7 +1,7 @@
 //! A list that grows beside a thread that looks at it.
 ghost use Rattle.std.specs.Prelude.{◌≡◌, ◌+◌, ◌^◌, ◌<◌, ◌≤◌, [], ◌∷◌, length, vec_len};
 
-use super::*;
+use front::{Added, Board, Count, CountName, Front, Mark, Pass};
 use std::alloc::{AllocError, Global};
 use std::marker::Brand;
 use std::mem::size_of;

@@ -1,7 +1,7 @@
 //! Rights handed from thread to thread.
 ghost use Rattle.std.specs.Prelude.{◌≡◌};
 
-use super::*;
+use books::{BookNames, PageRight, Shelf};
 use std::marker::Brand;
 use std::test::*;
 

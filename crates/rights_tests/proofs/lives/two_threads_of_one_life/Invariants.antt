@@ -1,4 +1,4 @@
-use Rattle.page_ops.proofs.tests.two_threads_of_one_life.Given as goal
+use Rattle.rights_tests.proofs.lives.two_threads_of_one_life.Given as goal
 
 abbrev pub ghosts-stub_life-N-Life : goal.ghosts-stub_life-N-Life
 ghosts-stub_life-N-Life g a =

@@ -1,5 +1,5 @@
 //! Which pairs of ranges conflict, which lock is named, and what a release leaves.
-use crate::{LockRefused, RangeLocks};
+use range_lock::{LockRefused, RangeLocks};
 use std::alloc::Global;
 use std::test::Fail;
 use store_model::{Bound, Key, KeyRange, Mode};

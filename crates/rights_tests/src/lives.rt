@@ -2,9 +2,9 @@
 ghost use Rattle.std.specs.Prelude.{◌≡◌, ◌+◌, ◌<◌, ◌^◌, [], ◌∷◌, length};
 ghost use Rattle.page_ops.specs.Names.{life_names};
 
-use super::*;
 use books::{Book, Books, SessionBook, SessionRight};
 use front::{Added, Board, Front, Pass};
+use page_ops::{Entries, Ground, Life, Tokens, Unnamed};
 use std::alloc::Global;
 use std::marker::{Brand, Model};
 use std::sync::ledger::{Book as LedgerBook, Share};
