@@ -1,6 +1,6 @@
 //! Groups, commits, flushes and reads of a log in memory.
-use super::*;
 use log_blocks::open_log;
+use log_manager::LogManager;
 use media::Disk;
 use media_mem::MemDisk;
 use std::alloc::Global;

@@ -1,5 +1,5 @@
 //! With ample memory a listing goes on, and comes back from its checkpoint and from its analysis.
-use crate::Listing;
+use log_index::Listing;
 use std::test::Fail;
 use wal_record::{Format, Record};
 

@@ -1,20 +1,9 @@
 //! Blocks as their payloads spell them, and the listings that they begin.
-use super::*;
+use crate::spelled::{add_word, text_of};
+use log_analysis::{Named, take_block};
 use log_index::Listing;
 use std::alloc::Global;
 use std::test::Fail;
-
-/// Adds what a word stands for: `8.7` for the number 7 in eight bytes, and so on; other words are hexadecimal.
-pub(crate) fn add_word(alloc: Global, word: &str, out: &mut Vec<u8>) -> Option<()> {
-    match word.split_once('.') {
-        None => out.extend_from_slice(&hex::decode(alloc, word).ok()?).ok(),
-        Some((width, number)) => {
-            let bytes = number.parse::<u64>().ok()?.to_be_bytes();
-            let from = 8_usize.checked_sub(width.parse::<usize>().ok()?)?;
-            out.extend_from_slice(bytes.get(from..)?).ok()
-        }
-    }
-}
 
 fn bytes_of(alloc: Global, text: &str) -> Option<Vec<u8>> {
     let mut out = Vec::new(alloc);
@@ -22,19 +11,6 @@ fn bytes_of(alloc: Global, text: &str) -> Option<Vec<u8>> {
         add_word(alloc, word, &mut out)?;
     }
     Some(out)
-}
-
-/// The last LSN, that of page 1's head, the limit, and whether the transactions 1 and 2 are losers.
-pub(crate) fn text_of(alloc: Global, listing: &Listing) -> Option<String> {
-    format!(in alloc;
-        "{} {} {} {} {}",
-        listing.last(),
-        listing.head(1),
-        listing.limit(),
-        listing.is_loser(1),
-        listing.is_loser(2)
-    )
-    .ok()
 }
 
 /// The answer of a block with the number 7 and the first LSN 1, which is the last block.

@@ -1,8 +1,8 @@
 //! Whole disks as their blocks spell them, and the listing of the log that they hold.
 ghost use Rattle.std.specs.Prelude.{◌≡◌, [], None, IfSome};
 
-use super::*;
-use crate::tests::{add_word, text_of};
+use crate::spelled::{add_word, text_of};
+use log_analysis::analyse;
 use log_blocks::{BlockLog, open_log};
 use media::Disk;
 use media_mem::MemDisk;
