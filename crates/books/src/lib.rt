@@ -43,6 +43,3 @@ pub use entry::BookEntry;
 pub use right::Right;
 pub use rights::{MaintRight, PageRight, SessionRight};
 pub use shelf::{BookNames, BookTables, Books, MaintBook, NewBook, PageBook, SessionBook, Shelf};
-
-#[cfg(test)]
-mod tests;

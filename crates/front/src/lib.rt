@@ -44,6 +44,3 @@ pub use count::{Board, Count, CountName};
 pub use front::{Added, Front};
 pub use mark::Mark;
 pub use pass::Pass;
-
-#[cfg(test)]
-mod tests;

@@ -19,12 +19,8 @@
 #![tactic(auto)]
 
 mod analysing;
-#[cfg(test)]
-mod disk_tests;
 mod laws;
 mod taking;
-#[cfg(test)]
-mod tests;
 
 pub use analysing::analyse;
 pub use laws::{next_law, whole_law};

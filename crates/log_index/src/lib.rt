@@ -29,8 +29,6 @@ mod listing;
 mod numbers;
 mod rebuilding;
 mod table;
-#[cfg(test)]
-mod tests;
 mod upkeep;
 
 pub use laws::noted_law;

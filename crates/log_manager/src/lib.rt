@@ -26,6 +26,3 @@ mod spelling;
 pub use laws::groups_law;
 pub use manager::LogManager;
 pub use reading::{ends_at, record_from};
-
-#[cfg(test)]
-mod tests;

@@ -59,6 +59,3 @@ pub use pages::Pages;
 pub use rights::Rights;
 pub use taken::Taken;
 pub use unnamed::{Tokens, Unnamed};
-
-#[cfg(test)]
-mod tests;

@@ -1,6 +1,6 @@
 -- The search for the first lock in conflict: in pieces, and only where locks can conflict.
 use Rattle.std.proofs.Common.{◌≡◌, ℕ, zero, suc, ◌+◌, ◌<◌, ◌≤◌, length, drop, get_or, add-one, drop-cons, Bool, true, false, cond, List, [], ◌∷◌, ◌++◌, map, Option, Some, None, refl, sym, ap, subst, ◌∙◌, Ordering, Less, Equal, Greater, arith}
-use Rattle.std.specs.Prelude.{◌&&◌}
+use Rattle.std.specs.Prelude.{◌&&◌, ◌||◌}
 use Rattle.std.specs.List.{filter, AllByRecursion}
 use Rattle.std.specs.List.Sorted.{IsStrictlySortedBy}
 use Rattle.std.specs.Ordering.{nat_cmp, is_lt, is_le, ordering_then}
@@ -9,10 +9,10 @@ use Rattle.std.specs.Cmp.Lexicographic.{slice_cmp, nat_list_cmp_total}
 use Rattle.std.proofs.lemmas.Map.Lookups.{exact_bytes}
 use Rattle.std.proofs.lemmas.List.{drop_all}
 use Rattle.std.proofs.lemmas.Map.Keys.{sorted_head}
-use Rattle.store_model.specs.Range.{Interval, is_below, overlap, point}
+use Rattle.store_model.specs.Range.{is_below, overlap}
 use Rattle.store_model.proofs.Bools.{false_unless, not_both}
-use Rattle.range_lock.specs.Lock.{Lock, conflict}
-use Rattle.range_lock.specs.Nearest.{nearest, nearer, rival_of, step}
+use Rattle.range_lock.specs.Lock.{Lock, is_exclusive, conflict}
+use Rattle.range_lock.specs.Nearest.{nearest, step}
 use Rattle.std.specs.declared.ops.Bound.{Bound}
 use Rattle.std.specs.declared.ops.Bound.TheVariants.{Unbounded}
 use Rattle.std.specs.BTreeMap.Range.{is_from_start, range_contains}
@@ -136,6 +136,12 @@ module _ (held : Mode) where
   nearest-from_above asked p ps best e sorted =
       nearest-free asked (lock_at_point held p) (map (lock_at_point held) ps) best (free_above asked p e) ∙ nearest-above asked p e ps best (sorted_head point_cmp p ps sorted)
 
+  -- two shared locks never conflict
+  pub nearest-shared : (asked : Lock) → (is_exclusive asked.mode || is_exclusive held) ≡ false → (ps : List PointLock) (best : Option Rival) → nearest asked (map (lock_at_point held) ps) best ≡ best
+  nearest-shared asked e [] best = nearest-nil asked best
+  nearest-shared asked e (p ∷ ps) best =
+      nearest-free asked (lock_at_point held p) (map (lock_at_point held) ps) best (and_false _ _ (and_false _ _ e)) ∙ nearest-shared asked e ps best
+
   -- ---- one turn of the search
 
   module _ (asked : Lock) (ps : List PointLock) (best : Option Rival) (total : Option Rival) (so_far : nearest asked (map (lock_at_point held) ps) best ≡ total) where
@@ -146,21 +152,11 @@ module _ (held : Mode) where
       whole : nearest asked (map (lock_at_point held) (p ∷ qs)) best ≡ total
       whole = ap (λ (rs : List PointLock). nearest asked (map (lock_at_point held) rs) best) (sym is) ∙ so_far
 
-      pub passed : conflict asked (lock_at_point held p) ≡ false → nearest asked (map (lock_at_point held) qs) best ≡ total
-      passed e = sym (nearest-free asked (lock_at_point held p) (map (lock_at_point held) qs) best e) ∙ whole
-
-      pub taken : conflict asked (lock_at_point held p) ≡ true → (new : Option Rival) → new ≡ nearer best (rival_of (lock_at_point held p)) → nearest asked (map (lock_at_point held) qs) new ≡ total
-      taken e new is_new =
-          let stepped : step asked best (lock_at_point held p) ≡ new = rw e (sym is_new) in
-          ap (nearest asked (map (lock_at_point held) qs)) (sym stepped) ∙ sym (nearest-cons asked (lock_at_point held p) (map (lock_at_point held) qs) best) ∙ whole
+      pub stepped : (new : Option Rival) → new ≡ step asked best (lock_at_point held p) → nearest asked (map (lock_at_point held) qs) new ≡ total
+      stepped new is_new = ap (nearest asked (map (lock_at_point held) qs)) is_new ∙ sym (nearest-cons asked (lock_at_point held p) (map (lock_at_point held) qs) best) ∙ whole
 
       pub cut : is_below (Some p.key) asked.range.high ≡ false → IsStrictlySortedBy point_cmp ps → best ≡ total
       cut e sorted = sym (nearest-from_above asked p qs best e (subst (IsStrictlySortedBy point_cmp) is sorted)) ∙ whole
-
--- what the code's test says of a point lock
-pub told : (asked : Lock) (held : Mode) (p : PointLock) (range : Interval) (b r : Bool) → range ≡ point p.key → r ≡ conflict asked (record { tx = p.tx; range = range; mode = held }) → r ≡ b
-    → conflict asked (lock_at_point held p) ≡ b
-told asked held p range b r is_range is e = sym (ap (λ (at : Interval). conflict asked (record { tx = p.tx; range = at; mode = held })) is_range) ∙ sym is ∙ e
 
 -- one turn among the range locks of a holder
 pub turn : (asked : Lock) (holder : ℕ) (held : List RangeLock) (i : ℕ) (item : RangeLock) (best new total : Option Rival) → i < length held → item ≡ get_or held i item → new ≡ step asked best (lock_on_range holder item)

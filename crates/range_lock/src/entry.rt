@@ -26,7 +26,11 @@ impl Ord for PointLock {
     ghost matches_eq = { Prim.search (comparing, rules) };
 
     fn cmp(&self, other: &PointLock) -> Ordering {
-        compare_texts(self.key.as_bytes(), other.key.as_bytes()).then(self.tx.cmp(&other.tx))
+        // (The transactions are compared only where the keys are equal, which is rare.)
+        match compare_texts(self.key.as_bytes(), other.key.as_bytes()) {
+            Ordering::Equal => self.tx.cmp(&other.tx),
+            order => order,
+        }
     }
 }
 

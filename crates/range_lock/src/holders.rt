@@ -7,7 +7,7 @@ ghost use Rattle.range_lock.specs.Lock.{bars};
 ghost use Rattle.range_lock.specs.Tables.{lock_at_point, lock_on_range, locks_on_ranges, bars_by};
 
 use crate::entry::{PointLock, RangeLock};
-use crate::search::{is_exclusive, start_of};
+use crate::search::{is_one_exclusive, start_of};
 use std::alloc::{AllocError, Global};
 use std::collections::{BTreeMap, BTreeSet};
 use std::ops;
@@ -16,7 +16,7 @@ use store_model::{KeyRange, List, Mode, TxId};
 fn keeps_off(range: &KeyRange, mode: Mode, at: &KeyRange, held: Mode) -> bool
     ensures { result ≡ bars range.now mode (record { tx = 0; range = at.now; mode = held }) }
 {
-    range.overlaps(at) && (is_exclusive(mode) || is_exclusive(held))
+    range.overlaps(at) && is_one_exclusive(mode, held)
 }
 
 /// Adds the holders of point locks in one mode that bar the range.

@@ -31,8 +31,6 @@ mod refusal;
 mod release;
 mod rival;
 mod search;
-#[cfg(test)]
-mod tests;
 mod wider;
 
 pub use range_locks::RangeLocks;

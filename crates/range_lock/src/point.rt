@@ -1,5 +1,5 @@
 //! Ranges of a single key, and the locks on them.
-ghost use Rattle.std.specs.Prelude.{◌≡◌, ◌≢◌, ◌↔◌, ◌⊎◌, ◌&&◌, ◌||◌, not, ℕ, List, length, IfSome, IfNone, OnOk, OnErr, IsTrue, true};
+ghost use Rattle.std.specs.Prelude.{◌≡◌, ◌≢◌, ◌↔◌, ◌⊎◌, ◌&&◌, ◌||◌, ◌++◌, ◌∷◌, [], not, ℕ, List, length, IfSome, IfNone, OnOk, OnErr, IsTrue, true};
 ghost use Rattle.std.specs.BTreeSet.{contains};
 ghost use Rattle.store_model.specs.Range.{point, includes};
 ghost use Rattle.range_lock.specs.Lock.{is_exclusive};
@@ -14,6 +14,16 @@ use std::alloc::{AllocError, Global};
 use std::collections::{BTreeMap, BTreeSet};
 use store_model::{Key, KeyRange, Mode, TxId};
 
+/// Whether a text is another with a zero byte behind it: the next text above that one.
+fn is_next(text: &[u8], next: &[u8]) -> bool
+    ensures { IsTrue result ↔ (next.now ≡ text.now ++ 0 ∷ []) }
+{
+    match next.split_last() {
+        Some((last, front)) => *last == 0 && front == text,
+        None => false,
+    }
+}
+
 /// The key that a range is the range of, if it is that of one key.
 pub fn point_of(range: &KeyRange) -> Option<Key>
     ensures some { IfSome result (λ key. range.now ≡ point key) }
@@ -21,9 +31,9 @@ pub fn point_of(range: &KeyRange) -> Option<Key>
     ensures none { IfNone result ((key : List ℕ) → IsKey key → range.now ≢ point key) }
 {
     let low = range.low().as_bytes()?;
-    let key = Key::new(low)?;
-    if KeyRange::point(&key) == *range {
-        Some(key)
+    let high = range.high().as_bytes()?;
+    if is_next(low, high) {
+        Key::new(low)
     } else {
         None
     }

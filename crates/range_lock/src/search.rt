@@ -25,6 +25,13 @@ pub fn is_exclusive(mode: Mode) -> bool
     }
 }
 
+/// Whether one of two modes is exclusive. Two shared locks never conflict.
+pub fn is_one_exclusive(mode: Mode, held: Mode) -> bool
+    ensures { result ≡ (is_exclusive mode || is_exclusive held) }
+{
+    is_exclusive(mode) || is_exclusive(held)
+}
+
 /// Whether a holder's lock keeps a transaction from a range.
 fn conflicts(
     tx: TxId,
@@ -36,7 +43,7 @@ fn conflicts(
 ) -> bool
     ensures { result ≡ conflict (record { tx = tx; range = range.now; mode = mode }) (record { tx = holder; range = at.now; mode = held }) }
 {
-    holder != tx && range.overlaps(at) && (is_exclusive(mode) || is_exclusive(held))
+    holder != tx && range.overlaps(at) && is_one_exclusive(mode, held)
 }
 
 /// A key with only keys below the range below it, if there are keys below the range.
@@ -57,7 +64,58 @@ pub fn start_of(range: &KeyRange) -> ops::Bound<PointLock>
     }
 }
 
+/// The first of the best so far and of one point lock in conflict with a lock. It is a call of its own, so that a search
+/// that meets no lock makes no room for what is named.
+#[inline(never)]
+fn first_of_point(
+    best: Option<Rival>,
+    point: &PointLock,
+    held: Mode,
+    tx: TxId,
+    range: &KeyRange,
+    mode: Mode,
+) -> Option<Rival>
+    ensures { result ≡ step (record { tx = tx; range = range.now; mode = mode }) best (lock_at_point held point.now) }
+{
+    let place = KeyRange::point(&point.key);
+    if conflicts(tx, range, mode, point.tx, &place, held) {
+        nearer(
+            best,
+            Rival {
+                holder: point.tx,
+                range: place,
+            },
+        )
+    } else {
+        best
+    }
+}
+
+/// The first of the best so far and of the point locks in the range that are in conflict with a lock.
+#[inline(never)]
+fn first_in_range(
+    best: Option<Rival>,
+    points: &BTreeSet<PointLock>,
+    held: Mode,
+    tx: TxId,
+    range: &KeyRange,
+    mode: Mode,
+) -> Option<Rival>
+    ensures { result ≡ nearest (record { tx = tx; range = range.now; mode = mode }) (map (lock_at_point held) points.now.keys) best }
+{
+    let start = start_of(range);
+    let mut best = best;
+    for lock in points.range((start.as_ref(), ops::Bound::Unbounded)) {
+        if !range.high().is_above(&lock.key) {
+            break;
+        }
+        best = first_of_point(best, lock, held, tx, range, mode);
+    }
+    best
+}
+
 /// The first of the best so far and of the point locks held in one mode in conflict with a lock.
+#[inline(always)]
 pub fn first_point(
     best: Option<Rival>,
     points: &BTreeSet<PointLock>,
@@ -68,23 +126,10 @@ pub fn first_point(
 ) -> Option<Rival>
     ensures { result ≡ nearest (record { tx = tx; range = range.now; mode = mode }) (map (lock_at_point held) points.now.keys) best }
 {
-    let mut best = best;
-    for lock in points.range((start_of(range), ops::Bound::Unbounded)) {
-        if !range.high().is_above(&lock.key) {
-            break;
-        }
-        let place = KeyRange::point(&lock.key);
-        if conflicts(tx, range, mode, lock.tx, &place, held) {
-            best = nearer(
-                best,
-                Rival {
-                    holder: lock.tx,
-                    range: place,
-                },
-            );
-        }
+    if points.is_empty() || !is_one_exclusive(mode, held) {
+        return best;
     }
-    best
+    first_in_range(best, points, held, tx, range, mode)
 }
 
 /// The first of the best so far and of one range lock in conflict with a lock.
@@ -135,6 +180,9 @@ pub fn first_range(
 ) -> Result<Option<Rival>, AllocError>
     ensures { IfOk result (λ r. r ≡ nearest (record { tx = tx; range = range.now; mode = mode }) (flat_map locks_on_ranges ranges.now.entries) best) }
 {
+    if ranges.is_empty() {
+        return Ok(best);
+    }
     let mut best = best;
     for (holder, held) in ranges {
         best = first_of_holder(best, *holder, held.as_slice(), tx, range, mode)?;

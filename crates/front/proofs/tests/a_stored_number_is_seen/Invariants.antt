@@ -1,4 +1,0 @@
-use Rattle.front.proofs.tests.a_stored_number_is_seen.Given as goal
-
-abbrev pub ghosts-one_mark : goal.ghosts-one_mark
-ghosts-one_mark g a = record { count = a.count }

@@ -1,4 +1,0 @@
-use Rattle.front.proofs.tests.two_threads_end_with_the_whole_list.Given as goal
-
-abbrev pub ghosts-two_threads : goal.ghosts-two_threads
-ghosts-two_threads g a = record { count = a.count }

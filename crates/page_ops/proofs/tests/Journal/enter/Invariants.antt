@@ -1,5 +1,0 @@
-use Rattle.std.proofs.Common.{[], ◌∷◌}
-use Rattle.page_ops.proofs.tests.Journal.enter.Given as goal
-
-abbrev pub ghosts-add : goal.ghosts-add
-ghosts-add g a = record { entries = a.entry.now ∷ [] }
