@@ -6,7 +6,6 @@ pub mod Lists
 pub mod Lives
 pub mod Openings
 pub mod Places
-pub mod Reading
 pub mod Rows
 pub mod Runs
 pub mod Sizes

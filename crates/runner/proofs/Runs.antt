@@ -12,8 +12,8 @@ use Rattle.script.specs.declared.command.Command.{Command}
 use Rattle.script.specs.Line.{reads}
 use Rattle.runner.specs.declared.status.Status.{Status}
 use Rattle.runner.specs.declared.status.Status.TheVariants as statuses
-use Rattle.runner.specs.Lines.{Reader, to_come, first_reader, IsBounded, IsLine, IsNoLine}
-use Rattle.runner.specs.Built.{is_built}
+use Rattle.line_reader.specs.Lines.{Reader, to_come, first_reader, IsBounded, IsLine, IsNoLine}
+use Rattle.line_reader.specs.Built.{is_built}
 use Rattle.runner.specs.Causes.{LineCause}
 use Rattle.runner.specs.Turns.{Turn, Stage, Cut, turn, stage, begin_stage, Fits, IsRightLife, lives, is_lawful}
 use Rattle.runner.specs.Text.{text, lines}

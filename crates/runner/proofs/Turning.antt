@@ -6,7 +6,7 @@ use Rattle.wal_record.proofs.Along.{along_push, AllAlong_back}
 use Rattle.wal_record.specs.declared.record.Record.{Record}
 use Rattle.script.specs.declared.command.Command.{Command}
 use Rattle.script.specs.Line.{reads}
-use Rattle.runner.specs.Lines.{IsLine}
+use Rattle.line_reader.specs.Lines.{IsLine}
 use Rattle.runner.specs.Turns.{Turn, stage, stage_step, begin_stage, Fits, FitsAt, fits_after}
 use Rattle.runner.specs.Text.{text, lines}
 use Rattle.runner.specs.Clause.{Script, command_of}

@@ -8,8 +8,8 @@ use Rattle.media.specs.declared.disk.Disk.{Ghosts}
 use Rattle.wal_record.specs.declared.record.Record.{Record}
 use Rattle.script.specs.declared.command.Command.{Command}
 use Rattle.script.specs.Line.{reads}
-use Rattle.runner.specs.Lines.{Reader, to_come, longest_script, IsBounded, IsLine, IsNoLine}
-use Rattle.runner.specs.Built.{is_built}
+use Rattle.line_reader.specs.Lines.{Reader, to_come, longest_script, IsBounded, IsLine, IsNoLine}
+use Rattle.line_reader.specs.Built.{is_built}
 use Rattle.runner.specs.Turns.{Turn, Stage, stage, Fits, IsRightLife, MayFind, lives, is_lawful}
 use Rattle.runner.specs.Refusals.{IsNotBuilt, IsSplit, IsOpen, IsFormat, FindsLog}
 use Rattle.runner.specs.Status.{cuts}

@@ -1,9 +1,7 @@
 pub mod Active
-pub mod Built
 pub mod Causes
 pub mod Clause
 pub mod Leaf
-pub mod Lines
 pub mod LogDisk
 pub mod Machine
 pub mod Openings

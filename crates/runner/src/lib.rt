@@ -22,8 +22,6 @@
 #![tactic(auto)]
 
 mod at;
-mod built;
-mod input;
 mod life;
 mod living;
 mod opened;

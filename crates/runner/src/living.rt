@@ -9,7 +9,7 @@ ghost use Rattle.runner.specs.Clause.{Between, LivedTo};
 ghost use Rattle.runner.specs.Causes.{LivedCause, IsCycled, disk_at};
 
 use crate::at::At;
-use crate::input::Input;
+use line_reader::Input;
 use crate::life::OpenLife;
 use crate::opened::Opened;
 use crate::status::Status;

@@ -3,7 +3,7 @@ ghost use Rattle.std.specs.Prelude.{◌≡◌, ◌≢◌, ◌≤◌, ◌↔◌, 
 ghost use Rattle.media.specs.Cause.{Rose};
 ghost use Rattle.wal_record.specs.declared.record.Record.{Record};
 ghost use Rattle.log_manager.specs.Devices.{DevicesStandFor};
-ghost use Rattle.runner.specs.Lines.{to_come, IsBounded};
+ghost use Rattle.line_reader.specs.Lines.{to_come, IsBounded};
 ghost use Rattle.runner.specs.LogDisk.{View, IsWhole, seen};
 ghost use Rattle.runner.specs.Turns.{begin_stage};
 ghost use Rattle.runner.specs.Machine.{Out};
@@ -12,7 +12,7 @@ ghost use Rattle.runner.specs.Causes.{RunCause, Shows, IsAsked, IsCycled};
 ghost use Rattle.runner.specs.Usage.{is_call};
 ghost use Rattle.runner.specs.declared.status.Status.TheVariants as statuses;
 
-use crate::input::Input;
+use line_reader::Input;
 use crate::living::{Lived, run_from};
 use crate::status::Status;
 use crate::turns::{Turned, turn_outside};
@@ -64,7 +64,7 @@ pub fn run_words<S: Source, K: Sink, L: Disk, P: PageDevice, V: Vault>(
     }
     let mut input = match Input::new(alloc) {
         Ok(input) => input,
-        Err(status) => return (status, devices),
+        Err(_) => return (Status::Memory, devices),
     };
     let Devices { log, pages, vault } = devices;
     let mut vault = vault;

@@ -1,7 +1,7 @@
 //! One line of a run.
 ghost use Rattle.std.specs.Prelude.{◌≡◌, ◌≤◌, ℕ, List, Option, IfErr};
 ghost use Rattle.wal_record.specs.declared.record.Record.{Record};
-ghost use Rattle.runner.specs.Lines.{IsBounded};
+ghost use Rattle.line_reader.specs.Lines.{IsBounded};
 ghost use Rattle.runner.specs.LogDisk.{View, IsWhole, seen};
 ghost use Rattle.runner.specs.Turns.{Turn};
 ghost use Rattle.runner.specs.Machine.{Out, In, Within};
@@ -9,8 +9,7 @@ ghost use Rattle.runner.specs.Clause.{Between, TakesCommand, TurnedTo};
 ghost use Rattle.runner.specs.Causes.{LineCause, TurnedCause, IsCycled};
 
 use crate::at::{At, Stepped, disk_inside, disk_opened, step_inside};
-use crate::built::is_built;
-use crate::input::{Input, Next};
+use line_reader::{Input, Next, NotRead, is_built};
 use crate::life::OpenLife;
 use crate::opened::Opened;
 use crate::outside;
@@ -131,7 +130,10 @@ fn next_command<S: Source>(
         Ok(Next::Line(text)) => text,
         Ok(Next::End) => return Ok(None),
         Ok(Next::Bad) => return Err(Status::Script { line }),
-        Err(status) => return Err(status),
+        Err(why) => match why {
+            NotRead::Memory => return Err(Status::Memory),
+            NotRead::SourceFault => return Err(Status::SourceFault),
+        },
     };
     if !is_built(&text) {
         return Err(Status::NotBuilt { line });

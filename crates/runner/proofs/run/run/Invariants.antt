@@ -1,7 +1,7 @@
 use Rattle.std.proofs.Common.{◌≤◌, List}
 use Rattle.wal_record.specs.declared.record.Record.{Record}
 use Rattle.runner.specs.Causes.{IsCycled}
-use Rattle.runner.specs.Lines.{to_come}
+use Rattle.line_reader.specs.Lines.{to_come}
 use Rattle.runner.specs.LogDisk.{View, IsWhole, seen}
 use Rattle.runner.specs.Turns.{Turn, begin_stage}
 use Rattle.runner.specs.Machine.{Out}
