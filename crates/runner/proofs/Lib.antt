@@ -4,6 +4,7 @@ pub mod Commands
 pub mod Fused
 pub mod Lists
 pub mod Lives
+pub mod NextCalls
 pub mod Openings
 pub mod Places
 pub mod Rows

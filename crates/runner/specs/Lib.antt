@@ -4,6 +4,7 @@ pub mod Clause
 pub mod Leaf
 pub mod LogDisk
 pub mod Machine
+pub mod NextCall
 pub mod Openings
 pub mod Refusals
 pub mod Session

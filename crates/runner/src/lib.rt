@@ -22,6 +22,7 @@
 #![tactic(auto)]
 
 mod at;
+mod laws;
 mod life;
 mod living;
 mod opened;
@@ -34,8 +35,8 @@ mod status;
 mod stop;
 mod transactions;
 mod turns;
-mod words;
 
+pub use laws::{next_call_law, standing_law};
 pub use run::run_words;
 pub use status::Status;
 

@@ -115,6 +115,7 @@ pub fn open<L: Disk>(
     ensures begun { IfOk result (λ life. (v : View L.tells) → Makes (seen L.Disk v) disk (IsBegun (seen L.Disk v) life.log.log life.standing)) }
     ensures first { IfOk result (λ life. (life.standing.session ≡ None) × (life.log.log.ended ≡ None)) }
     ensures not { IfErr result (λ r. (v : View L.tells) → IsNotBegun (seen L.Disk v) line disk r.disk r.status) }
+    ensures shows { IfErr result (λ r. Shows L.Disk r.disk r.status) }
     ensures fuse { MatchResult result (λ life. Blames L.passes L.refused L.own disk life.log.log.device ⊥) (λ r. Blames L.passes L.refused L.own disk r.disk (r.status ≡ statuses.LogFault)) }
 {
     // What the disk keeps can be read in one way only.

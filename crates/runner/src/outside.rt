@@ -134,7 +134,7 @@ fn opens<L: Disk>(alloc: Global, operators: &Operators, disk: L, line: u64) -> S
         },
     };
     match open(alloc, operators, disk, line) {
-        Ok(life) => match transcript::open_line(alloc, life.commits()) {
+        Ok(life) => match transcript::open_line(alloc, life.commits(), 0) {
             Ok(lines) => Stepped::Goes {
                 lines,
                 at: At::Inside { life },

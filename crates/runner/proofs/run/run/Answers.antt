@@ -8,14 +8,14 @@ use Rattle.runner.proofs.Runs.{at_start, no_memory}
 use Rattle.runner.proofs.run.run.Goals as goal
 
 pub loop-init : goal.loop-init
-loop-init g c = record { turns = λ v log out. ([], at_start (seen g.L.Disk v) log c.args.disk _ _ c.args.input.now c.requires.0 c.requires.1 c.requires.2 out); source = omega arith; sink = omega arith; log = omega arith; vault = cycled_self _ _ _ _ }
+loop-init g c = record { turns = λ v start out. ([], at_start (seen g.L.Disk v) start c.args.disk _ _ c.args.input.now c.requires.0 c.requires.1 c.requires.2 out); source = omega arith; sink = omega arith; log = omega arith; vault = cycled_self _ _ _ _ }
 
 pub loop-preserved : goal.loop-preserved
 loop-preserved g c = record {
-  turns = λ v log out.
-      let p = c.loop.invariant.turns v log out in
-      let t = c.in-Goes.ensures.turns v log _ _ p.0 p.1 in
-      c.in-Stopped.ensures.turns v log _ _ (p.0 ++ t.0 ∷ []) t.1;
+  turns = λ v start out.
+      let p = c.loop.invariant.turns v start out in
+      let t = c.in-Goes.ensures.turns v start _ _ p.0 p.1 in
+      c.in-Stopped.ensures.turns v start _ _ (p.0 ++ t.0 ∷ []) t.1;
   source = omega (arith, c.loop.invariant.source, c.in-Goes.ensures.later.0, c.in-Stopped.ensures.later.0);
   sink = omega (arith, c.loop.invariant.sink, c.in-Goes.ensures.later.1, c.in-Stopped.ensures.later.1);
   log = omega (arith, c.loop.invariant.log, c.in-Goes.ensures.cause, c.in-Stopped.ensures.cause);
@@ -23,17 +23,17 @@ loop-preserved g c = record {
 }
 
 pub returns-in-Ends-run_from-clause-headline : goal.returns-in-Ends-run_from-clause-headline
-returns-in-Ends-run_from-clause-headline g c = λ v log out.
-    let p = c.loop.invariant.turns v log out in
-    let t = c.in-Goes.ensures.turns v log _ _ p.0 p.1 in
-    c.in-Ends-run_from.ensures.turns v log _ _ (p.0 ++ t.0 ∷ []) t.1
+returns-in-Ends-run_from-clause-headline g c = λ v start out.
+    let p = c.loop.invariant.turns v start out in
+    let t = c.in-Goes.ensures.turns v start _ _ p.0 p.1 in
+    c.in-Ends-run_from.ensures.turns v start _ _ (p.0 ++ t.0 ∷ []) t.1
 
 pub returns-in-Ends-clause-headline : goal.returns-in-Ends-clause-headline
-returns-in-Ends-clause-headline g c = λ v log out.
-    let p = c.loop.invariant.turns v log out in
-    c.in-Ends.ensures.turns v log _ _ p.0 p.1
+returns-in-Ends-clause-headline g c = λ v start out.
+    let p = c.loop.invariant.turns v start out in
+    c.in-Ends.ensures.turns v start _ _ p.0 p.1
 
 pub returns-clause-headline : goal.returns-clause-headline
-returns-clause-headline g c = λ v log out.
-    let p = c.loop.invariant.turns v log out in
-    no_memory (seen g.L.Disk v) log c.loop.disk _ _ c.loop.input c.loop.input _ _ _ p.0 (Out (seen g.L.Disk v) c.loop.disk) (λ s h. safe_out (seen g.L.Disk v) c.loop.disk s h) p.1 p.1.most [] (Consumes-nil _) (omega arith)
+returns-clause-headline g c = λ v start out.
+    let p = c.loop.invariant.turns v start out in
+    no_memory (seen g.L.Disk v) start c.loop.disk _ _ c.loop.input c.loop.input _ _ _ p.0 (Out (seen g.L.Disk v) c.loop.disk) (λ s h. safe_out (seen g.L.Disk v) c.loop.disk s h) p.1 p.1.most [] (Consumes-nil _) (omega arith)
