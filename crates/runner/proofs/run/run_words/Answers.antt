@@ -4,12 +4,24 @@ use Rattle.media.specs.Cause.{Rose}
 use Rattle.media.specs.Fused.{Fused}
 use Rattle.runner.specs.LogDisk.{Whole, seen}
 use Rattle.runner.proofs.Fused.{asked, begun_fused, ended_fused}
-use Rattle.runner.proofs.Runs.{not_called, no_buffer, ran_whole}
+use Rattle.runner.proofs.Runs.{not_called, not_generated, no_buffer, ran_whole}
 use Rattle.runner.proofs.run.run_words.Goals as goal
+
+pub returns-in-Memory-clause-headline : goal.returns-in-Memory-clause-headline
+returns-in-Memory-clause-headline g c = λ v start keeps. no_buffer (seen g.L.Disk v) start c.args.devices.log _ _ keeps
+
+pub returns-in-Usage-clause-headline : goal.returns-in-Usage-clause-headline
+returns-in-Usage-clause-headline g c = λ v start keeps. not_called (seen g.L.Disk v) start c.args.devices.log _ _ keeps
+
+pub returns-in-Generate-clause-headline : goal.returns-in-Generate-clause-headline
+returns-in-Generate-clause-headline g c = λ v start keeps. not_generated (seen g.L.Disk v) start c.args.devices.log _ _ keeps
+
+pub returns-in-Err-new-clause-headline : goal.returns-in-Err-new-clause-headline
+returns-in-Err-new-clause-headline g c = λ v start keeps. no_buffer (seen g.L.Disk v) start c.args.devices.log _ _ keeps
 
 pub returns-clause-headline : goal.returns-clause-headline
 returns-clause-headline g c = λ v start keeps.
-    ran_whole (seen g.L.Disk v) start c.into_inner.result (g.S.Source.left c.args.source.now) (g.S.Source.left c.run-status.new.source) (g.K.Sink.told c.args.sink.now) (g.K.Sink.told c.run-status.new.sink) c.in-Ok.input c.run-status.new.input c.run-status.result.0 c.in-Ok.ensures
+    ran_whole (seen g.L.Disk v) start c.into_inner.result (g.S.Source.left c.args.source.now) (g.S.Source.left c.run-status.new.source) (g.K.Sink.told c.args.sink.now) (g.K.Sink.told c.run-status.new.sink) c.in-Ok-new.input c.run-status.new.input c.run-status.result.0 c.in-Ok-new.ensures
     (ended_fused g.L.Disk v c.run-status.result.1 c.into_inner.result c.into_inner.ensures start _ _ _ _ _ c.run-status.result.0 (c.run-status.ensures.headline v start (begun_fused g.L.Disk v c.new-2.result c.args.devices.log c.new-2.ensures start keeps)))
 
 pub returns-clause-complete : goal.returns-clause-complete
