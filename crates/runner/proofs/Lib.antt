@@ -1,3 +1,4 @@
+pub mod Alone
 pub mod Beginnings
 pub mod Causes
 pub mod Commands

@@ -1,6 +1,7 @@
 pub mod Active
 pub mod Causes
 pub mod Clause
+pub mod Damaged
 pub mod Leaf
 pub mod LogDisk
 pub mod Machine

@@ -1,4 +1,5 @@
 //! A life, line after line.
+ghost use Rattle.runner.specs.Damaged.{LivedFrom};
 ghost use Rattle.std.specs.Prelude.{◌≡◌, ◌≤◌, ◌↔◌, ℕ, List, [], Option};
 ghost use Rattle.page_ops.specs.Names.{life_names};
 ghost use Rattle.wal_record.specs.declared.record.Record.{Record};
@@ -41,6 +42,7 @@ pub fn run_from<S: Source, K: Sink, V: Vault, L: Disk>(
         → LivedTo (seen L.Disk v) start left told input.new (S.left source.new) (K.told sink.new) result }
     ensures later { (S.faults source.old ≤ S.faults source.new) × (K.faults sink.old ≤ K.faults sink.new) }
     ensures cause { LivedCause L.Disk (disk_at (λ life. life.log.log.device) at) (S.faults source.old) (S.faults source.new) (K.faults sink.old) (K.faults sink.new) result }
+    ensures from { LivedFrom at result }
     ensures vault { IsCycled V.tells V.told V.faults vault.old vault.new }
 {
     let opened = match at {

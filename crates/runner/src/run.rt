@@ -1,4 +1,5 @@
 //! A whole run.
+ghost use Rattle.runner.specs.Damaged.{LeavesAlone};
 ghost use Rattle.std.specs.Prelude.{◌≡◌, ◌≢◌, ◌≤◌, ◌↔◌, ℕ, List, map, true, false};
 ghost use Rattle.media.specs.Cause.{Rose};
 ghost use Rattle.wal_record.specs.declared.record.Record.{Record};
@@ -58,6 +59,9 @@ pub fn run_words<S: Source, K: Sink, L: Disk, P: PageDevice, V: Vault>(
     ensures later { L.faults devices.log ≤ L.faults result.1.log }
     ensures shows { Shows L.Disk result.1.log result.0 }
 
+    // A disk with an open gate before bytes that are no block is left alone: no byte of it changes, whatever is run.
+    ensures alone { LeavesAlone L.Disk devices.log result.1.log }
+
     // The data device is as it was; the vault too, but for stops of the machine.
     ensures pages { result.1.pages ≡ devices.pages }
     ensures vault { IsCycled V.tells V.told V.faults devices.vault result.1.vault }
@@ -113,6 +117,7 @@ fn run<S: Source, K: Sink, V: Vault, L: Disk>(
     ensures later { (S.faults source.old ≤ S.faults source.new) × (K.faults sink.old ≤ K.faults sink.new) × (L.own disk ≤ L.own result.1) }
     ensures cause { RunCause (S.faults source.old) (S.faults source.new) (K.faults sink.old) (K.faults sink.new) (L.own disk) (L.own result.1) result.0 }
     ensures shows { Shows L.Disk result.1 result.0 }
+    ensures alone { LeavesAlone L.Disk disk result.1 }
     ensures called { (result.0 ≢ statuses.Usage) × (result.0 ≢ statuses.NoGenerator) }
     ensures vault { IsCycled V.tells V.told V.faults vault.old vault.new }
 {

@@ -1,4 +1,5 @@
 //! One line of a run.
+ghost use Rattle.runner.specs.Damaged.{TurnedAlone};
 ghost use Rattle.std.specs.Prelude.{◌≡◌, ◌≤◌, ℕ, List, Option, IfErr};
 ghost use Rattle.line_reader.specs.Lines.{IsBounded};
 ghost use Rattle.runner.specs.LogDisk.{View, IsWhole, seen};
@@ -40,6 +41,7 @@ pub fn turn_outside<S: Source, K: Sink, V: Vault, L: Disk>(
         → TurnedTo (seen L.Disk v) start (λ life. In (seen L.Disk v) life.log.log life.standing) left told input.new turns (S.left source.new) (K.told sink.new) result }
     ensures later { (S.faults source.old ≤ S.faults source.new) × (K.faults sink.old ≤ K.faults sink.new) }
     ensures cause { TurnedCause L.Disk (λ life. life.log.log.device) disk (S.faults source.old) (S.faults source.new) (K.faults sink.old) (K.faults sink.new) result }
+    ensures alone { TurnedAlone L.Disk disk result }
     ensures vault { IsCycled V.tells V.told V.faults vault.old vault.new }
 {
     let (command, line) = match next_command(alloc, input, source) {

@@ -1,5 +1,6 @@
 use Rattle.std.proofs.Common.{◌≤◌, List}
 use Rattle.wal_record.specs.declared.record.Record.{Record}
+use Rattle.runner.specs.Damaged.{LeavesAlone}
 use Rattle.runner.specs.Causes.{IsCycled}
 use Rattle.line_reader.specs.Lines.{to_come}
 use Rattle.runner.specs.LogDisk.{View, IsWhole, seen}
@@ -16,4 +17,5 @@ invariant-loop g l = record {
   sink : g.K.Sink.faults l.fn.sink ≤ g.K.Sink.faults l.sink;
   log : g.L.Disk.own l.fn.disk ≤ g.L.Disk.own l.disk;
   vault : IsCycled g.V.Vault.tells g.V.Vault.told g.V.Vault.faults l.fn.vault l.vault;
+  alone : LeavesAlone g.L.Disk l.fn.disk l.disk;
 }
