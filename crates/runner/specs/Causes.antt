@@ -74,11 +74,13 @@ SteppedCause L device disk (steps.Ends status left) = (L.own disk ≤ L.own left
 
 abbrev pub TurnedCause : {D F : Type 0} → Ghosts D → (F → D) → D → ℕ → ℕ → ℕ → ℕ → Turned D F → Type 0
 TurnedCause L device disk source0 source1 sink0 sink1 (turns.Goes at) = L.own disk ≤ L.own (disk_at device at)
-TurnedCause L device disk source0 source1 sink0 sink1 (turns.Ends status left) = (L.own disk ≤ L.own left) × RunCause source0 source1 sink0 sink1 (L.own disk) (L.own left) status × Shows L left status × (status ≢ statuses.Usage) × (status ≢ statuses.NoGenerator)
+TurnedCause L device disk source0 source1 sink0 sink1 (turns.Ends status left) = (L.own disk ≤ L.own left) × RunCause source0 source1 sink0 sink1 (L.own disk) (L.own left) status
+    × Shows L left status × (status ≢ statuses.Usage) × (status ≢ statuses.NoGenerator)
 
 abbrev pub LivedCause : {D : Type 0} → Ghosts D → D → ℕ → ℕ → ℕ → ℕ → Lived D → Type 0
 LivedCause L disk source0 source1 sink0 sink1 (ways.Stopped left) = L.own disk ≤ L.own left
-LivedCause L disk source0 source1 sink0 sink1 (ways.Ends status left) = (L.own disk ≤ L.own left) × RunCause source0 source1 sink0 sink1 (L.own disk) (L.own left) status × Shows L left status × (status ≢ statuses.Usage) × (status ≢ statuses.NoGenerator)
+LivedCause L disk source0 source1 sink0 sink1 (ways.Ends status left) = (L.own disk ≤ L.own left) × RunCause source0 source1 sink0 sink1 (L.own disk) (L.own left) status
+    × Shows L left status × (status ≢ statuses.Usage) × (status ≢ statuses.NoGenerator)
 
 -- what stops leave of a vault, or none: its count of faults, each synced object, and what no name stood for
 pub record IsCycled {D : Type 0} (tells : Type 0) (told : D → ObjectName → Stored) (faults : D → ℕ) (old new : D) : Type 0 where

@@ -85,7 +85,8 @@ Ended L start disk (statuses.LogBad block byte) turns read rest written left = (
 Ended L start disk statuses.NotFormatted turns read rest written left = (written ≡ text start turns) × NextLine IsOpen (length read) rest × (L.tells → MayFind (stage start turns).last [])
 Ended L start disk statuses.AlreadyFormatted turns read rest written left = (written ≡ text start turns) × NextLine IsFormat (length read) rest × (L.tells → FindsLog (stage start turns).last)
 Ended L start disk (statuses.NotBuilt line) turns read rest written left = (written ≡ text start turns) × (line ≡ length turns + 1) × NotBuiltLine L disk (stage start turns) (length read) rest
-Ended L start disk (statuses.NoSplit line) turns read rest written left = (written ≡ text start turns) × (line ≡ length turns + 1) × NextLine (λ c. (is_lawful (stage start turns) c ≡ true) × IsSplit L.tells (stage start turns) c) (length read) rest
+Ended L start disk (statuses.NoSplit line) turns read rest written left = (written ≡ text start turns) × (line ≡ length turns + 1)
+    × NextLine (λ c. (is_lawful (stage start turns) c ≡ true) × IsSplit L.tells (stage start turns) c) (length read) rest
 
 -- The log disk was handed in as this use left it, as disks of its type tell, and is handed back so; then what was left and told
 -- at the start, and what is now. What was read and given to no line is still pending.
@@ -127,7 +128,8 @@ TakesCommand old new left_old left_new (Ok (Some (c, line))) = (bytes : List ℕ
     × (line ≡ old.lines + 1) × (new.lines ≡ old.lines + 1) × (new.taken ≡ old.taken + length bytes + 1) × (new.taken ≤ longest_script)
 TakesCommand old new left_old left_new (Err (statuses.Script n)) = (n ≡ old.lines + 1) × (rest : List ℕ) × Consumes (to_come old left_old) (to_come new left_new) rest × (new.taken ≡ old.taken + length rest)
     × (((bytes : List ℕ) × (rest ≡ bytes ++ 10 ∷ []) × IsLine bytes × (is_built bytes ≡ true) × (reads bytes ≡ None) × (new.taken ≤ longest_script)) ⊎ IsNoLine old.taken rest (to_come new left_new))
-TakesCommand old new left_old left_new (Err (statuses.NotBuilt n)) = (n ≡ old.lines + 1) × (bytes : List ℕ) × Consumes (to_come old left_old) (to_come new left_new) (bytes ++ 10 ∷ []) × IsLine bytes × (new.taken ≡ old.taken + length bytes + 1) × (new.taken ≤ longest_script) × (is_built bytes ≡ false)
+TakesCommand old new left_old left_new (Err (statuses.NotBuilt n)) = (n ≡ old.lines + 1) × (bytes : List ℕ) × Consumes (to_come old left_old) (to_come new left_new) (bytes ++ 10 ∷ []) × IsLine bytes
+    × (new.taken ≡ old.taken + length bytes + 1) × (new.taken ≤ longest_script) × (is_built bytes ≡ false)
 TakesCommand old new left_old left_new (Err e) = (rest : List ℕ) × Consumes (to_come old left_old) (to_come new left_new) rest × (new.taken ≡ old.taken + length rest)
 
 -- one line, behind which a run goes on or has ended
