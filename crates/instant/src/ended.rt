@@ -1,15 +1,12 @@
 //! How the program ended.
 
-use call_words::Refusal;
 use runner::Status;
 use std::fmt;
 
-/// Why the program ends: the run did, or there was nothing to run, or no devices to run on.
+/// Why the program ends: the run did, or there are no devices to run on.
 #[derive(Drop)]
 pub enum Ended {
     Ran(Status),
-    /// The words ask for a generated script.
-    NotBuilt,
     /// Another process has the folder.
     InUse,
     /// The folder's files can't be opened, or aren't those of a store.
@@ -21,7 +18,6 @@ impl Ended {
     pub fn code(&self) -> u8 {
         match self {
             Ended::Ran(status) => status.code(),
-            Ended::NotBuilt => 12,
             Ended::InUse => 75,
             Ended::Unopened => 74,
         }
@@ -36,20 +32,10 @@ impl Ended {
     }
 }
 
-impl From<Refusal> for Ended {
-    fn from(refusal: Refusal) -> Ended {
-        Ended::Ran(match refusal {
-            Refusal::Memory => Status::Memory,
-            Refusal::Usage => Status::Usage,
-        })
-    }
-}
-
 impl fmt::Display for Ended {
     fn fmt<W: fmt::Write>(&self, f: &mut fmt::Formatter<W>) -> fmt::Result {
         match self {
             Ended::Ran(status) => status.fmt(f),
-            Ended::NotBuilt => f.write_str("generate is not built"),
             Ended::InUse => f.write_str("the folder is in use by another process"),
             Ended::Unopened => f.write_str("the folder's files can't be opened"),
         }

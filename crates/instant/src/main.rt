@@ -1,9 +1,8 @@
 //! The program: a script on standard input, its transcript on standard output.
 //!
 //! `instant PLACE [run | generate N] [--workers W] [--frames F]` keeps its log at PLACE: `mem`, or a folder that is there.
-//! It makes the devices and the operators, does what the words behind PLACE ask for, says on standard error why the run
-//! ended where it isn't done, and ends with the status' code. Workers and frames have no effect today, and no script is
-//! generated yet.
+//! It makes the devices and the operators, has the runner do what the words behind PLACE ask for, says on standard error
+//! why the run ended where it isn't done, and ends with the status' code.
 #![tactic(auto)]
 
 ghost use Rattle.std.specs.Prelude.{◌≡◌};
@@ -11,7 +10,6 @@ ghost use Rattle.operators.specs.Means.{made_by};
 
 mod ended;
 
-use call_words::{Mode, call_of};
 use ended::Ended;
 use media::{Devices, Disk, PageDevice, Vault};
 use media_file::{FileDisk, FilePages, FileVault, Folder, StreamSink, StreamSource};
@@ -40,7 +38,7 @@ enum Place<'a> {
     Folder(&'a str),
 }
 
-/// Does what the words ask for.
+/// Runs what the words behind the place ask for, at the place.
 fn run(rt: &HostRuntime, alloc: Global, words: &[String]) -> Ended {
     let [place, rest @ ..] = words else {
         return Ended::Ran(Status::Usage);
@@ -48,13 +46,7 @@ fn run(rt: &HostRuntime, alloc: Global, words: &[String]) -> Ended {
     let Some(place) = place_of(rt, place.as_str()) else {
         return Ended::Ran(Status::Usage);
     };
-    match call_of(alloc, rest) {
-        Ok(call) => match call.mode {
-            Mode::Run => run_at(rt, alloc, place),
-            Mode::Generate(_) => Ended::NotBuilt,
-        },
-        Err(refusal) => Ended::from(refusal),
-    }
+    run_at(rt, alloc, place, rest)
 }
 
 /// The place that a word names: memory, or a folder that is there.
@@ -77,32 +69,32 @@ fn is_folder(rt: &HostRuntime, path: &str) -> bool {
 }
 
 /// Runs the script on devices at the place.
-fn run_at(rt: &HostRuntime, alloc: Global, place: Place<'_>) -> Ended {
+fn run_at(rt: &HostRuntime, alloc: Global, place: Place<'_>, words: &[String]) -> Ended {
     match place {
-        Place::Memory => run_in_memory(rt, alloc),
-        Place::Folder(path) => run_in_folder(rt, alloc, path),
+        Place::Memory => run_in_memory(rt, alloc, words),
+        Place::Folder(path) => run_in_folder(rt, alloc, path, words),
     }
 }
 
 /// Runs the script on devices in memory, blank at each start.
-fn run_in_memory(rt: &HostRuntime, alloc: Global) -> Ended {
+fn run_in_memory(rt: &HostRuntime, alloc: Global, words: &[String]) -> Ended {
     let devices = Devices {
         log: MemDisk::new(alloc),
         pages: MemPages::new(alloc),
         vault: MemVault::new(alloc),
     };
-    run_on(rt, alloc, devices)
+    run_on(rt, alloc, devices, words)
 }
 
 /// Runs the script on the devices in the files of a folder, which no other process has meanwhile.
-fn run_in_folder(rt: &HostRuntime, alloc: Global, path: &str) -> Ended {
+fn run_in_folder(rt: &HostRuntime, alloc: Global, path: &str, words: &[String]) -> Ended {
     let lock = match locked(rt, path) {
         Ok(lock) => lock,
         Err(TryLockError::WouldBlock) => return Ended::InUse,
         Err(TryLockError::Error(_)) => return Ended::Unopened,
     };
     let ended = match opened(rt, alloc, path) {
-        Ok(devices) => run_on(rt, alloc, devices),
+        Ok(devices) => run_on(rt, alloc, devices, words),
         Err(_) => Ended::Unopened,
     };
     drop(lock);
@@ -140,8 +132,9 @@ fn run_on<L: Disk + Drop, P: PageDevice + Drop, V: Vault + Drop>(
     rt: &HostRuntime,
     alloc: Global,
     devices: Devices<L, P, V>,
+    words: &[String],
 ) -> Ended {
-    match run_with(rt, alloc, devices) {
+    match run_with(rt, alloc, devices, words) {
         Ok(status) => Ended::Ran(status),
         Err(_) => Ended::Ran(Status::Memory),
     }
@@ -151,6 +144,7 @@ fn run_with<L: Disk + Drop, P: PageDevice + Drop, V: Vault + Drop>(
     rt: &HostRuntime,
     alloc: Global,
     devices: Devices<L, P, V>,
+    words: &[String],
 ) -> Result<Status, AllocError> {
     let operators = Operators::new(
         Box::new(
@@ -180,7 +174,7 @@ fn run_with<L: Disk + Drop, P: PageDevice + Drop, V: Vault + Drop>(
         writer: rt.stdout(),
         faults: 0,
     };
-    let (status, _devices) = run_words(alloc, &[], &mut source, &mut sink, devices, &operators);
+    let (status, _devices) = run_words(alloc, words, &mut source, &mut sink, devices, &operators);
     Ok(status)
 }
 

@@ -1,12 +1,12 @@
 -- What opening a log answers, from what was read of it.
-use Rattle.std.proofs.Common.{◌≡◌, ◌≢◌, ℕ, ◌+◌, ◌<◌, ◌≤◌, suc, Bool, true, false, eqb, List, [], ◌∷◌, ◌++◌, length, get_or, refl, sym, ap, subst, ◌∙◌, arith, inl, inr}
-use Rattle.std.specs.Prelude.{◌||◌, Result, Ok, Err, OnOk, IfErr, MatchResult}
+use Rattle.std.proofs.Common.{◌≡◌, ◌≢◌, ℕ, ◌+◌, ◌<◌, ◌≤◌, suc, Bool, true, false, eqb, List, [], ◌∷◌, ◌++◌, length, length-append, get_or, refl, sym, ap, subst, ◌∙◌, arith, inl, inr}
+use Rattle.std.specs.Prelude.{◌||◌, Option, None, is_some, Result, Ok, Err, OnOk, IfErr, MatchResult}
 use Rattle.std.specs.List.{list_any}
 use Rattle.std.proofs.lemmas.Bool.{eqb-true}
 use Rattle.std.proofs.lemmas.List.Folds.{list_any-append}
 use Rattle.store_model.specs.Along.{along}
 use Rattle.media.specs.Kept.{Kept}
-use Rattle.log_blocks.specs.Log.{Block, first_lsn}
+use Rattle.log_blocks.specs.Log.{Block, IsRun, first_lsn}
 use Rattle.log_blocks.specs.LogState.{LogState, IsDurable, firsts}
 use Rattle.log_manager.specs.Records.{AreRecordsOf}
 use Rattle.wal_record.specs.Chains.{pages_step, pages}
@@ -18,10 +18,12 @@ use Rattle.wal_record.specs.declared.record.Record.TheVariants as kinds
 use Rattle.wal_record.proofs.Along.{by_pushes}
 use Rattle.wal_record.proofs.Pushes.{lawful_front, pages_push}
 use Rattle.log_laws.proofs.Central.{differ}
-use Rattle.log_replay.specs.Answers.{IsBadIn, IsOfRecords, IsNotFound, IsNotReplayed, IsUnread, IsCaused, Opens}
+use Rattle.log_replay.specs.Answers.{AreRead, IsBadIn, IsOfRecords, IsNotFound, IsNotReplayed, IsUnread, IsCaused, Opens}
 use Rattle.log_replay.specs.Replayed.{makes_page}
 use Rattle.log_manager.specs.Devices.{HoldEnd}
 use Rattle.log_replay.specs.declared.found.Found.{Found}
+use Rattle.log_replay.specs.declared.replaying.Replay.{Replay}
+use Rattle.wal_record.specs.declared.page.PageState.{PageState}
 use Rattle.log_replay.specs.declared.found.NotReplayed.{NotReplayed}
 use Rattle.log_replay.specs.declared.found.NotReplayed.TheVariants as refusals
 use Rattle.log_manager.proofs.Blocks.{blocks_are, firsts_are}
@@ -132,8 +134,21 @@ no_fault a b (Ok f) k = tt
 no_fault a b (Err refusals.LogFault) k = absurd k
 no_fault a b (Err e) k = tt
 
+-- where records make no page, there is no block
+pub no_page : (next : ℕ) (bs : List Block) (r : Replay) → IsRun next bs → AreRead bs r → r.page ≡ None → bs ≡ []
+no_page next [] r run read none = refl
+no_page next (b ∷ bs) r run read none =
+    let empty : read.log ≡ [] = by read.log (sym read.replays.some ∙ ap (λ (o : Option PageState). is_some o) none) in
+    let s = read.spelled in
+    absurd (omega (arith, run.1.count.0, s.3.count_is, ap length (sym empty ∙ s.2), length-append s.0 s.1))
+  where
+    by : (log : List Record) → has_items log ≡ false → log ≡ []
+    by [] e = refl
+    by (x ∷ xs) e = absurd cc
+
 -- and no block was bad
-pub none_bad : (bs : List Block) (x : Result Found NotReplayed) → IfErr x IsOfRecords → IfErr x (IsBadIn bs)
-none_bad bs (Ok f) k = tt
-none_bad bs (Err (refusals.LogBad block byte)) k = absurd k
-none_bad bs (Err e) k = tt
+pub none_bad : (bs : List Block) (x : Result Found NotReplayed) → (x ≡ Err refusals.NotFormatted → bs ≡ []) → IfErr x IsOfRecords → IfErr x (IsBadIn bs)
+none_bad bs (Ok f) empty k = tt
+none_bad bs (Err (refusals.LogBad block byte)) empty k = absurd k
+none_bad bs (Err refusals.NotFormatted) empty k = empty refl
+none_bad bs (Err e) empty k = tt

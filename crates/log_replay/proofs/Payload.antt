@@ -111,6 +111,7 @@ module _ (payload : List ℕ) (at n : ℕ) (old now : Replay) (s : AreSoFar payl
       by : IsFaultBehind s.front payload byte ⊎ IsUnlawfulBehind log s.front payload byte → IsBadByte log count payload byte
       by (inl f) = inl (record { front = s.front; rest = f.rest; left = f.left; goes_on = f.goes_on; breaks = inl (omega (arith, lt, s.count), f.fault) })
       by (inr u) = inr (s.front, omega (arith, lt, s.count), u)
+  next_bad number count log refusals.NotFormatted lt bad = absurd bad
   next_bad number count log e lt bad = tt
 
   -- and so is a surplus

@@ -9,7 +9,7 @@ use Rattle.log_manager.specs.Records.{AreIn, AreRecordsOf, AreSpelled}
 use Rattle.wal_record.specs.Sound.{IsLawful, AreLawful}
 use Rattle.wal_record.specs.declared.record.Record.{Record}
 use Rattle.wal_record.proofs.Along.{AllAlong_less}
-use Rattle.log_replay.specs.Answers.{AreTaken, IsBadByte, IsBadHere, IsBadIn, IsUnread}
+use Rattle.log_replay.specs.Answers.{AreRead, AreTaken, IsBadByte, IsBadHere, IsBadIn, IsUnread}
 use Rattle.log_replay.specs.Replayed.{IsReplayOf}
 use Rattle.log_replay.specs.declared.found.NotReplayed.{NotReplayed}
 use Rattle.log_replay.specs.declared.found.NotReplayed.TheVariants as refusals
@@ -80,6 +80,10 @@ replayed_all bs n r le so_far rs a =
     let f = spelled_front 0 bs [] so_far.log rs whole (subst (λ (l : List Block). AreIn 0 l rs) (sym (append-nil bs)) a.records) in
     subst (λ (l : List Record). IsReplayOf l r) (sym (f.2 ∙ ap (λ (l : List Record). so_far.log ++ l) f.3 ∙ append-nil so_far.log)) so_far.replays
 
+-- and of any blocks
+pub all_read : (bs : List Block) (n : ℕ) (r : Replay) → length bs ≤ n → AreReplayed bs n r → AreRead bs r
+all_read bs n r le so_far = record { log = so_far.log; spelled = subst (λ (l : List Block). AreSpelled l so_far.log) (all_blocks bs n le) so_far.spelled; replays = so_far.replays }
+
 -- a block isn't read
 module _ (bs : List Block) (n count : ℕ) (payload : List ℕ) (r : Replay) (h : HasBlock bs n) (counted : count ≡ h.block.count) (read : payload ≡ h.block.payload) (so_far : AreReplayed bs n r)
     (e : NotReplayed) (met : (log own : List Record) → IsReplayOf log r → IsPayloadOf own count payload → AreLawful (log ++ own) → IsUnread own e) where
@@ -119,4 +123,5 @@ module _ (bs : List Block) (n count : ℕ) (payload : List ℕ) (r : Replay) (h 
             let u = own_unread before [] rs (subst (λ (l : List Block). AreIn before l rs) (ap (λ (k : ℕ). take (suc k) bs) same ∙ h.with_it) a.records) lawful in
             subst (IsUnread u.0) is u.3;
       }
+      by refusals.NotFormatted is here = absurd here
       by f is here = tt

@@ -83,13 +83,22 @@ pub record IsBadBlock (bs : List Block) (number byte : ℕ) : Type 0 where
   pub bad : IsBadByte log block.count block.payload byte
   pub unlawful : (before : ℕ) (rs : List Record) → AreRecordsOf before (take (suc number) bs) rs → AreLawful rs → ⊥
 
+-- why these blocks aren't replayed: one of them is bad, or there is none
 abbrev pub IsBadIn : List Block → NotReplayed → Type 0
 IsBadIn bs (LogBad number byte) = IsBadBlock bs number byte
+IsBadIn bs NotFormatted = bs ≡ []
 IsBadIn bs refused = Unit {0}
+
+-- all records of these blocks have been taken
+pub record AreRead (bs : List Block) (r : Replay) : Type 0 where
+  pub log : List Record
+  pub spelled : AreSpelled bs log
+  pub replays : IsReplayOf log r
 
 -- where a block is named as bad, it is the one with this number
 abbrev pub IsBadHere : ℕ → List Record → ℕ → List ℕ → NotReplayed → Type 0
 IsBadHere number log count payload (LogBad block byte) = (block ≡ number) × IsBadByte log count payload byte
+IsBadHere number log count payload NotFormatted = ⊥
 IsBadHere number log count payload refused = Unit {0}
 
 -- a record of a payload is read and taken: where it begins, and where the next one does
@@ -107,6 +116,7 @@ refusal_of fault = Memory
 -- why the record behind these isn't taken
 abbrev pub IsBadBehind : ℕ → List Record → List Record → List ℕ → NotReplayed → Type 0
 IsBadBehind number log front payload (LogBad block byte) = (block ≡ number) × (IsFaultBehind front payload byte ⊎ IsUnlawfulBehind log front payload byte)
+IsBadBehind number log front payload NotFormatted = ⊥
 IsBadBehind number log front payload refused = Unit {0}
 
 -- records of a payload, as many as are counted, are taken

@@ -12,8 +12,8 @@
 //! What is promised: where the disk stands for a log without losers, with one page, of which no record was dropped, the
 //! answer is the state of a calm life on that log (`life_laws`), or the disk failed in this call, or memory ran out. An
 //! empty log is not formatted. The other logs that a disk may stand for aren't built yet, and of none is a block named as
-//! bad. On any other bytes the answer is one of these, too; a block is named as bad with the byte where a field or a
-//! record begins that may not stand there. A record is decoded once, redone in the steps of a binary search, and counted
+//! bad. On any other bytes the answer is one of these, too: a block is named as bad with the byte where a field or a
+//! record begins that may not stand there, and not formatted is a disk without a block alone. A record is decoded once, redone in the steps of a binary search, and counted
 //! in those of a look-up, so an opening takes time in proportion to the bytes of the log.
 #![tactic(auto)]
 

@@ -11,7 +11,7 @@ ghost use Rattle.wal_record.specs.Sound.{AreLawful, IsSound};
 ghost use Rattle.wal_record.specs.declared.record.Record.{Record};
 ghost use Rattle.log_manager.specs.Payload.{IsPayloadOf, bytes_of};
 ghost use Rattle.log_manager.specs.Records.{AreRecordsOf};
-ghost use Rattle.log_replay.specs.Answers.{AreTaken, IsBadBehind, IsBadHere, IsBadIn, IsCaused, IsLogFault, IsNotReplayed, IsTaken, IsUnread, Opens, refusal_of};
+ghost use Rattle.log_replay.specs.Answers.{AreRead, AreTaken, IsBadBehind, IsBadHere, IsBadIn, IsCaused, IsLogFault, IsNotReplayed, IsTaken, IsUnread, Opens, refusal_of};
 ghost use Rattle.log_replay.specs.Replayed.{HasReplayed, IsReplayOf};
 ghost use Rattle.log_manager.specs.Devices.{HoldEnd};
 ghost use Rattle.log_replay.specs.declared.found.NotReplayed.TheVariants as refusals;
@@ -41,9 +41,10 @@ pub fn replay<L: Disk>(
         → MatchResult result (Opens rs) (IsNotReplayed rs bs) }
     ensures records { L.tells → (bs : List Block) (rs : List Record) → IsDurable L.told L.may_leave log.old bs → HoldEnd rs bs → IsSound rs
         → OnOk result (AreRecordsOf 0 bs rs × (log.new.next ≡ length rs + 1)) }
-    // Where the disk stands for none, or counts others.
+    // Where the disk stands for none, or counts others, too.
     ensures bad { L.tells → (bs : List Block) → IsDurable L.told L.may_leave log.old bs → IfErr result (IsBadIn bs) }
     // No byte changes.
+    ensures told { L.tells → L.told log.new.device ≡ L.told log.old.device }
     ensures durable { L.tells → (bs : List Block) → IsDurable L.told L.may_leave log.old bs → IsDurable L.told L.may_leave log.new bs }
     ensures same { log.new ≡ record log.old { device = log.new.device; ended = log.new.ended } }
     ensures rules { IfOk result (λ found. KeepsState found.page) }
@@ -80,6 +81,8 @@ fn replay_all<L: Disk>(
         → MatchResult result (λ found. IsReplayOf rs found × (log.new.next ≡ length rs + 1)) (IsUnread rs) }
     ensures bad { L.tells → (bs : List Block) → IsDurable L.told L.may_leave log.old bs → first_lsn bs ≡ 1 → IfErr result (IsBadIn bs) }
     ensures replayed { IfOk result HasReplayed }
+    ensures read { L.tells → (bs : List Block) → IsDurable L.told L.may_leave log.old bs → IfOk result (AreRead bs) }
+    ensures told { L.tells → L.told log.new.device ≡ L.told log.old.device }
     ensures durable { L.tells → (bs : List Block) → IsDurable L.told L.may_leave log.old bs → IsDurable L.told L.may_leave log.new bs }
     ensures same { log.new ≡ record log.old { device = log.new.device; ended = log.new.ended } }
     ensures live { OnOk result (log.new.ended ≡ None) }

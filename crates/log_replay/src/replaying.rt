@@ -1,5 +1,5 @@
 //! What the records so far make, and what one more does to it.
-ghost use Rattle.std.specs.Prelude.{◌≡◌, ◌≤◌, ◌<◌, ◌+◌, ◌-◌, ◌^◌, ◌++◌, ◌∷◌, [], ℕ, List, OnOk, IfErr, IfOk, IfSome, MatchResult};
+ghost use Rattle.std.specs.Prelude.{◌≡◌, ◌≤◌, ◌<◌, ◌+◌, ◌-◌, ◌^◌, ◌++◌, ◌∷◌, [], ℕ, List, None, OnOk, IfErr, IfOk, IfSome, MatchResult};
 ghost use Rattle.wal_record.specs.Chains.{tx_of};
 ghost use Rattle.wal_record.specs.Rules.{HasSpelling};
 ghost use Rattle.wal_record.specs.State.{KeepsState};
@@ -7,6 +7,7 @@ ghost use Rattle.wal_record.specs.Sound.{AreLawful};
 ghost use Rattle.wal_record.specs.declared.record.Record.{Record};
 ghost use Rattle.log_replay.specs.Answers.{IsNotFound, IsOfRecords, Opens};
 ghost use Rattle.log_replay.specs.Counts.{count_of};
+ghost use Rattle.log_replay.specs.declared.found.NotReplayed.TheVariants as refusals;
 ghost use Rattle.log_replay.specs.Replayed.{Counted, HasReplayed, IsNotTaken, IsPageRefusal, IsReplayOf, PageChanged, changes_page, makes_page};
 
 use crate::found::{Found, NotReplayed};
@@ -142,6 +143,7 @@ impl Replay {
         ensures rules { IfOk result (λ found. KeepsState found.page) }
         ensures number { IfOk result (λ found. 1 ≤ found.next) }
         ensures kind { IfErr result IsOfRecords }
+        ensures empty { result ≡ Err refusals.NotFormatted → self.page ≡ None }
     {
         let Replay {
             page,

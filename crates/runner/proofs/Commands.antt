@@ -21,7 +21,7 @@ use Rattle.store_model.specs.declared.reply.Outcome.TheVariants as outcomes
 use Rattle.store_model.specs.declared.range.Mode.TheVariants.{Shared, Exclusive}
 use Rattle.wal_record.specs.State.{is_key, is_value, live, state_size, page_room}
 use Rattle.wal_record.specs.Checkpoints.{commits, limit_of}
-use Rattle.wal_record.specs.History.{log_of, life_log}
+use Rattle.wal_record.specs.History.{last_begun, log_of, life_log}
 use Rattle.wal_record.specs.Left.{IsLeft, acknowledges, is_commit_of}
 use Rattle.wal_record.specs.Images.{applied, image, CanApply, OnPage}
 use Rattle.wal_record.specs.declared.page.LeafRow.{LeafRow}
@@ -50,7 +50,7 @@ use Rattle.runner.specs.LogDisk.{Keeps, HoldsOne, Leaves, lsn_from}
 use Rattle.runner.specs.Machine.{actives, IsFused, In, Runs, IsOver, LivesOn, Adds}
 use Rattle.transcript.specs.Printing.{escaped, shown}
 use Rattle.runner.specs.Refusals.{RefusesAt, CutAt, HasNoPlace, IsRequestNotBuilt}
-use Rattle.runner.specs.Turns.{Turn, Life, Active, Stage, LeftBy, Done, LogFault, Ended, Commits, CutCommit, IsEnd, IsEndedAt, lives_of, last_after, without, IsAid, HasRoom, IsRightLife, turn, stage_step, longer, is_known, is_lawful, no_life, tx_of, log_of_life, Answers, EndedRow, IsNoStop}
+use Rattle.runner.specs.Turns.{Turn, Life, Active, Stage, LeftBy, Done, LogFault, Ended, Commits, IsCutOff, IsLeftBy, history_of, IsEnd, IsEndedAt, lives_of, last_after, without, IsAid, HasRoom, IsRightLife, turn, stage_step, longer, is_known, is_lawful, no_life, tx_of, log_of_life, Answers, EndedRow, IsNoStop}
 use Rattle.runner.specs.Text.{lines, head}
 use Rattle.runner.specs.declared.session.Session.{Session}
 use Rattle.runner.specs.Standing.{Standing}
@@ -183,15 +183,15 @@ module _ {D : Type 0} (L : Ghosts D) where
     may_begin name e = rw (living, known_here name ∙ e) refl
 
     -- another transaction is open
-    pub begun_beside : (name : List ℕ) (line : ℕ) → is_active standing.session name ≡ false → standing.session ≢ None → RefusesAt L log.device s (commands.Begin name) line (statuses.NotBuilt line)
-    begun_beside name line e some = (refl, may_begin name e, (λ none. some (closed standing.session (sym h.active ∙ none))), leaves_here)
+    pub begun_beside : (name : List ℕ) (line : ℕ) → log.ended ≡ None → is_active standing.session name ≡ false → standing.session ≢ None → RefusesAt L log.device s (commands.Begin name) line (statuses.NotBuilt line)
+    begun_beside name line live e some = (refl, may_begin name e, (h.ended ∙ live, λ none. some (closed standing.session (sym h.active ∙ none))), leaves_here)
       where
         closed : (o : Option Session) → ◌≡◌ {A = List Active} (actives o) [] → ◌≡◌ {A = Option Session} o None
         closed None q = refl
         closed (Some z) q = absurd cc
 
     pub did_nothing : (out : List ℕ) → out ≡ [] → Adds L.tells (In L log standing) s commands.Nothing out
-    did_nothing out is = record { turn = turn commands.Nothing [] Done; is = refl; fits = record { goes = h.goes; lawful = refl; row = refl }; holds = h; lines = is }
+    did_nothing out is = record { turn = turn commands.Nothing [] Done; is = refl; fits = record { goes = h.goes; lawful = refl; row = (tt, refl) }; holds = h; lines = is }
 
     -- the life has ended
     pub did_end : (c : Command) (n : ℕ) (out : List ℕ) → log.ended ≡ Some n → is_lawful s c ≡ true → EndedRow c [] → out ≡ head c ++ codes " ended " ++ decimal n ++ codes "\n" → Adds L.tells (In L log standing) s c out
@@ -231,7 +231,7 @@ module _ {D : Type 0} (L : Ghosts D) where
         record {
           turn = t;
           is = refl;
-          fits = record { goes = h.goes; lawful = rw (living, idle) refl; row = (not_ended none, idle, standing.next, standing.next, refl) };
+          fits = record { goes = h.goes; lawful = rw (living, idle) refl; row = ((not_ended none, idle), (standing.next, standing.next, (λ t. subst (λ (x : Option Life). last_begun (history_of x) standing.next ≡ None) (sym h.life) ((r.calm t).calm.history.sessions standing.next (omega arith))), refl)) };
           holds = more none (e ∷ []) log' standing' (stage_step s t) refl refl
               ((λ i. record { name = sym z.2 i; tx = sym z.3 i } ∷ idle i) ∙ sym (ap actives z.1)) refl refl refl (ap (λ (x : LogState D). x.ended) same) (ap (λ (x : LogState D). x.device) same)
               (record {
@@ -318,8 +318,7 @@ module _ {D : Type 0} (L : Ghosts D) where
               goes = h.goes;
               lawful = lawful_here;
               row = (
-                not_ended none,
-                tt,
+                (not_ended none, tt),
                 subst (λ (x : Option ℕ). Answers L.tells (log_of_life s.life) x (requests.Get key) es) (sym tx_here) (
                   lock ∷ [],
                   Said z.tx z.tx (requests.Get key) (replies.Found (live (rows_of standing.page) key)),
@@ -347,8 +346,7 @@ module _ {D : Type 0} (L : Ghosts D) where
               goes = h.goes;
               lawful = lawful_here;
               row = (
-                not_ended none,
-                tt,
+                (not_ended none, tt),
                 subst (λ (x : Option ℕ). Answers L.tells (log_of_life s.life) x (requests.Put key value) es) (sym tx_here) (
                   lock ∷ [],
                   Declined z.tx z.tx (requests.Put key value) (outcomes.Full 1 z.puts),
@@ -411,8 +409,7 @@ module _ {D : Type 0} (L : Ghosts D) where
                 goes = h.goes;
                 lawful = lawful_here;
                 row = (
-                  not_ended none,
-                  tt,
+                  (not_ended none, tt),
                   subst (λ (x : Option ℕ). Answers L.tells (log_of_life s.life) x (requests.Put key value) es) (sym tx_here) (
                     lock ∷ write ∷ [],
                     Said z.tx z.tx (requests.Put key value) (replies.Was (live (rows_of standing.page) key)),
@@ -492,6 +489,16 @@ module _ {D : Type 0} (L : Ghosts D) where
         pub right_then : L.tells → IsRightLife after
         right_then t = calm_right h.here.opening (h.here.history ++ e ∷ []) (rows_of standing.page) standing.head None standing.next (standing.commits + 1) (r.lsn + 1) (calm_then t)
 
+        -- it is entered and isn't acknowledged
+        cut_row : IsCutOff L.tells s (commands.Commit name) (e ∷ [])
+        cut_row = record {
+          calls = tt;
+          goes = not_ended none;
+          rest = Acked z.tx z.tx ∷ [];
+          enters = subst (λ (x : Option ℕ). Commits x (e ∷ Acked z.tx z.tx ∷ [])) (sym tx_here) (z.tx, r.lsn + 1, z.last, refl);
+          part = inr ((λ q. cc), (λ q. cc));
+        }
+
         -- the first of the waiting records, with those that were stable, are what a stop may leave
         left_then : (t : L.tells) (n : ℕ) → IsLeft h.here.opening (h.here.history ++ e ∷ []) ((r.calm t).durable ++ take n ((r.calm t).waiting ++ committing o ∷ []))
         left_then t n =
@@ -502,7 +509,7 @@ module _ {D : Type 0} (L : Ghosts D) where
             (whole_commit t [] refl ∙ ap (λ (rs : List Record). c.durable ++ rs) (sym (take_drop n w)) ∙ sym (append_assoc c.durable (take n w) (drop n w)))
 
         module _ (left : (t : L.tells) → RecordsLeft L.told L.may_leave 0 (h.here.opening ++ (r.calm t).durable) ((r.calm t).waiting ++ committing o ∷ []) mid new) where
-          holds_then : (t : L.tells) (k : Kept) → StandsForMoreRecords 0 (first_kept mid) (h.here.opening ++ (r.calm t).durable) ((r.calm t).waiting ++ committing o ∷ []) (left t).done k → HoldsOne (LeftBy after) k
+          holds_then : (t : L.tells) (k : Kept) → StandsForMoreRecords 0 (first_kept mid) (h.here.opening ++ (r.calm t).durable) ((r.calm t).waiting ++ committing o ∷ []) (left t).done k → HoldsOne (IsLeftBy after) k
           holds_then t k m =
               let c = r.calm t in
               let w = c.waiting ++ committing o ∷ [] in
@@ -537,7 +544,7 @@ module _ {D : Type 0} (L : Ghosts D) where
                   lawful = lawful_here;
                   row = (
                     armed,
-                    (not_ended none, subst (λ (x : Option ℕ). CutCommit x (e ∷ [])) (sym tx_here) (r.lsn + 1, z.last, refl)),
+                    cut_row,
                     λ u. subst (λ (x : Option Life). IsEnd x (Some n)) (sym life) (ended_then u n number),
                   );
                 };
@@ -560,9 +567,9 @@ module _ {D : Type 0} (L : Ghosts D) where
               let life : ◌≡◌ {A = Option Life} (longer s.life (e ∷ [])) (Some after) = ap (λ (x : Option Life). longer x (e ∷ [])) h.life in
               record {
                 entries = e ∷ [];
-                fits = record { goes = h.goes; lawful = lawful_here; row = (not_ended none, subst (λ (x : Option ℕ). CutCommit x (e ∷ [])) (sym tx_here) (r.lsn + 1, z.last, refl)) };
+                fits = record { goes = h.goes; lawful = lawful_here; row = cut_row };
                 right = λ t. subst (λ (x : Option Life). All IsRightLife (lives_of x s.past)) (sym life) (right_more L s.past after (h.past t) (right_then t));
-                leaves = λ t. subst (λ (x : Option Life). Keeps L (HoldsOne (last_after x s.last)) new.device) (sym life) (over_then t).keeps;
+                leaves = λ t. subst (λ (x : Option Life). Keeps L (last_after x s.last) new.device) (sym life) (over_then t).keeps;
               }
 
         -- it is acknowledged
@@ -639,13 +646,13 @@ module _ {D : Type 0} (L : Ghosts D) where
             let c = runs.calm t in
             record { page = c.page; calm = c.calm; seen = c.seen; last = c.last; place = c.place; limit = c.limit; first = c.first; durable = c.durable; waiting = c.waiting; whole = c.whole; uncommitted = c.uncommitted; stands = still t (h.here.opening ++ c.durable) c.waiting c.stands };
       }
-      lives_still (Some n) over = λ t. record { right = (over t).right; keeps = keeps_same L (HoldsOne (LeftBy h.here)) log.device new (same t) nomore (over t).keeps }
+      lives_still (Some n) over = λ t. record { right = (over t).right; keeps = keeps_same L (LeftBy h.here) log.device new (same t) nomore (over t).keeps }
 
       pub did_fuse : (device : Device) (calls : ℕ) (out : List ℕ) → device ≡ Log → out ≡ codes "fuse log " ++ decimal calls ++ codes "\n" → Adds L.tells (In L (record log { device = new }) standing) s (commands.Fuse device calls) out
       did_fuse device calls out log_is is = record {
         turn = turn (commands.Fuse device calls) [] Done;
         is = refl;
-        fits = record { goes = h.goes; lawful = refl; row = (refl, log_is) };
+        fits = record { goes = h.goes; lawful = refl; row = (log_is, refl) };
         holds = record { past = h.past; here = h.here; life = h.life; active = h.active; ended = h.ended; goes = h.goes; fused = record { fuse = h.fused.fuse; renewed = λ e. absurd cc }; lives = lives_still log.ended h.lives };
         lines = is;
       }
@@ -654,7 +661,7 @@ module _ {D : Type 0} (L : Ghosts D) where
       did_renew device out log_is renewed is = record {
         turn = turn (commands.Renew device) [] Done;
         is = refl;
-        fits = record { goes = h.goes; lawful = refl; row = (refl, log_is) };
+        fits = record { goes = h.goes; lawful = refl; row = (log_is, refl) };
         holds = record { past = h.past; here = h.here; life = h.life; active = h.active; ended = h.ended; goes = h.goes; fused = record { fuse = h.fused.fuse; renewed = λ e. renewed h.fused.fuse }; lives = lives_still log.ended h.lives };
         lines = is;
       }

@@ -1,5 +1,5 @@
 -- The log disk in its fuse, and without it.
-use Rattle.std.proofs.Common.{◌≡◌, ◌≢◌, ℕ, ◌+◌, List, [], Option, Some, None, true, refl, sym, subst, inl, inr}
+use Rattle.std.proofs.Common.{◌≡◌, ◌≢◌, ℕ, ◌+◌, List, [], Option, Some, None, true, refl, sym, subst, inl, inr, length}
 use Rattle.std.proofs.lemmas.List.Elements.{All-nil}
 use Rattle.media.specs.Kept.{Kept}
 use Rattle.media.specs.Fused.{Fused}
@@ -16,7 +16,7 @@ use Rattle.runner.specs.Clause.{OfCommand, NotBuiltLine, Ended, Headline}
 use Rattle.runner.specs.LogDisk.{View, IsWhole, seen, Keeps, HoldsOne}
 use Rattle.runner.specs.Machine.{Out}
 use Rattle.runner.specs.Refusals.{IsNotBuilt}
-use Rattle.runner.specs.Turns.{Turn, Stage, Found, IsRightLife, begin_stage, is_lawful, stage}
+use Rattle.runner.specs.Turns.{Last, Turn, Stage, Found, MayFind, IsRightLife, begin_stage, is_lawful, stage}
 use Rattle.runner.proofs.Lives.{keeps_only}
 
 -- what a fuse round a device says
@@ -38,19 +38,20 @@ fuse_of D = record {
 
 -- ---- the start
 
-pub stands_at : {D : Type 0} (L : Ghosts D) (disk : D) (log : List Record) → DevicesStandFor L.told L.may_leave disk log → Keeps L (HoldsOne (Found log)) disk
-stands_at L disk log s = keeps_only L (HoldsOne (Found log)) disk (log, refl, record { sound = s.sound; bs = s.log_disk.bs; stands = s.log_disk.stands; records = s.log_disk.records }) s.log_disk.only
+-- devices that stand for a log
+pub stands_at : {D : Type 0} (L : Ghosts D) (disk : D) (log : List Record) → DevicesStandFor L.told L.may_leave disk log → Keeps L (Found log) disk
+stands_at L disk log s = keeps_only L (Found log) disk (log, refl, record { sound = s.sound; bs = s.log_disk.bs; stands = s.log_disk.stands; records = s.log_disk.records }) s.log_disk.only
 
--- a fuse that isn't armed round a disk that stands for a log
-pub out_at : {D E : Type 0} (T : Type 0) (L : Ghosts D) (F : Ghosts E) (e : E) (d : D) → L.told d ≡ F.told e → ((c : Kept) → F.may_leave e c → L.may_leave d c) → F.fuses → F.passes e ≡ None → (log : List Record) → (T → DevicesStandFor L.told L.may_leave d log) → Out (record F { tells = T }) e (begin_stage log)
-out_at T L F e d told may fuse none log stands = record {
+-- a fuse that isn't armed round a disk that keeps a log
+pub out_at : {D E : Type 0} (T : Type 0) (L : Ghosts D) (F : Ghosts E) (e : E) (d : D) → L.told d ≡ F.told e → ((c : Kept) → F.may_leave e c → L.may_leave d c) → F.fuses → F.passes e ≡ None → (start : Last) → (T → Keeps L start d) → Out (record F { tells = T }) e (begin_stage start)
+out_at T L F e d told may fuse none start keeps = record {
   past = λ t. All-nil IsRightLife;
   life = refl;
   active = refl;
   ended = refl;
   goes = refl;
   fused = record { fuse = fuse; renewed = λ _. none };
-  keeps = λ t. let k = stands_at L d log (stands t) in record { now = subst (HoldsOne (Found log)) told k.now; crash = λ c m. k.crash c (may c m) };
+  keeps = λ t. let k = keeps t in record { now = subst (HoldsOne (MayFind start)) told k.now; crash = λ c m. k.crash c (may c m) };
 }
 
 -- ---- the end
@@ -60,8 +61,8 @@ of_map P Q f None h = h
 of_map P Q f (Some c) h = f c h
 
 module _ {D E : Type 0} (T : Type 0) (L : Ghosts D) (F : Ghosts E) (e : E) (d : D) (told : F.told e ≡ L.told d) (may : (c : Kept) → L.may_leave d c → F.may_leave e c) where
-  keeps_inner : (P : Kept → Type 0) → Keeps (record F { tells = T }) P e → Keeps (record L { tells = T }) P d
-  keeps_inner P k = record { now = subst P told k.now; crash = λ c m. k.crash c (may c m) }
+  keeps_inner : (last : Last) → Keeps (record F { tells = T }) last e → Keeps (record L { tells = T }) last d
+  keeps_inner last k = record { now = subst (HoldsOne (MayFind last)) told k.now; crash = λ c m. k.crash c (may c m) }
 
   not_built_inner : (s : Stage) (c : Command) → IsNotBuilt (record F { tells = T }) e s c → IsNotBuilt (record L { tells = T }) d s c
   not_built_inner s commands.Open h = λ t. let f = h t in record {
@@ -76,53 +77,56 @@ module _ {D E : Type 0} (T : Type 0) (L : Ghosts D) (F : Ghosts E) (e : E) (d : 
   not_built_inner s (commands.Renew device) h = h
   not_built_inner s _ h = absurd h
 
-  line_inner : (s : Stage) (rest : List ℕ) → NotBuiltLine (record F { tells = T }) e s rest → NotBuiltLine (record L { tells = T }) d s rest
-  line_inner s rest (inl x) = inl x
-  line_inner s rest (inr (line, whole, h)) = inr (line, whole, of_map (λ c. (is_lawful s c ≡ true) × IsNotBuilt (record F { tells = T }) e s c) (λ c. (is_lawful s c ≡ true) × IsNotBuilt (record L { tells = T }) d s c) (λ c h. (h.0, not_built_inner s c h.1)) _ h)
+  line_inner : (s : Stage) (taken : ℕ) (rest : List ℕ) → NotBuiltLine (record F { tells = T }) e s taken rest → NotBuiltLine (record L { tells = T }) d s taken rest
+  line_inner s taken rest (inl x) = inl x
+  line_inner s taken rest (inr (line, next, h)) = inr (line, next, of_map (λ c. (is_lawful s c ≡ true) × IsNotBuilt (record F { tells = T }) e s c) (λ c. (is_lawful s c ≡ true) × IsNotBuilt (record L { tells = T }) d s c) (λ c h. (h.0, not_built_inner s c h.1)) _ h)
 
-  ended_inner : (log : List Record) (status : Status) (turns : List Turn) (read rest written : List ℕ) (left : Option (List ℕ)) → Ended (record F { tells = T }) log e status turns read rest written left → Ended (record L { tells = T }) log d status turns read rest written left
-  ended_inner log (statuses.NotBuilt n) turns read rest written left h = (h.0, h.1, line_inner (stage log turns) rest h.2)
-  ended_inner log statuses.Done turns read rest written left h = h
-  ended_inner log statuses.Memory turns read rest written left h = h
-  ended_inner log statuses.Usage turns read rest written left h = h
-  ended_inner log (statuses.Script n) turns read rest written left h = h
-  ended_inner log statuses.SourceFault turns read rest written left h = h
-  ended_inner log statuses.SinkFault turns read rest written left h = h
-  ended_inner log statuses.LogFault turns read rest written left h = h
-  ended_inner log (statuses.LogBad block byte) turns read rest written left h = h
-  ended_inner log statuses.NotFormatted turns read rest written left h = h
-  ended_inner log statuses.AlreadyFormatted turns read rest written left h = h
-  ended_inner log (statuses.NoSplit n) turns read rest written left h = h
+  ended_inner : (start : Last) (status : Status) (turns : List Turn) (read rest written : List ℕ) (left : Option (List ℕ)) → Ended (record F { tells = T }) start e status turns read rest written left → Ended (record L { tells = T }) start d status turns read rest written left
+  ended_inner start (statuses.NotBuilt n) turns read rest written left h = (h.0, h.1, line_inner (stage start turns) (length read) rest h.2)
+  ended_inner start statuses.Done turns read rest written left h = h
+  ended_inner start statuses.Memory turns read rest written left h = h
+  ended_inner start statuses.Usage turns read rest written left h = h
+  ended_inner start statuses.NoGenerator turns read rest written left h = h
+  ended_inner start (statuses.Script n) turns read rest written left h = h
+  ended_inner start statuses.SourceFault turns read rest written left h = h
+  ended_inner start statuses.SinkFault turns read rest written left h = h
+  ended_inner start statuses.LogFault turns read rest written left h = h
+  ended_inner start (statuses.LogBad block byte) turns read rest written left h = h
+  ended_inner start statuses.NotFormatted turns read rest written left h = h
+  ended_inner start statuses.AlreadyFormatted turns read rest written left h = h
+  ended_inner start (statuses.NoSplit n) turns read rest written left h = h
 
-  pub unfused : (log : List Record) (left0 : Option (List ℕ)) (pending : List ℕ) (left told0 told1 : Option (List ℕ)) (status : Status) → Headline (record F { tells = T }) log e left0 pending left told0 told1 status → Headline (record L { tells = T }) log d left0 pending left told0 told1 status
-  unfused log left0 pending left told0 told1 status h = record {
+  pub unfused : (start : Last) (left0 : Option (List ℕ)) (pending : List ℕ) (left told0 told1 : Option (List ℕ)) (status : Status) → Headline (record F { tells = T }) start e left0 pending left told0 told1 status → Headline (record L { tells = T }) start d left0 pending left told0 told1 status
+  unfused start left0 pending left told0 told1 status h = record {
     turns = h.turns;
     read = h.read;
     rest = h.rest;
     written = h.written;
     taken = h.taken;
+    within = h.within;
     most = h.most;
     ran = h.ran;
     cut = h.cut;
     wrote = h.wrote;
-    ended = ended_inner log status h.turns h.read h.rest h.written _ h.ended;
+    ended = ended_inner start status h.turns h.read h.rest h.written _ h.ended;
     leaves = λ t. keeps_inner _ (h.leaves t);
   }
 
 -- ---- completeness
 
-pub asked : {D : Type 0} (L : Ghosts D) (log : List Record) (disk : D) (left0 : Option (List ℕ)) (pending : List ℕ) (left told0 told : Option (List ℕ)) (status : Status) → Headline L log disk left0 pending left told0 told status → L.tells
-    → status ≢ statuses.Usage → status ≢ statuses.SourceFault → status ≢ statuses.SinkFault → status ≢ statuses.LogFault → IsAsked status
-asked L log disk left0 pending left told0 told statuses.Usage h t usage source sink fault = usage refl
-asked L log disk left0 pending left told0 told statuses.SourceFault h t usage source sink fault = source refl
-asked L log disk left0 pending left told0 told statuses.SinkFault h t usage source sink fault = sink refl
-asked L log disk left0 pending left told0 told statuses.LogFault h t usage source sink fault = fault refl
-asked L log disk left0 pending left told0 told (statuses.LogBad block byte) h t usage source sink fault = h.ended.2 t
-asked L log disk left0 pending left told0 told _ h t usage source sink fault = tt
+pub asked : {D : Type 0} (L : Ghosts D) (start : Last) (disk : D) (left0 : Option (List ℕ)) (pending : List ℕ) (left told0 told : Option (List ℕ)) (status : Status) → Headline L start disk left0 pending left told0 told status → L.tells
+    → (status ≢ statuses.Usage) × (status ≢ statuses.NoGenerator) → status ≢ statuses.SourceFault → status ≢ statuses.SinkFault → status ≢ statuses.LogFault → IsAsked status
+asked L start disk left0 pending left told0 told statuses.Usage h t usage source sink fault = usage.0 refl
+asked L start disk left0 pending left told0 told statuses.NoGenerator h t usage source sink fault = usage.1 refl
+asked L start disk left0 pending left told0 told statuses.SourceFault h t usage source sink fault = source refl
+asked L start disk left0 pending left told0 told statuses.SinkFault h t usage source sink fault = sink refl
+asked L start disk left0 pending left told0 told statuses.LogFault h t usage source sink fault = fault refl
+asked L start disk left0 pending left told0 told (statuses.LogBad block byte) h t usage source sink fault = h.ended.2 t
+asked L start disk left0 pending left told0 told _ h t usage source sink fault = tt
 
 -- a run round a fused disk is one round the disk
-pub begun_fused : {D : Type 0} (L : Ghosts D) (v : View L.tells) (e : Fused D) (d : D) → e ≡ record { inner = d; left = None; refused = 0 } → (log : List Record) → (IsWhole v → DevicesStandFor L.told L.may_leave d log) → Out (seen (fuse_of L) v) e (begin_stage log)
-begun_fused L v e d is log stands = subst (λ (x : Fused _). Out (seen (fuse_of L) v) x (begin_stage log)) (sym is) (out_at (IsWhole v) L (fuse_of L) (record { inner = d; left = None; refused = 0 }) d refl (λ c m. m) tt refl log stands)
+pub begun_fused : {D : Type 0} (L : Ghosts D) (v : View L.tells) (e : Fused D) (d : D) → e ≡ record { inner = d; left = None; refused = 0 } → (start : Last) → (IsWhole v → Keeps L start d) → Out (seen (fuse_of L) v) e (begin_stage start)
+begun_fused L v e d is start keeps = subst (λ (x : Fused _). Out (seen (fuse_of L) v) x (begin_stage start)) (sym is) (out_at (IsWhole v) L (fuse_of L) (record { inner = d; left = None; refused = 0 }) d refl (λ c m. m) tt refl start keeps)
 
-pub ended_fused : {D : Type 0} (L : Ghosts D) (v : View L.tells) (e : Fused D) (d : D) → d ≡ e.inner → (log : List Record) (left0 : Option (List ℕ)) (pending : List ℕ) (left told0 told1 : Option (List ℕ)) (status : Status) → Headline (seen (fuse_of L) v) log e left0 pending left told0 told1 status → Headline (seen L v) log d left0 pending left told0 told1 status
-ended_fused L v e d is log left0 pending left told0 told1 status h = subst (λ (x : _). Headline (seen L v) log x left0 pending left told0 told1 status) (sym is) (unfused (IsWhole v) L (fuse_of L) e e.inner refl (λ c m. m) log left0 pending left told0 told1 status h)
+pub ended_fused : {D : Type 0} (L : Ghosts D) (v : View L.tells) (e : Fused D) (d : D) → d ≡ e.inner → (start : Last) (left0 : Option (List ℕ)) (pending : List ℕ) (left told0 told1 : Option (List ℕ)) (status : Status) → Headline (seen (fuse_of L) v) start e left0 pending left told0 told1 status → Headline (seen L v) start d left0 pending left told0 told1 status
+ended_fused L v e d is start left0 pending left told0 told1 status h = subst (λ (x : _). Headline (seen L v) start x left0 pending left told0 told1 status) (sym is) (unfused (IsWhole v) L (fuse_of L) e e.inner refl (λ c m. m) start left0 pending left told0 told1 status h)

@@ -1,12 +1,13 @@
+pub mod Alone
 pub mod Beginnings
 pub mod Causes
 pub mod Commands
 pub mod Fused
 pub mod Lists
 pub mod Lives
+pub mod NextCalls
 pub mod Openings
 pub mod Places
-pub mod Reading
 pub mod Rows
 pub mod Runs
 pub mod Sizes

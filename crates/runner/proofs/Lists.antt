@@ -1,7 +1,10 @@
 -- Records of blocks, and LSNs.
 use Rattle.std.proofs.Common.{◌≡◌, ℕ, zero, suc, ◌+◌, ◌≤◌, Bool, true, false, List, [], ◌∷◌, ◌++◌, refl, ap, ◌∙◌, arith, length, length-append, take, drop, map}
-use Rattle.std.specs.Prelude.{◌||◌, slice_index_or}
-use Rattle.std.specs.List.{list_any}
+use Rattle.std.specs.Prelude.{◌||◌, ◌==◌, if◌then◌else◌, filter, slice_index_or}
+use Rattle.std.specs.List.{list_any, range_with_len}
+use Rattle.store_model.specs.Along.{along, along_from}
+use Rattle.wal_record.specs.Chains.{greatest}
+use Rattle.wal_record.specs.OpenWrites.{has_items, is_loser, losers, open_step, open_writes}
 use Rattle.media.specs.Kept.{Kept}
 use Rattle.log_blocks.specs.declared.header.Place.{Place}
 use Rattle.log_blocks.specs.Log.{Block, IsRun, next_lsn, first_lsn}
@@ -69,3 +72,27 @@ pub take_drop : (n : ℕ) (xs : List Record) → take n xs ++ drop n xs ≡ xs
 take_drop zero xs = refl
 take_drop (suc n) [] = refl
 take_drop (suc n) (x ∷ xs) = ap (λ (ys : List Record). x ∷ ys) (take_drop n xs)
+
+-- ---- losers
+
+filter_none : (p : ℕ → Bool) → ((t : ℕ) → p t ≡ false) → (xs : List ℕ) → filter p xs ≡ []
+filter_none p none [] = refl
+filter_none p none (x ∷ xs) = rw (none x) (filter_none p none xs)
+
+pub no_losers : (log : List Record) → ((t : ℕ) → open_writes log t ≡ []) → losers log ≡ []
+no_losers log none = filter_none (is_loser log) (λ t. ap (λ (ws : List Record). has_items ws) (none t)) (range_with_len 1 (greatest log))
+
+both_none : (b : Bool) → ◌≡◌ {A = List Record} (if b then [] else []) []
+both_none true = refl
+both_none false = refl
+
+none_written : (t : ℕ) (before : List Record) (n : ℕ) → along_from (λ (b ws : List Record) (r : Record). open_step t r ws r) before [] (some_commits n) ≡ []
+unfolding some_commits
+none_written t before zero = refl
+none_written t before (suc n) =
+    let c : Record = kinds.Commit (record { tx = 1; prev = 0 }) in
+    ap (λ (ws : List Record). along_from (λ (b ws : List Record) (r : Record). open_step t r ws r) (before ++ c ∷ []) ws (some_commits n)) (both_none (1 == t)) ∙ none_written t (before ++ c ∷ []) n
+
+pub open_of_some : (n t : ℕ) → open_writes (some_commits n) t ≡ []
+unfolding open_writes along
+open_of_some n t = none_written t [] n

@@ -1,5 +1,5 @@
 -- What holds at any place of a run: lives are right, and the log disk keeps a log that may be found.
-use Rattle.std.proofs.Common.{◌≡◌, ℕ, ◌≤◌, List, [], ◌∷◌, ◌++◌, Option, Some, None, refl, sym, ap, subst, ◌∙◌, append_assoc}
+use Rattle.std.proofs.Common.{◌≡◌, ℕ, ◌≤◌, List, [], ◌∷◌, ◌++◌, Option, Some, None, refl, sym, ap, subst, ◌∙◌, append_assoc, inl, inr}
 use Rattle.std.specs.List.{All, list_any}
 use Rattle.std.proofs.lemmas.List.Folds.{list_any-append}
 use Rattle.std.proofs.lemmas.List.Elements.{All-cons, All-nil, All-append}
@@ -22,7 +22,7 @@ use Rattle.runner.specs.Active.{opened_by}
 use Rattle.runner.specs.Leaf.{rows_of}
 use Rattle.runner.specs.LogDisk.{View, Whole, Form, IsWhole, StandsOn, Keeps, HoldsOne, lsn_from}
 use Rattle.runner.specs.Machine.{Out, In, Safe, IsCalm, IsOver, LivesOn}
-use Rattle.runner.specs.Turns.{Life, Stage, LeftBy, IsRightLife, lives_of, last_after}
+use Rattle.runner.specs.Turns.{Last, Found, Unsynced, Formatted, Unformatted, Stopped, Life, Stage, LeftBy, IsLeftBy, MayFind, MayBeLeft, IsRightLife, lives_of, last_after}
 use Rattle.runner.specs.Standing.{Standing}
 use Rattle.runner.proofs.Lists.{first_is}
 
@@ -34,15 +34,29 @@ tells_of Form h = absurd h
 
 -- ---- the disk
 
-pub keeps_map : {D : Type 0} (L : Ghosts D) (P Q : Kept → Type 0) (disk : D) → ((k : Kept) → P k → Q k) → Keeps L P disk → Keeps L Q disk
-keeps_map L P Q disk f k = record { now = f (L.told disk) k.now; crash = λ c left. f c (k.crash c left) }
+-- a log that may be found may also be left behind a stop
+pub left_too : (last : Last) (rs : List Record) → MayFind last rs → MayBeLeft last rs
+left_too (Found log) rs h = h
+left_too (Unsynced log before) rs h = inl h
+left_too (Formatted limit) rs h = h
+left_too (Unformatted before limit) rs (inl h) = inl (left_too before rs h)
+left_too (Unformatted before limit) rs (inr h) = inr h
+left_too (LeftBy l) rs h = h
+left_too (Stopped before) rs h = h
+
+pub holds_map : (P Q : List Record → Type 0) (k : Kept) → ((rs : List Record) → P rs → Q rs) → HoldsOne P k → HoldsOne Q k
+holds_map P Q k f (log, p, stands) = (log, f log p, stands)
+
+pub keeps_map : {D : Type 0} (L : Ghosts D) (a b : Last) (disk : D) → ((rs : List Record) → MayFind a rs → MayFind b rs) → ((rs : List Record) → MayBeLeft a rs → MayBeLeft b rs) → Keeps L a disk → Keeps L b disk
+keeps_map L a b disk f g k = record { now = holds_map (MayFind a) (MayFind b) (L.told disk) f k.now; crash = λ c left. holds_map (MayBeLeft a) (MayBeLeft b) c g (k.crash c left) }
 
 -- a disk that gives the same, and of which a crash leaves nothing else
-pub keeps_same : {D : Type 0} (L : Ghosts D) (P : Kept → Type 0) (old new : D) → L.told new ≡ L.told old → NoMore L.may_leave old new → Keeps L P old → Keeps L P new
-keeps_same L P old new same more k = record { now = subst P (sym same) k.now; crash = λ c left. k.crash c (more c left) }
+pub keeps_same : {D : Type 0} (L : Ghosts D) (last : Last) (old new : D) → L.told new ≡ L.told old → NoMore L.may_leave old new → Keeps L last old → Keeps L last new
+keeps_same L last old new same more k = record { now = subst (HoldsOne (MayFind last)) (sym same) k.now; crash = λ c left. k.crash c (more c left) }
 
-pub keeps_only : {D : Type 0} (L : Ghosts D) (P : Kept → Type 0) (disk : D) → P (L.told disk) → Only (L.told disk) (L.may_leave disk) → Keeps L P disk
-keeps_only L P disk p only = record { now = p; crash = λ c left. subst P (sym (only c left)) p }
+-- a disk on which nothing waits for a sync
+pub keeps_only : {D : Type 0} (L : Ghosts D) (last : Last) (disk : D) → HoldsOne (MayFind last) (L.told disk) → Only (L.told disk) (L.may_leave disk) → Keeps L last disk
+keeps_only L last disk h only = record { now = h; crash = λ c left. subst (HoldsOne (MayBeLeft last)) (sym (only c left)) (holds_map (MayFind last) (MayBeLeft last) (L.told disk) (left_too last) h) }
 
 -- what a crash may leave now is among what one might have left since before
 pub crashed : {D : Type 0} (L : Ghosts D) (old new : D) (P : Kept → Type 0) → LeavesOnly L.moment L.left_since old new P
@@ -55,7 +69,7 @@ pub stands_on : (log : List Record) (k : Kept) → IsSound log → (s : StandsFo
 stands_on log k sound s one = record { sound = sound; bs = s.bs; stands = s.stands; records = hold_whole log s.bs s.records one }
 
 -- a member of what a stop may leave of a life
-pub left_stands : (l : Life) (own : List Record) (k : Kept) → IsLeft l.opening l.history own → (s : StandsForRecords 0 (l.opening ++ own) k) → first_lsn s.bs ≡ 1 → HoldsOne (LeftBy l) k
+pub left_stands : (l : Life) (own : List Record) (k : Kept) → IsLeft l.opening l.history own → (s : StandsForRecords 0 (l.opening ++ own) k) → first_lsn s.bs ≡ 1 → HoldsOne (IsLeftBy l) k
 left_stands l own k left s one = (l.opening ++ own, (own, left, refl), stands_on (l.opening ++ own) k left.sound s one)
 
 -- ---- lives
@@ -80,8 +94,8 @@ module _ {D : Type 0} (L : Ghosts D) where
     first_here : first_lsn c.stands.bs ≡ 1
     first_here = sym (first_is (L.told log.device).start c.stands.bs) ∙ ap lsn_from (sym c.stands.durable.places_are) ∙ c.first
 
-    pub calm_keeps : Keeps L (HoldsOne (LeftBy l)) log.device
-    calm_keeps = keeps_only L (HoldsOne (LeftBy l)) log.device (left_stands l c.durable (L.told log.device) calm_left (record { bs = c.stands.bs; stands = c.stands.durable.stands; records = c.stands.records }) first_here) c.stands.durable.only
+    pub calm_keeps : Keeps L (LeftBy l) log.device
+    calm_keeps = keeps_only L (LeftBy l) log.device (left_stands l c.durable (L.told log.device) calm_left (record { bs = c.stands.bs; stands = c.stands.durable.stands; records = c.stands.records }) first_here) c.stands.durable.only
 
   pub over : (log : LogState D) (standing : Standing) (l : Life) (e : Option ℕ) → LivesOn L log standing l e → L.tells → IsOver L log l
   over log standing l None h t = record { right = calm_is_right log standing l h.lsn (h.calm t); keeps = calm_keeps log standing l h.lsn (h.calm t) }
@@ -90,7 +104,7 @@ module _ {D : Type 0} (L : Ghosts D) where
   pub safe_out : (disk : D) (s : Stage) → Out L disk s → Safe L disk s
   safe_out disk s h = record {
     right = λ t. subst (λ (x : Option Life). All IsRightLife (lives_of x s.past)) (sym h.life) (h.past t);
-    leaves = λ t. subst (λ (x : Option Life). Keeps L (HoldsOne (last_after x s.last)) disk) (sym h.life) (h.keeps t);
+    leaves = λ t. subst (λ (x : Option Life). Keeps L (last_after x s.last) disk) (sym h.life) (h.keeps t);
     goes = h.goes;
     fuse = h.fused.fuse;
   }
@@ -102,7 +116,7 @@ module _ {D : Type 0} (L : Ghosts D) where
   pub safe_in : (log : LogState D) (standing : Standing) (s : Stage) → In L log standing s → Safe L log.device s
   safe_in log standing s h = record {
     right = λ t. subst (λ (x : Option Life). All IsRightLife (lives_of x s.past)) (sym h.life) (right_more s.past h.here (h.past t) (over log standing h.here log.ended h.lives t).right);
-    leaves = λ t. subst (λ (x : Option Life). Keeps L (HoldsOne (last_after x s.last)) log.device) (sym h.life) (over log standing h.here log.ended h.lives t).keeps;
+    leaves = λ t. subst (λ (x : Option Life). Keeps L (last_after x s.last) log.device) (sym h.life) (over log standing h.here log.ended h.lives t).keeps;
     goes = h.goes;
     fuse = h.fused.fuse;
   }

@@ -10,7 +10,7 @@ use Rattle.log_blocks.specs.LogState.{LogState, IsDurable, durable_lsn}
 use Rattle.log_blocks.specs.Opening.{IsBadAt, IsLogFault, TellsFault, places}
 use Rattle.log_manager.specs.Managed.{HasMore, RecordsLeft, first_kept}
 use Rattle.log_manager.specs.Records.{AreIn, AreRecordsOf, IsLogOf, StandsForRecords, StandsForMoreRecords}
-use Rattle.log_replay.specs.Answers.{Opens, IsNotReplayed}
+use Rattle.log_replay.specs.Answers.{IsBadIn, Opens, IsNotReplayed}
 use Rattle.log_replay.specs.Answers.{IsLogFault as IsReplayFault}
 use Rattle.log_manager.specs.Devices.{HoldEnd}
 use Rattle.log_replay.specs.declared.found.Found.{Found}
@@ -29,12 +29,12 @@ use Rattle.runner.specs.LogDisk.{StandsOn, Keeps, HoldsOne, IsFormatted, lsn_fro
 use Rattle.runner.specs.Causes.{Shows}
 use Rattle.runner.specs.Machine.{IsCalm}
 use Rattle.runner.specs.Openings.{IsMade, IsFirst, IsNotMade, IsNotBegun, IsBegun, IsFault, MadeStatus, ReadStatus, ReplayStatus}
-use Rattle.runner.specs.Turns.{Last, LeftBy, Formatted, Unformatted, MayFind}
+use Rattle.runner.specs.Turns.{Last, Life, LeftBy, IsLeftBy, Formatted, Unformatted, MayFind, MayBeLeft}
 use Rattle.runner.specs.Standing.{Standing}
 use Rattle.runner.specs.declared.status.Status.{Status}
 use Rattle.runner.specs.declared.status.Status.TheVariants as statuses
 use Rattle.runner.proofs.Lists.{first_kept_is, next_is, next_of}
-use Rattle.runner.proofs.Lives.{calm_keeps, keeps_map, keeps_same, keeps_only, stands_on}
+use Rattle.runner.proofs.Lives.{calm_keeps, left_too, keeps_map, keeps_same, keeps_only, stands_on}
 
 -- the laws on blocks that are used: the kept bytes stand for one list of blocks at most, and where they stand for one, no
 -- block is bad
@@ -53,7 +53,7 @@ pub record Finds (last : Last) (bs : List Block) : Type 0 where
   pub sound : IsSound log
   pub records : HoldEnd log bs
 
-pub finds : (one_log : OneLog) {D : Type 0} (L : Ghosts D) (last : Last) (disk : D) (log : LogState D) (bs : List Block) → Keeps L (HoldsOne last) disk → L.told log.device ≡ L.told disk → IsDurable L.told L.may_leave log bs → Finds last bs
+pub finds : (one_log : OneLog) {D : Type 0} (L : Ghosts D) (last : Last) (disk : D) (log : LogState D) (bs : List Block) → Keeps L last disk → L.told log.device ≡ L.told disk → IsDurable L.told L.may_leave log bs → Finds last bs
 finds one_log L last disk log bs k same d =
     let s : StandsOn k.now.0 (L.told disk) = k.now.2 in
     let e : s.bs ≡ bs = one_log s.bs bs (L.told log.device) (subst (StandsFor s.bs) (sym same) s.stands) d.stands in
@@ -86,7 +86,7 @@ limit_sound limit e =
     let c = calm_start limit e in
     record { lawful = c.begins; room = has_room (first_log limit) c.begins c.log.whole }
 
-module _ (one_log : OneLog) {D : Type 0} (L : Ghosts D) (limit : ℕ) (is : is_limit limit ≡ true) (last : Last) (disk : D) (log : LogState D) (keeps : Keeps L (HoldsOne last) disk) (same : L.told log.device ≡ L.told disk) (d : IsDurable L.told L.may_leave log []) where
+module _ (one_log : OneLog) {D : Type 0} (L : Ghosts D) (limit : ℕ) (is : is_limit limit ≡ true) (last : Last) (disk : D) (log : LogState D) (keeps : Keeps L last disk) (same : L.told log.device ≡ L.told disk) (d : IsDurable L.told L.may_leave log []) where
   empty : Finds last []
   empty = finds one_log L last disk log [] keeps same d
 
@@ -107,21 +107,24 @@ module _ (one_log : OneLog) {D : Type 0} (L : Ghosts D) (limit : ℕ) (is : is_l
   on_first : (k : Kept) (rs : List Record) (s : StandsForRecords 0 rs k) → first_lsn s.bs ≡ 1 → rs ≡ first_log limit → StandsOn (first_log limit) k
   on_first k rs s one e = stands_on (first_log limit) k (limit_sound limit is) (record { bs = s.bs; stands = s.stands; records = subst (AreRecordsOf 0 s.bs) e s.records }) one
 
-  all_first : (k : Kept) → StandsForMoreRecords 0 1 [] (first_log limit) 1 k → HoldsOne (Formatted limit) k
+  all_first : (k : Kept) → StandsForMoreRecords 0 1 [] (first_log limit) 1 k → HoldsOne (λ rs. rs ≡ first_log limit) k
   all_first k m = (first_log limit, refl, on_first k (take m.whole (first_log limit)) m.stands m.numbered (whole_first m.whole m.no_fewer))
 
-  some_first : (k : Kept) → StandsForMoreRecords 0 1 [] (first_log limit) 0 k → HoldsOne (Unformatted last limit) k
-  some_first k m = by m.whole refl
+  some_first : (P : List Record → Type 0) → P [] → P (first_log limit) → (k : Kept) → StandsForMoreRecords 0 1 [] (first_log limit) 0 k → HoldsOne P k
+  some_first P none one k m = by m.whole refl
     where
-      by : (n : ℕ) → m.whole ≡ n → HoldsOne (Unformatted last limit) k
-      by zero e = ([], inl none_found, stands_on [] k nothing_sound (record { bs = m.stands.bs; stands = m.stands.stands; records = subst (AreRecordsOf 0 m.stands.bs) (ap (λ (n : ℕ). take n (first_log limit)) e) m.stands.records }) m.numbered)
-      by (suc n) e = (first_log limit, inr (none_found, refl), on_first k (take m.whole (first_log limit)) m.stands m.numbered (whole_first m.whole (omega (arith, e))))
+      by : (n : ℕ) → m.whole ≡ n → HoldsOne P k
+      by zero e = ([], none, stands_on [] k nothing_sound (record { bs = m.stands.bs; stands = m.stands.stands; records = subst (AreRecordsOf 0 m.stands.bs) (ap (λ (n : ℕ). take n (first_log limit)) e) m.stands.records }) m.numbered)
+      by (suc n) e = (first_log limit, one, on_first k (take m.whole (first_log limit)) m.stands m.numbered (whole_first m.whole (omega (arith, e))))
 
   pub is_made : (left : D) → IsFirst L.told L.may_leave limit 1 left → IsMade L limit left last
   is_made left f = record { none = none_found; keeps = record { now = all_first (L.told left) f.now; crash = λ c may. all_first c (f.crash c may) } }
 
-  pub half_made : (left : D) → IsFirst L.told L.may_leave limit 0 left → Keeps L (HoldsOne (Unformatted last limit)) left
-  half_made left f = record { now = some_first (L.told left) f.now; crash = λ c may. some_first c (f.crash c may) }
+  pub half_made : (left : D) → IsFirst L.told L.may_leave limit 0 left → Keeps L (Unformatted last limit) left
+  half_made left f = record {
+    now = some_first (MayFind (Unformatted last limit)) (inl none_found) (inr (none_found, refl)) (L.told left) f.now;
+    crash = λ c may. some_first (MayBeLeft (Unformatted last limit)) (inl (left_too last [] none_found)) (inr (none_found, refl)) c (f.crash c may);
+  }
 
 -- ---- an open gate
 
@@ -143,12 +146,12 @@ log_formatted b bs k s = ⊎_elim
     s.bytes
 
 module _ (never_bad : NeverBad) {D : Type 0} (L : Ghosts D) (disk left : D) (same : L.tells → L.told left ≡ L.told disk) (more : NoMore L.may_leave disk left) where
-  kept : L.tells → (last : Last) → Keeps L (HoldsOne last) disk → Keeps L (HoldsOne last) left
-  kept t last k = keeps_same L (HoldsOne last) disk left (same t) more k
+  kept : L.tells → (last : Last) → Keeps L last disk → Keeps L last left
+  kept t last k = keeps_same L last disk left (same t) more k
 
   -- a format that read no log
   pub made_refused : (limit : ℕ) (fault : Fault) (status : Status) → MadeStatus fault status → (L.tells → TellsFault (L.told disk) fault) → IsNotMade L limit disk left status × Shows L left status
-  made_refused limit faults.LogFault status is bad = subst (λ (x : Status). IsNotMade L limit disk left x × Shows L left x) (sym is) ((λ t last k. keeps_map L (HoldsOne last) (HoldsOne (Unformatted last limit)) left (λ c h. (h.0, inl h.1, h.2)) (kept t last k)), tt)
+  made_refused limit faults.LogFault status is bad = subst (λ (x : Status). IsNotMade L limit disk left x × Shows L left x) (sym is) ((λ t last k. keeps_map L last (Unformatted last limit) left (λ rs h. inl h) (λ rs h. inl h) (kept t last k)), tt)
   made_refused limit (faults.LogBad block byte) status is bad = subst (λ (x : Status). IsNotMade L limit disk left x × Shows L left x) (sym is) (
     (λ t last k. absurd (never_bad k.now.2.bs block byte (L.told disk) k.now.2.stands (bad t))),
     (λ t. bad_formatted block byte (L.told left) (subst (IsBadAt block byte) (sym (same t)) (bad t))),
@@ -160,6 +163,12 @@ module _ (never_bad : NeverBad) {D : Type 0} (L : Ghosts D) (disk left : D) (sam
   read_refused line faults.LogFault status is bad = subst (IsNotBegun L line disk left) (sym is) (λ t last k. kept t last k)
   read_refused line (faults.LogBad block byte) status is bad = subst (IsNotBegun L line disk left) (sym is) (λ t last k. never_bad k.now.2.bs block byte (L.told disk) k.now.2.stands (bad t))
   read_refused line _ status is bad = subst (IsNotBegun L line disk left) (sym is) (λ t last k. kept t last k)
+
+  -- what it shows
+  pub read_shows : (fault : Fault) (status : Status) → ReadStatus fault status → (L.tells → TellsFault (L.told disk) fault) → Shows L left status
+  read_shows faults.LogFault status is bad = subst (Shows L left) (sym is) tt
+  read_shows (faults.LogBad block byte) status is bad = subst (Shows L left) (sym is) (λ t. inl (subst (IsBadAt block byte) (sym (same t)) (bad t)))
+  read_shows _ status is bad = subst (Shows L left) (sym is) tt
 
   -- want of memory
   pub made_no_memory : (limit : ℕ) → IsNotMade L limit disk left statuses.Memory
@@ -182,7 +191,7 @@ module _ (one_log : OneLog) {D : Type 0} (L : Ghosts D) (disk : D) (log : LogSta
         let p = some_places b.0 b.1 some in
         let d : IsDurable L.told L.may_leave log (p.0 ∷ p.1) = subst (IsDurable L.told L.may_leave log) p.2 b.1 in
         let f = finds one_log L last disk log (p.0 ∷ p.1) k (same t) d in
-        (record { log = f.log; found = f.may; some = some_records f.log p.0 p.1 d.stands.sequence.run f.records }, keeps_same L (HoldsOne last) disk log.device (same t) more k)),
+        (record { log = f.log; found = f.may; some = some_records f.log p.0 p.1 d.stands.sequence.run f.records }, keeps_same L last disk log.device (same t) more k)),
     (λ t.
         let b = found t in
         let p = some_places b.0 b.1 some in
@@ -200,18 +209,18 @@ module _ (one_log : OneLog) {D : Type 0} (L : Ghosts D) (disk : D) (log : LogSta
     begun : (t : L.tells) → IsLogOf L.told L.may_leave start 0 [] []
     begun t = starts t [] [] (none_durable none t) nothing_stands
 
-    pub format_made : (left : D) → (L.tells → IsLogOf L.told L.may_leave start 0 [] [] → IsFirst L.told L.may_leave limit 1 left) → L.tells → (last : Last) → Keeps L (HoldsOne last) disk → IsMade L limit left last
+    pub format_made : (left : D) → (L.tells → IsLogOf L.told L.may_leave start 0 [] [] → IsFirst L.told L.may_leave limit 1 left) → L.tells → (last : Last) → Keeps L last disk → IsMade L limit left last
     format_made left first t last k = is_made one_log L limit is last disk log k (same t) (none_durable none t) left (first t (begun t))
 
     pub format_cut : (left : D) (status : Status) → IsFault status → (status ≡ statuses.LogFault → L.tells → IsLogOf L.told L.may_leave start 0 [] [] → IsFirst L.told L.may_leave limit 0 left) → (status ≡ statuses.Memory → left ≡ log.device) → IsNotMade L limit disk left status × Shows L left status
-    format_cut left statuses.Memory kind cut no_memory = ((λ t last k. subst (Keeps L (HoldsOne last)) (sym (no_memory refl)) (keeps_same L (HoldsOne last) disk log.device (same t) more k)), tt)
+    format_cut left statuses.Memory kind cut no_memory = ((λ t last k. subst (Keeps L last) (sym (no_memory refl)) (keeps_same L last disk log.device (same t) more k)), tt)
     format_cut left statuses.LogFault kind cut no_memory = ((λ t last k. half_made one_log L limit is last disk log k (same t) (none_durable none t) left (cut refl t (begun t))), tt)
     format_cut left _ kind cut no_memory = absurd kind
 
 -- ---- an opening
 
 module _ (one_log : OneLog) {D : Type 0} (L : Ghosts D) (disk : D) (old new : LogState D) (found : L.tells → (bs : List Block) × IsDurable L.told L.may_leave old bs) (same : L.tells → L.told old.device ≡ L.told disk) (durable : L.tells → (bs : List Block) → IsDurable L.told L.may_leave old bs → IsDurable L.told L.may_leave new bs) where
-  module _ (t : L.tells) (last : Last) (k : Keeps L (HoldsOne last) disk) where
+  module _ (t : L.tells) (last : Last) (k : Keeps L last disk) where
     here : Finds last (found t).0
     here = finds one_log L last disk old (found t).0 k (same t) (found t).1
 
@@ -221,8 +230,8 @@ module _ (one_log : OneLog) {D : Type 0} (L : Ghosts D) (disk : D) (old new : Lo
     on_new : StandsOn here.log (L.told new.device)
     on_new = record { sound = here.sound; bs = (found t).0; stands = durable_new.stands; records = here.records }
 
-    keeps_new : Keeps L (HoldsOne last) new.device
-    keeps_new = keeps_only L (HoldsOne last) new.device (here.log, here.may, on_new) durable_new.only
+    keeps_new : Keeps L last new.device
+    keeps_new = keeps_only L last new.device (here.log, here.may, on_new) durable_new.only
 
   pub open_no_memory : (line : ℕ) → IsNotBegun L line disk new.device statuses.Memory
   open_no_memory line = λ t last k. keeps_new t last k
@@ -238,10 +247,17 @@ module _ (one_log : OneLog) {D : Type 0} (L : Ghosts D) (disk : D) (old new : Lo
     (λ t last k. let h = here t last k in (record { log = h.log; found = h.may; stands = on_new t last k; unbuilt = met t (found t).0 h.log (found t).1 h.records h.sound }, keeps_new t last k)),
   )
 
+  pub replay_shows : (line : ℕ) (why : NotReplayed) (status : Status) → ReplayStatus line why status → (L.tells → (bs : List Block) → IsDurable L.told L.may_leave old bs → IsBadIn bs why) → Shows L new.device status
+  replay_shows line (whys.LogBad block byte) status is bad = subst (Shows L new.device) (sym is) (λ t. inr ((found t).0, (durable t (found t).0 (found t).1).stands, bad t (found t).0 (found t).1))
+  replay_shows line whys.NotFormatted status is bad = subst (Shows L new.device) (sym is) (λ t. subst (λ (bs : List Block). StandsFor bs (L.told new.device)) (bad t (found t).0 (found t).1) (durable t (found t).0 (found t).1).stands)
+  replay_shows line whys.Memory status is bad = subst (Shows L new.device) (sym is) tt
+  replay_shows line whys.LogFault status is bad = subst (Shows L new.device) (sym is) tt
+  replay_shows line whys.NotBuilt status is bad = subst (Shows L new.device) (sym is) tt
+
   pub did_begin_life : (log : LogState D) (standing : Standing) (ok : Found) → (L.tells → (bs : List Block) (rs : List Record) → IsDurable L.told L.may_leave old bs → HoldEnd rs bs → IsSound rs → Opens rs ok)
       → (L.tells → (bs : List Block) (rs : List Record) → IsDurable L.told L.may_leave old bs → HoldEnd rs bs → IsSound rs → AreRecordsOf 0 bs rs × (new.next ≡ length rs + 1))
       → (L.tells → (bs : List Block) (rs : List Record) → IsDurable L.told L.may_leave new bs → AreRecordsOf 0 bs rs → first_lsn bs ≡ 1 → Opens rs ok → new.next ≡ length rs + 1 → IsCalm L log standing (record { opening = rs; history = [] }) (length rs))
-      → L.tells → (last : Last) → Keeps L (HoldsOne last) disk → IsBegun L log standing last
+      → L.tells → (last : Last) → Keeps L last disk → IsBegun L log standing last
   did_begin_life log standing ok opens records begun t last k =
       let h = here t last k in
       let r = records t (found t).0 h.log (found t).1 h.records h.sound in
@@ -298,8 +314,13 @@ nothing_left [] lost e = refl
 nothing_left (r ∷ own) lost e = absurd cc
 
 -- a life that has only begun leaves the log that it found
-pub begun_keeps : {D : Type 0} (L : Ghosts D) (log : LogState D) (standing : Standing) (last : Last) → IsBegun L log standing last → Keeps L (HoldsOne last) log.device
+pub begun_keeps : {D : Type 0} (L : Ghosts D) (log : LogState D) (standing : Standing) (last : Last) → IsBegun L log standing last → Keeps L last log.device
 begun_keeps L log standing last k =
-    keeps_map L (HoldsOne (LeftBy (record { opening = k.opening; history = [] }))) (HoldsOne last) log.device
-    (λ c h. (h.0, subst (MayFind last) (sym (h.1.2 ∙ ap (λ (own : List Record). k.opening ++ own) (nothing_left h.1.0 h.1.1.lost h.1.1.whole) ∙ append-nil k.opening)) k.found, h.2))
-    (calm_keeps L log standing (record { opening = k.opening; history = [] }) (length k.opening) k.calm)
+    keeps_map L (LeftBy begun) last log.device found (λ rs h. left_too last rs (found rs h))
+    (calm_keeps L log standing begun (length k.opening) k.calm)
+  where
+    begun : Life
+    begun = record { opening = k.opening; history = [] }
+
+    found : (rs : List Record) → IsLeftBy begun rs → MayFind last rs
+    found rs h = subst (MayFind last) (sym (h.2 ∙ ap (λ (own : List Record). k.opening ++ own) (nothing_left h.0 h.1.lost h.1.whole) ∙ append-nil k.opening)) k.found

@@ -1,5 +1,5 @@
 -- A run, turn by turn.
-use Rattle.std.proofs.Common.{◌≡◌, ◌≢◌, ℕ, ◌+◌, true, false, List, [], ◌∷◌, ◌++◌, Option, Some, None, Err, refl, sym, ap, subst, ◌∙◌, arith, inl, inr, append_assoc, append-nil, length, length-append}
+use Rattle.std.proofs.Common.{◌≡◌, ◌≢◌, ◌≤◌, ℕ, ◌+◌, true, false, List, [], ◌∷◌, ◌++◌, Option, Some, None, Err, refl, sym, ap, subst, ◌∙◌, arith, inl, inr, append_assoc, append-nil, length, length-append}
 use Rattle.std.specs.Prelude.{◌⊎◌}
 use Rattle.std.specs.List.{All}
 use Rattle.std.proofs.lemmas.List.Elements.{All-nil}
@@ -7,49 +7,49 @@ use Rattle.std.specs.Io.KnownBytes.{Appends, Consumes, IsAtEnd, prepend_known}
 use Rattle.std.proofs.KnownBytes.{Consumes-nil, Consumes-trans, Appends-nil, Appends-trans}
 use Rattle.media.specs.declared.disk.Disk.{Ghosts}
 use Rattle.store_model.specs.Along.{along, AllAlong}
-use Rattle.wal_record.specs.declared.record.Record.{Record}
 use Rattle.script.specs.declared.command.Command.{Command}
 use Rattle.script.specs.Line.{reads}
 use Rattle.runner.specs.declared.status.Status.{Status}
 use Rattle.runner.specs.declared.status.Status.TheVariants as statuses
-use Rattle.runner.specs.Lines.{Reader, to_come, first_reader, IsBounded, IsLine, IsNoLine}
-use Rattle.runner.specs.Built.{is_built}
+use Rattle.line_reader.specs.Lines.{Reader, to_come, first_reader, longest_script, IsBounded, IsLine, IsNoLine}
+use Rattle.line_reader.specs.Built.{is_built}
 use Rattle.runner.specs.Causes.{LineCause}
-use Rattle.runner.specs.Turns.{Turn, Stage, Cut, turn, stage, begin_stage, Fits, IsRightLife, lives, is_lawful}
+use Rattle.runner.specs.Turns.{Last, Turn, Stage, Cut, turn, stage, begin_stage, Fits, IsRightLife, lives, is_lawful}
 use Rattle.runner.specs.Text.{text, lines}
 use Rattle.runner.specs.Refusals.{RefusesAt, CutAt, IsOpen, IsFormat, IsNotBuilt, IsSplit}
 use Rattle.runner.specs.Machine.{Safe, Out, Adds}
 use Rattle.runner.specs.LogDisk.{Leaves}
 use Rattle.runner.specs.Status.{cuts}
-use Rattle.runner.specs.Clause.{IsPrefix, Partly, BadLine, Unlawful, OfCommand, NextLine, Ended, Headline, Between, TakesCommand}
+use Rattle.runner.specs.Clause.{IsNext, IsPrefix, Partly, BadLine, Unlawful, OfCommand, NextLine, Ended, Headline, Between, TakesCommand}
 use Rattle.runner.proofs.Turning.{stage_push, text_push, fits_push, script_push}
 
 prefix_self : (a : List ℕ) → IsPrefix a a
 prefix_self a = ([], sym (append-nil a))
 
-all_of : (log : List Record) (turns : List Turn) → Partly log turns (text log turns)
-all_of log turns = (turns, [], omega arith, sym (append-nil turns), prefix_self (text log turns), prefix_self (text log turns))
+all_of : (start : Last) (turns : List Turn) → Partly start turns (text start turns)
+all_of start turns = (turns, [], omega arith, sym (append-nil turns), prefix_self (text start turns), prefix_self (text start turns))
 
-of_command : (P : Command → Type 0) (bytes rest : List ℕ) (c : Command) → rest ≡ bytes ++ 10 ∷ [] → reads bytes ≡ Some c → P c → NextLine P rest
-of_command P bytes rest c whole e p = (bytes, whole, subst (OfCommand P) (sym e) p)
+of_command : (P : Command → Type 0) (taken : ℕ) (bytes rest : List ℕ) (c : Command) → IsNext taken rest bytes → reads bytes ≡ Some c → P c → NextLine P taken rest
+of_command P taken bytes rest c next e p = (bytes, next, subst (OfCommand P) (sym e) p)
 
-module _ {D : Type 0} (L : Ghosts D) (log : List Record) (disk : D) (left0 told0 : Option (List ℕ)) (old new : Reader) (lo ln told : Option (List ℕ)) (turns : List Turn) (H : Stage → Type 0)
-    (safe : (s : Stage) → H s → Safe L disk s) (b : Between L.tells log H left0 told0 old turns lo told) (most : IsBounded new) where
+module _ {D : Type 0} (L : Ghosts D) (start : Last) (disk : D) (left0 told0 : Option (List ℕ)) (old new : Reader) (lo ln told : Option (List ℕ)) (turns : List Turn) (H : Stage → Type 0)
+    (safe : (s : Stage) → H s → Safe L disk s) (b : Between L.tells start H left0 told0 old turns lo told) (most : IsBounded new) where
   abbrev Ends : D → Option (List ℕ) → Status → Type 0
-  Ends now told' status = Headline L log now left0 new.pending ln told0 told' status
+  Ends now told' status = Headline L start now left0 new.pending ln told0 told' status
 
-  here : Safe L disk (stage log turns)
-  here = safe (stage log turns) b.holds
+  here : Safe L disk (stage start turns)
+  here = safe (stage start turns) b.holds
 
   -- between two turns
-  pub stop : (now : D) (rest : List ℕ) (status : Status) → cuts status ≡ false → Consumes (to_come old lo) (to_come new ln) rest → new.taken ≡ old.taken + length rest → Ended L log now status turns b.read rest (text log turns) (to_come new ln)
-      → Leaves L now (stage log turns) → Ends now told status
+  pub stop : (now : D) (rest : List ℕ) (status : Status) → cuts status ≡ false → Consumes (to_come old lo) (to_come new ln) rest → new.taken ≡ old.taken + length rest → Ended L start now status turns b.read rest (text start turns) (to_come new ln)
+      → Leaves L now (stage start turns) → Ends now told status
   stop now rest status whole took size ended left = record {
     turns = turns;
     read = b.read;
     rest = rest;
-    written = text log turns;
+    written = text start turns;
     taken = Consumes-trans _ _ _ b.read rest b.taken took;
+    within = b.within;
     most = omega (arith, most, size, b.size);
     ran = record { script = b.script; fits = b.fits; right = here.right };
     cut = here.goes ∙ sym whole;
@@ -59,7 +59,7 @@ module _ {D : Type 0} (L : Ghosts D) (log : List Record) (disk : D) (left0 told0
   }
 
   pub no_memory : (rest : List ℕ) → Consumes (to_come old lo) (to_come new ln) rest → new.taken ≡ old.taken + length rest → Ends disk told statuses.Memory
-  no_memory rest took size = stop disk rest statuses.Memory refl took size (all_of log turns) here.leaves
+  no_memory rest took size = stop disk rest statuses.Memory refl took size (all_of start turns) here.leaves
 
   at_line : (line : ℕ) → line ≡ old.lines + 1 → line ≡ length turns + 1
   at_line line is = is ∙ ap (λ (n : ℕ). n + 1) b.count
@@ -72,16 +72,16 @@ module _ {D : Type 0} (L : Ghosts D) (log : List Record) (disk : D) (left0 told0
   pub no_line : (status : Status) (before now : ℕ) → TakesCommand old new lo ln (Err status) → LineCause before now status → Ends disk told status
   no_line statuses.Memory before now (rest, took, size) why = no_memory rest took size
   no_line statuses.SourceFault before now (rest, took, size) why = stop disk rest statuses.SourceFault refl took size refl here.leaves
-  no_line (statuses.NotBuilt n) before now (is, bytes, took, size, unbuilt) why =
-      stop disk (bytes ++ 10 ∷ []) (statuses.NotBuilt n) refl took (omega (arith, size, length-append bytes (10 ∷ []))) (refl, at_line n is, inl (bytes, refl, unbuilt)) here.leaves
+  no_line (statuses.NotBuilt n) before now (is, bytes, took, one, size, within, unbuilt) why =
+      stop disk (bytes ++ 10 ∷ []) (statuses.NotBuilt n) refl took (omega (arith, size, length-append bytes (10 ∷ []))) (refl, at_line n is, inl (bytes, record { is = refl; one = one; within = omega (arith, within, size, b.size, length-append bytes (10 ∷ [])) }, unbuilt)) here.leaves
   no_line (statuses.Script n) before now (is, rest, took, size, bad) why = stop disk rest (statuses.Script n) refl took size (refl, at_line n is, by bad) here.leaves
     where
-      by : ((bytes : List ℕ) × (rest ≡ bytes ++ 10 ∷ []) × IsLine bytes × (is_built bytes ≡ true) × (reads bytes ≡ None)) ⊎ IsNoLine old.taken rest (to_come new ln) → BadLine (stage log turns) (length b.read) rest (to_come new ln)
-      by (inl (bytes, whole, one, built, none)) = inl (bytes, whole, one, built, subst (Unlawful (stage log turns)) (sym none) tt)
+      by : ((bytes : List ℕ) × (rest ≡ bytes ++ 10 ∷ []) × IsLine bytes × (is_built bytes ≡ true) × (reads bytes ≡ None) × (new.taken ≤ longest_script)) ⊎ IsNoLine old.taken rest (to_come new ln) → BadLine (stage start turns) (length b.read) rest (to_come new ln)
+      by (inl (bytes, whole, one, built, none, within)) = inl (bytes, record { is = whole; one = one; within = omega (arith, within, size, b.size) }, built, subst (Unlawful (stage start turns)) (sym none) tt)
       by (inr bad) = inr (subst (λ (n : ℕ). IsNoLine n rest (to_come new ln)) b.size bad)
   no_line _ before now took why = absurd why
 
-  module _ (bytes : List ℕ) (c : Command) (took : Consumes (to_come old lo) (to_come new ln) (bytes ++ 10 ∷ [])) (is : IsLine bytes) (e : reads bytes ≡ Some c) (size : new.taken ≡ old.taken + length bytes + 1) where
+  module _ (bytes : List ℕ) (c : Command) (took : Consumes (to_come old lo) (to_come new ln) (bytes ++ 10 ∷ [])) (is : IsLine bytes) (e : reads bytes ≡ Some c) (size : new.taken ≡ old.taken + length bytes + 1) (within : new.taken ≤ longest_script) where
     taken_more : Consumes left0 (to_come new ln) (b.read ++ (bytes ++ 10 ∷ []))
     taken_more = Consumes-trans _ _ _ b.read (bytes ++ 10 ∷ []) b.taken took
 
@@ -91,30 +91,37 @@ module _ {D : Type 0} (L : Ghosts D) (log : List Record) (disk : D) (left0 told0
     read_more : new.taken ≡ length (b.read ++ (bytes ++ 10 ∷ []))
     read_more = omega (arith, size, b.size, length-append b.read (bytes ++ 10 ∷ []), length-append bytes (10 ∷ []))
 
+    within_more : length (b.read ++ (bytes ++ 10 ∷ [])) ≤ longest_script
+    within_more = omega (arith, within, read_more)
+
+    next : IsNext (length b.read) (bytes ++ 10 ∷ []) bytes
+    next = record { is = refl; one = is; within = omega (arith, within, size, b.size, length-append bytes (10 ∷ [])) }
+
     -- the log disk's own fault cuts a command off
-    cut_off : (now : D) → CutAt L now (stage log turns) c → Ends now told statuses.LogFault
+    cut_off : (now : D) → CutAt L now (stage start turns) c → Ends now told statuses.LogFault
     cut_off now cut =
         let t : Turn = turn c cut.entries Cut in
         record {
           turns = turns ++ t ∷ [];
           read = b.read ++ (bytes ++ 10 ∷ []);
           rest = [];
-          written = text log turns;
+          written = text start turns;
           taken = taken_whole;
+          within = within_more;
           most = omega (arith, most, read_more);
           ran = record {
             script = script_push b.read bytes turns t b.script is e;
-            fits = fits_push L.tells log turns t b.fits cut.fits;
-            right = λ u. subst (λ (s : Stage). All IsRightLife (lives s)) (sym (stage_push log turns t)) (cut.right u);
+            fits = fits_push L.tells start turns t b.fits cut.fits;
+            right = λ u. subst (λ (s : Stage). All IsRightLife (lives s)) (sym (stage_push start turns t)) (cut.right u);
           };
-          cut = ap (λ (s : Stage). s.cut) (stage_push log turns t);
+          cut = ap (λ (s : Stage). s.cut) (stage_push start turns t);
           wrote = b.wrote;
-          ended = sym (text_push log turns t ∙ append-nil (text log turns));
-          leaves = subst (Leaves L now) (sym (stage_push log turns t)) cut.leaves;
+          ended = sym (text_push start turns t ∙ append-nil (text start turns));
+          leaves = subst (Leaves L now) (sym (stage_push start turns t)) cut.leaves;
         }
 
     -- a command ends the run
-    pub refused : (now : D) (line : ℕ) (status : Status) → line ≡ old.lines + 1 → is_built bytes ≡ true → RefusesAt L now (stage log turns) c line status → Ends now told status
+    pub refused : (now : D) (line : ℕ) (status : Status) → line ≡ old.lines + 1 → is_built bytes ≡ true → RefusesAt L now (stage start turns) c line status → Ends now told status
     refused now line status n built why = by status why
       where
         whole : List ℕ
@@ -123,25 +130,25 @@ module _ {D : Type 0} (L : Ghosts D) (log : List Record) (disk : D) (left0 told0
         count : new.taken ≡ old.taken + length whole
         count = omega (arith, size, length-append bytes (10 ∷ []))
 
-        by : (status : Status) → RefusesAt L now (stage log turns) c line status → Ends now told status
-        by statuses.Memory why = stop now whole statuses.Memory refl took count (all_of log turns) why
-        by (statuses.Script m) why = stop now whole (statuses.Script m) refl took count (refl, why.0 ∙ at_line line n, inl (bytes, refl, is, built, subst (Unlawful (stage log turns)) (sym e) why.1)) why.2
+        by : (status : Status) → RefusesAt L now (stage start turns) c line status → Ends now told status
+        by statuses.Memory why = stop now whole statuses.Memory refl took count (all_of start turns) why
+        by (statuses.Script m) why = stop now whole (statuses.Script m) refl took count (refl, why.0 ∙ at_line line n, inl (bytes, next, built, subst (Unlawful (stage start turns)) (sym e) why.1)) why.2
         by (statuses.NotBuilt m) why =
-            stop now whole (statuses.NotBuilt m) refl took count (refl, why.0 ∙ at_line line n, inr (of_command (λ d. (is_lawful (stage log turns) d ≡ true) × IsNotBuilt L now (stage log turns) d) bytes whole c refl e (why.1, why.2))) why.3
+            stop now whole (statuses.NotBuilt m) refl took count (refl, why.0 ∙ at_line line n, inr (of_command (λ d. (is_lawful (stage start turns) d ≡ true) × IsNotBuilt L now (stage start turns) d) (length b.read) bytes whole c next e (why.1, why.2))) why.3
         by (statuses.NoSplit m) why =
-            stop now whole (statuses.NoSplit m) refl took count (refl, why.0 ∙ at_line line n, of_command (λ d. (is_lawful (stage log turns) d ≡ true) × IsSplit L.tells (stage log turns) d) bytes whole c refl e (why.1, why.2)) why.3
+            stop now whole (statuses.NoSplit m) refl took count (refl, why.0 ∙ at_line line n, of_command (λ d. (is_lawful (stage start turns) d ≡ true) × IsSplit L.tells (stage start turns) d) (length b.read) bytes whole c next e (why.1, why.2)) why.3
         by statuses.LogFault why = cut_off now why
-        by (statuses.LogBad block byte) why = stop now whole (statuses.LogBad block byte) refl took count (refl, of_command IsOpen bytes whole c refl e why.0, why.1) (λ t. absurd (why.1 t))
-        by statuses.NotFormatted why = stop now whole statuses.NotFormatted refl took count (refl, of_command IsOpen bytes whole c refl e why.0, why.1) why.2
-        by statuses.AlreadyFormatted why = stop now whole statuses.AlreadyFormatted refl took count (refl, of_command IsFormat bytes whole c refl e why.0, why.1) why.2
+        by (statuses.LogBad block byte) why = stop now whole (statuses.LogBad block byte) refl took count (refl, of_command IsOpen (length b.read) bytes whole c next e why.0, why.1) (λ t. absurd (why.1 t))
+        by statuses.NotFormatted why = stop now whole statuses.NotFormatted refl took count (refl, of_command IsOpen (length b.read) bytes whole c next e why.0, why.1) why.2
+        by statuses.AlreadyFormatted why = stop now whole statuses.AlreadyFormatted refl took count (refl, of_command IsFormat (length b.read) bytes whole c next e why.0, why.1) why.2
         by _ why = absurd why
 
     said_here : (t : Turn) → t.command ≡ c → reads bytes ≡ Some t.command
     said_here t same = e ∙ ap (λ (x : Command). Some x) (sym same)
 
     -- one turn more
-    pub went : (H' : Stage → Type 0) (out : List ℕ) → new.lines ≡ old.lines + 1 → Adds L.tells H' (stage log turns) c out → (told' : Option (List ℕ)) → Appends told told' out
-        → (t : Turn) × Between L.tells log H' left0 told0 new (turns ++ t ∷ []) ln told'
+    pub went : (H' : Stage → Type 0) (out : List ℕ) → new.lines ≡ old.lines + 1 → Adds L.tells H' (stage start turns) c out → (told' : Option (List ℕ)) → Appends told told' out
+        → (t : Turn) × Between L.tells start H' left0 told0 new (turns ++ t ∷ []) ln told'
     went H' out lines_are added told' wrote =
         let t : Turn = added.turn in (
           t,
@@ -151,34 +158,36 @@ module _ {D : Type 0} (L : Ghosts D) (log : List Record) (disk : D) (left0 told0
             taken = taken_more;
             count = lines_are ∙ ap (λ (n : ℕ). n + 1) b.count ∙ sym (length-append turns (t ∷ []));
             size = read_more;
+            within = within_more;
             most = most;
-            fits = fits_push L.tells log turns t b.fits added.fits;
-            holds = subst H' (sym (stage_push log turns t)) added.holds;
-            wrote = subst (Appends told0 told') (ap (λ (x : List ℕ). text log turns ++ x) added.lines ∙ sym (text_push log turns t)) (Appends-trans _ _ _ (text log turns) out b.wrote wrote);
+            fits = fits_push L.tells start turns t b.fits added.fits;
+            holds = subst H' (sym (stage_push start turns t)) added.holds;
+            wrote = subst (Appends told0 told') (ap (λ (x : List ℕ). text start turns ++ x) added.lines ∙ sym (text_push start turns t)) (Appends-trans _ _ _ (text start turns) out b.wrote wrote);
           },
         )
 
     -- the sink fails within a turn's lines
     pub fell : (now : D) (H' : Stage → Type 0) (safe' : (s : Stage) → H' s → Safe L now s) (out done rest : List ℕ)
-        → Adds L.tells H' (stage log turns) c out → out ≡ done ++ rest → (told' : Option (List ℕ)) → Appends told told' done → Ends now told' statuses.SinkFault
+        → Adds L.tells H' (stage start turns) c out → out ≡ done ++ rest → (told' : Option (List ℕ)) → Appends told told' done → Ends now told' statuses.SinkFault
     fell now H' safe' out done rest added cut told' wrote =
         let t : Turn = added.turn in
-        let whole : text log (turns ++ t ∷ []) ≡ (text log turns ++ done) ++ rest = text_push log turns t ∙ ap (λ (x : List ℕ). text log turns ++ x) (sym added.lines ∙ cut) ∙ sym (append_assoc (text log turns) done rest) in
-        let then = safe' (stage log (turns ++ t ∷ [])) (subst H' (sym (stage_push log turns t)) added.holds) in
+        let whole : text start (turns ++ t ∷ []) ≡ (text start turns ++ done) ++ rest = text_push start turns t ∙ ap (λ (x : List ℕ). text start turns ++ x) (sym added.lines ∙ cut) ∙ sym (append_assoc (text start turns) done rest) in
+        let then = safe' (stage start (turns ++ t ∷ [])) (subst H' (sym (stage_push start turns t)) added.holds) in
         record {
           turns = turns ++ t ∷ [];
           read = b.read ++ (bytes ++ 10 ∷ []);
           rest = [];
-          written = text log turns ++ done;
+          written = text start turns ++ done;
           taken = taken_whole;
+          within = within_more;
           most = omega (arith, most, read_more);
           ran = record {
             script = script_push b.read bytes turns t b.script is (said_here t added.is);
-            fits = fits_push L.tells log turns t b.fits added.fits;
+            fits = fits_push L.tells start turns t b.fits added.fits;
             right = then.right;
           };
           cut = then.goes;
-          wrote = Appends-trans _ _ _ (text log turns) done b.wrote wrote;
+          wrote = Appends-trans _ _ _ (text start turns) done b.wrote wrote;
           ended = (rest, whole);
           leaves = then.leaves;
         }
@@ -191,8 +200,8 @@ pub nothing_pending : (left : Option (List ℕ)) → to_come first_reader left �
 nothing_pending None = refl
 nothing_pending (Some bytes) = refl
 
-module _ {D : Type 0} (L : Ghosts D) (log : List Record) where
-  pub at_start : (disk : D) (left told : Option (List ℕ)) (reader : Reader) → reader.lines ≡ 0 → reader.taken ≡ 0 → IsBounded reader → Out L disk (begin_stage log) → Between L.tells log (Out L disk) (to_come reader left) told reader [] left told
+module _ {D : Type 0} (L : Ghosts D) (start : Last) where
+  pub at_start : (disk : D) (left told : Option (List ℕ)) (reader : Reader) → reader.lines ≡ 0 → reader.taken ≡ 0 → IsBounded reader → Out L disk (begin_stage start) → Between L.tells start (Out L disk) (to_come reader left) told reader [] left told
   unfolding Fits AllAlong stage text along
   at_start disk left told reader lines taken most out = record {
     read = [];
@@ -200,6 +209,7 @@ module _ {D : Type 0} (L : Ghosts D) (log : List Record) where
     taken = Consumes-nil (to_come reader left);
     count = lines;
     size = taken;
+    within = omega arith;
     most = most;
     fits = tt;
     holds = out;
@@ -207,7 +217,7 @@ module _ {D : Type 0} (L : Ghosts D) (log : List Record) where
   }
 
   -- nothing is run
-  pub not_begun : (disk : D) (left told : Option (List ℕ)) (status : Status) → cuts status ≡ false → Ended L log disk status [] [] [] [] (prepend_known [] left) → Leaves L disk (begin_stage log) → (pending : List ℕ) × Headline L log disk left pending left told told status
+  pub not_begun : (disk : D) (left told : Option (List ℕ)) (status : Status) → cuts status ≡ false → Ended L start disk status [] [] [] [] (prepend_known [] left) → Leaves L disk (begin_stage start) → (pending : List ℕ) × Headline L start disk left pending left told told status
   unfolding Fits AllAlong stage text along
   not_begun disk left told status whole ended leaves = (
     [],
@@ -217,6 +227,7 @@ module _ {D : Type 0} (L : Ghosts D) (log : List Record) where
       rest = [];
       written = [];
       taken = subst (λ (x : Option (List ℕ)). Consumes left x []) (sym (nothing_pending left)) (Consumes-nil left);
+      within = omega arith;
       most = omega arith;
       ran = record { script = refl; fits = tt; right = λ _. All-nil IsRightLife };
       cut = sym whole;
@@ -226,20 +237,23 @@ module _ {D : Type 0} (L : Ghosts D) (log : List Record) where
     },
   )
 
-  nothing_written : Partly log [] []
+  nothing_written : Partly start [] []
   unfolding text along
-  nothing_written = all_of log []
+  nothing_written = all_of start []
 
-  pub not_called : (disk : D) (left told : Option (List ℕ)) → Leaves L disk (begin_stage log) → (pending : List ℕ) × Headline L log disk left pending left told told statuses.Usage
-  not_called disk left told leaves = not_begun disk left told statuses.Usage refl refl leaves
+  pub not_called : (disk : D) (left told : Option (List ℕ)) → Leaves L disk (begin_stage start) → (pending : List ℕ) × Headline L start disk left pending left told told statuses.Usage
+  not_called disk left told leaves = not_begun disk left told statuses.Usage refl (refl, refl, refl, refl) leaves
 
-  pub no_buffer : (disk : D) (left told : Option (List ℕ)) (status : Status) → status ≡ statuses.Memory → Leaves L disk (begin_stage log) → (pending : List ℕ) × Headline L log disk left pending left told told status
-  no_buffer disk left told status is leaves = subst (λ (x : Status). (pending : List ℕ) × Headline L log disk left pending left told told x) (sym is) (not_begun disk left told statuses.Memory refl nothing_written leaves)
+  pub not_generated : (disk : D) (left told : Option (List ℕ)) → Leaves L disk (begin_stage start) → (pending : List ℕ) × Headline L start disk left pending left told told statuses.NoGenerator
+  not_generated disk left told leaves = not_begun disk left told statuses.NoGenerator refl (refl, refl, refl, refl) leaves
 
-  pub ran_whole : (disk : D) (left left' told told' : Option (List ℕ)) (old new : Reader) (status : Status) → old ≡ first_reader → Headline L log disk (to_come old left) new.pending left' told told' status
-      → (pending : List ℕ) × Headline L log disk left pending left' told told' status
+  pub no_buffer : (disk : D) (left told : Option (List ℕ)) → Leaves L disk (begin_stage start) → (pending : List ℕ) × Headline L start disk left pending left told told statuses.Memory
+  no_buffer disk left told leaves = not_begun disk left told statuses.Memory refl nothing_written leaves
+
+  pub ran_whole : (disk : D) (left left' told told' : Option (List ℕ)) (old new : Reader) (status : Status) → old ≡ first_reader → Headline L start disk (to_come old left) new.pending left' told told' status
+      → (pending : List ℕ) × Headline L start disk left pending left' told told' status
   ran_whole disk left left' told told' old new status is h = (
     new.pending,
-    subst (λ (x : Option (List ℕ)). Headline L log disk x new.pending left' told told' status) (nothing_pending left)
-        (subst (λ (r : Reader). Headline L log disk (to_come r left) new.pending left' told told' status) is h),
+    subst (λ (x : Option (List ℕ)). Headline L start disk x new.pending left' told told' status) (nothing_pending left)
+        (subst (λ (r : Reader). Headline L start disk (to_come r left) new.pending left' told told' status) is h),
   )

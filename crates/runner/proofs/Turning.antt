@@ -3,25 +3,24 @@ use Rattle.std.proofs.Common.{◌≡◌, ℕ, List, [], ◌∷◌, ◌++◌, Som
 use Rattle.std.specs.Prelude.{map}
 use Rattle.std.proofs.lemmas.List.Sums.{fold-append}
 use Rattle.wal_record.proofs.Along.{along_push, AllAlong_back}
-use Rattle.wal_record.specs.declared.record.Record.{Record}
 use Rattle.script.specs.declared.command.Command.{Command}
 use Rattle.script.specs.Line.{reads}
-use Rattle.runner.specs.Lines.{IsLine}
-use Rattle.runner.specs.Turns.{Turn, stage, stage_step, begin_stage, Fits, FitsAt, fits_after}
+use Rattle.line_reader.specs.Lines.{IsLine}
+use Rattle.runner.specs.Turns.{Last, Turn, stage, stage_step, begin_stage, Fits, FitsAt, fits_after}
 use Rattle.runner.specs.Text.{text, lines}
 use Rattle.runner.specs.Clause.{Script, command_of}
 
-pub stage_push : (log : List Record) (turns : List Turn) (t : Turn) → stage log (turns ++ t ∷ []) ≡ stage_step (stage log turns) t
+pub stage_push : (start : Last) (turns : List Turn) (t : Turn) → stage start (turns ++ t ∷ []) ≡ stage_step (stage start turns) t
 unfolding stage
-stage_push log turns t = fold-append stage_step (begin_stage log) turns (t ∷ [])
+stage_push start turns t = fold-append stage_step (begin_stage start) turns (t ∷ [])
 
-pub text_push : (log : List Record) (turns : List Turn) (t : Turn) → text log (turns ++ t ∷ []) ≡ text log turns ++ lines (stage log turns) t
+pub text_push : (start : Last) (turns : List Turn) (t : Turn) → text start (turns ++ t ∷ []) ≡ text start turns ++ lines (stage start turns) t
 unfolding text
-text_push log turns t = along_push _ _ turns t
+text_push start turns t = along_push _ _ turns t
 
-pub fits_push : (tells : Type 0) (log : List Record) (turns : List Turn) (t : Turn) → Fits tells log turns → FitsAt tells (stage log turns) t → Fits tells log (turns ++ t ∷ [])
+pub fits_push : (tells : Type 0) (start : Last) (turns : List Turn) (t : Turn) → Fits tells start turns → FitsAt tells (stage start turns) t → Fits tells start (turns ++ t ∷ [])
 unfolding Fits
-fits_push tells log turns t h p = AllAlong_back (fits_after tells log) turns t h p
+fits_push tells start turns t h p = AllAlong_back (fits_after tells start) turns t h p
 
 script_more : (bytes line : List ℕ) (cs : List Command) (c : Command) → Script bytes cs → IsLine line → reads line ≡ Some c → Script (bytes ++ line ++ 10 ∷ []) (cs ++ c ∷ [])
 script_more bytes line [] c h is e = (line, [], ap (λ (b : List ℕ). b ++ line ++ 10 ∷ []) h, is, e, refl)

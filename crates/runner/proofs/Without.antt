@@ -1,6 +1,6 @@
 -- What each command does where no life is open, over any stage.
-use Rattle.std.proofs.Common.{◌≡◌, ◌≢◌, ℕ, ◌+◌, ◌<◌, ◌≤◌, Bool, true, false, List, [], ◌∷◌, ◌++◌, Option, None, refl, sym, ap, subst, ◌∙◌, arith, ◌⊎◌, ⊎_elim, append-nil, length}
-use Rattle.std.specs.Prelude.{codes, ◌^◌}
+use Rattle.std.proofs.Common.{◌≡◌, ◌≢◌, ℕ, ◌+◌, ◌<◌, ◌≤◌, Bool, true, false, List, [], ◌∷◌, ◌++◌, Option, None, refl, sym, ap, subst, ◌∙◌, arith, ◌⊎◌, ⊎_elim, inl, append-nil, length}
+use Rattle.std.specs.Prelude.{codes, IsTrue, ◌^◌}
 use Rattle.std.specs.Fmt.{decimal}
 use Rattle.media.specs.Cause.{Rose}
 use Rattle.media.specs.Counted.{Blames}
@@ -10,6 +10,11 @@ use Rattle.log_blocks.specs.LogState.{LogState}
 use Rattle.wal_record.specs.Rules.{is_limit}
 use Rattle.wal_record.specs.Checkpoints.{commits}
 use Rattle.wal_record.specs.History.{life_log}
+use Rattle.wal_record.specs.Chains.{pages}
+use Rattle.wal_record.specs.OpenWrites.{has_items}
+use Rattle.wal_record.specs.declared.page.LeafRow.{LeafRow}
+use Rattle.wal_record.specs.declared.record.Record.{Record}
+use Rattle.life_laws.specs.Calm.{Opened, Calm}
 use Rattle.script.specs.declared.command.Command.{Command}
 use Rattle.script.specs.declared.command.Command.TheVariants as commands
 use Rattle.script.specs.declared.command.Device.{Device}
@@ -26,9 +31,9 @@ use Rattle.runner.specs.LogDisk.{View, Whole, Form, IsWhole, seen, Keeps, HoldsO
 use Rattle.runner.specs.Machine.{actives, IsFused, Out, In, Safe, Adds, IsAt, Steps, Refuses}
 use Rattle.runner.specs.Openings.{Makes, IsMade, IsNotMade, IsBegun, IsNotBegun}
 use Rattle.runner.specs.Refusals.{RefusesAt}
-use Rattle.runner.specs.Turns.{Life, Stage, Last, Unformatted, Done, LogFault, IsEnd, turn, room_of, no_life, is_lawful, last_after}
+use Rattle.runner.specs.Turns.{Life, Stage, Last, Unformatted, Stopped, Done, LogFault, IsEnd, CallsLog, MayEnter, IsCutOff, IsOpenable, turn, room_of, no_life, is_lawful, last_after}
 use Rattle.runner.specs.Text.{lines}
-use Rattle.runner.proofs.Lists.{some_commits, commits_of_some}
+use Rattle.runner.proofs.Lists.{some_commits, commits_of_some, open_of_some, no_losers}
 use Rattle.runner.proofs.Commands.{runs_on}
 use Rattle.runner.proofs.Openings.{begun_keeps}
 use Rattle.runner.proofs.Lives.{keeps_same, keeps_only, safe_out}
@@ -56,7 +61,7 @@ module _ {D F : Type 0} (L : Ghosts D) (inside : F → Stage → Type 0) (disk :
   out_leaves = (safe_out L disk s h).leaves
 
   pub out_nothing : (out : List ℕ) → out ≡ [] → Adds L.tells (Out L disk) s commands.Nothing out
-  out_nothing out is = record { turn = turn commands.Nothing [] Done; is = refl; fits = record { goes = h.goes; lawful = refl; row = refl }; holds = h; lines = is }
+  out_nothing out is = record { turn = turn commands.Nothing [] Done; is = refl; fits = record { goes = h.goes; lawful = refl; row = (tt, refl) }; holds = h; lines = is }
 
   pub out_unlawful : (c : Command) (line : ℕ) → is_lawful s c ≡ false → RefusesAt L disk s c line (statuses.Script line)
   out_unlawful c line e = (refl, e, out_leaves)
@@ -64,11 +69,15 @@ module _ {D F : Type 0} (L : Ghosts D) (inside : F → Stage → Type 0) (disk :
   pub bad_room : (limit : Option ℕ) (line : ℕ) → is_limit (room_of limit) ≡ false → RefusesAt L disk s (commands.Format limit) line (statuses.Script line)
   bad_room limit line e = (refl, rw (lawful_out) e, out_leaves)
 
-  leaves_as : (left : D) (last : Last) → (L.tells → Keeps L (HoldsOne last) left) → L.tells → Keeps L (HoldsOne (last_after s.life last)) left
-  leaves_as left last k t = subst (λ (x : Option Life). Keeps L (HoldsOne (last_after x last)) left) (sym h.life) (k t)
+  leaves_as : (left : D) (last : Last) → (L.tells → Keeps L last left) → L.tells → Keeps L (last_after s.life last) left
+  leaves_as left last k t = subst (λ (x : Option Life). Keeps L (last_after x last) left) (sym h.life) (k t)
 
   no_end : (n : Option ℕ) → IsEnd s.life n
   no_end n = subst (λ (x : Option Life). IsEnd x n) (sym h.life) tt
+
+  -- a command without entries is cut off
+  none_entered : (c : Command) → CallsLog c → MayEnter L.tells s c [] → IsCutOff L.tells s c []
+  none_entered c calls enters = record { calls = calls; goes = h.ended; rest = []; enters = enters; part = inl (refl, refl) }
 
   -- ---- a format
 
@@ -80,7 +89,7 @@ module _ {D F : Type 0} (L : Ghosts D) (inside : F → Stage → Type 0) (disk :
     did_format left out F' made b is = record {
       turn = turn (commands.Format limit) [] Done;
       is = refl;
-      fits = record { goes = h.goes; lawful = lawful_format; row = (refl, λ t. (made t s.last (h.keeps t)).none) };
+      fits = record { goes = h.goes; lawful = lawful_format; row = ((λ t. (made t s.last (h.keeps t)).none), refl) };
       holds = record { past = h.past; life = h.life; active = h.active; ended = h.ended; goes = h.goes; fused = fused_after L disk left F' b s.armed h.fused; keeps = λ t. (made t s.last (h.keeps t)).keeps };
       lines = is;
     }
@@ -89,7 +98,7 @@ module _ {D F : Type 0} (L : Ghosts D) (inside : F → Stage → Type 0) (disk :
     refuses_format left line statuses.Memory not = leaves_as left s.last (λ t. not t s.last (h.keeps t))
     refuses_format left line statuses.LogFault not = record {
       entries = [];
-      fits = record { goes = h.goes; lawful = lawful_format; row = refl };
+      fits = record { goes = h.goes; lawful = lawful_format; row = none_entered (commands.Format limit) tt refl };
       right = (safe_out L disk s h).right;
       leaves = leaves_as left (Unformatted s.last (room_of limit)) (λ t. not t s.last (h.keeps t));
     }
@@ -101,7 +110,7 @@ module _ {D F : Type 0} (L : Ghosts D) (inside : F → Stage → Type 0) (disk :
     format_refused left line before status failed (steps.Goes out at) is r not b text = subst (λ (x : At D F). Adds L.tells (IsAt L inside x) s (commands.Format limit) out.items) (sym r.2) (record {
       turn = turn (commands.Format limit) [] (LogFault 0);
       is = refl;
-      fits = record { goes = h.goes; lawful = lawful_format; row = (armed_by L disk left (status ≡ statuses.LogFault) b s.armed h.fused (λ e. omega (arith, r.3, is, e)), refl, λ t. no_end s.ended) };
+      fits = record { goes = h.goes; lawful = lawful_format; row = (armed_by L disk left (status ≡ statuses.LogFault) b s.armed h.fused (λ e. omega (arith, r.3, is, e)), none_entered (commands.Format limit) tt refl, λ t. no_end s.ended) };
       holds = record {
         past = h.past;
         life = h.life;
@@ -122,7 +131,7 @@ module _ {D F : Type 0} (L : Ghosts D) (inside : F → Stage → Type 0) (disk :
   refuses_open left line statuses.Memory not = leaves_as left s.last (λ t. not t s.last (h.keeps t))
   refuses_open left line statuses.LogFault not = record {
     entries = [];
-    fits = record { goes = h.goes; lawful = lawful_out; row = refl };
+    fits = record { goes = h.goes; lawful = lawful_out; row = none_entered commands.Open tt refl };
     right = (safe_out L disk s h).right;
     leaves = leaves_as left s.last (λ t. not t s.last (h.keeps t));
   }
@@ -140,7 +149,7 @@ module _ {D F : Type 0} (L : Ghosts D) (inside : F → Stage → Type 0) (disk :
   open_refused left line before status failed (steps.Goes out at) is r not b text = subst (λ (x : At D F). Adds L.tells (IsAt L inside x) s commands.Open out.items) (sym r.2) (record {
     turn = turn commands.Open [] (LogFault 0);
     is = refl;
-    fits = record { goes = h.goes; lawful = lawful_out; row = (armed_by L disk left (status ≡ statuses.LogFault) b s.armed h.fused (λ e. omega (arith, r.3, is, e)), refl, λ t. no_end s.ended) };
+    fits = record { goes = h.goes; lawful = lawful_out; row = (armed_by L disk left (status ≡ statuses.LogFault) b s.armed h.fused (λ e. omega (arith, r.3, is, e)), none_entered commands.Open tt refl, λ t. no_end s.ended) };
     holds = record {
       past = h.past;
       life = h.life;
@@ -158,14 +167,14 @@ module _ {D F : Type 0} (L : Ghosts D) (inside : F → Stage → Type 0) (disk :
   -- ---- the fuse
 
   module _ (left : D) (same : L.tells → L.told left ≡ L.told disk) (more : NoMore L.may_leave disk left) where
-    still_keeps : L.tells → Keeps L (HoldsOne s.last) left
-    still_keeps t = keeps_same L (HoldsOne s.last) disk left (same t) more (h.keeps t)
+    still_keeps : L.tells → Keeps L s.last left
+    still_keeps t = keeps_same L s.last disk left (same t) more (h.keeps t)
 
     pub did_fuse : (device : Device) (calls : ℕ) (out : List ℕ) → device ≡ Log → out ≡ codes "fuse log " ++ decimal calls ++ codes "\n" → Adds L.tells (Out L left) s (commands.Fuse device calls) out
     did_fuse device calls out log is = record {
       turn = turn (commands.Fuse device calls) [] Done;
       is = refl;
-      fits = record { goes = h.goes; lawful = refl; row = (refl, log) };
+      fits = record { goes = h.goes; lawful = refl; row = (log, refl) };
       holds = record { past = h.past; life = h.life; active = h.active; ended = h.ended; goes = h.goes; fused = record { fuse = h.fused.fuse; renewed = λ e. absurd cc }; keeps = still_keeps };
       lines = is;
     }
@@ -174,7 +183,7 @@ module _ {D F : Type 0} (L : Ghosts D) (inside : F → Stage → Type 0) (disk :
     did_renew device out log renewed is = record {
       turn = turn (commands.Renew device) [] Done;
       is = refl;
-      fits = record { goes = h.goes; lawful = refl; row = (refl, log) };
+      fits = record { goes = h.goes; lawful = refl; row = (log, refl) };
       holds = record { past = h.past; life = h.life; active = h.active; ended = h.ended; goes = h.goes; fused = record { fuse = h.fused.fuse; renewed = λ e. renewed h.fused.fuse }; keeps = still_keeps };
       lines = is;
     }
@@ -191,7 +200,7 @@ pub did_stop : {D : Type 0} (L : Ghosts D) (disk left : D) (s : Stage) → Safe 
 did_stop L disk left s safe keep out may only renewed is = record {
   turn = turn (commands.Stop keep) [] Done;
   is = refl;
-  fits = record { goes = safe.goes; lawful = refl; row = refl };
+  fits = record { goes = safe.goes; lawful = refl; row = (tt, refl) };
   holds = record {
     past = safe.right;
     life = refl;
@@ -199,23 +208,32 @@ did_stop L disk left s safe keep out may only renewed is = record {
     ended = refl;
     goes = safe.goes;
     fused = record { fuse = safe.fuse; renewed = λ e. renewed safe.fuse };
-    keeps = λ t. keeps_only L (HoldsOne (last_after s.life s.last)) left ((safe.leaves t).crash (L.told left) (may t)) (only t);
+    keeps = λ t. keeps_only L (Stopped (last_after s.life s.last)) left ((safe.leaves t).crash (L.told left) (may t)) (only t);
   };
   lines = is;
 }
 
+-- a calm life opens a log that is built
+calm_openable : (opening : List Record) (rows : List LeafRow) (top : ℕ) (active : Option Opened) (next count lsn : ℕ) → Calm opening [] rows top active next count lsn → IsOpenable opening
+calm_openable opening rows top active next count lsn c = record {
+  some = λ none. absurd (let x : IsTrue (has_items {A = Record} []) = subst (λ (rs : List Record). IsTrue (has_items rs)) none c.found in cc);
+  settled = no_losers opening c.settled;
+  one_page = ap pages (sym (append-nil opening)) ∙ c.log.one_page;
+}
+
 -- an opening finds a log; where the form alone is looked at, so many commits stand for it
 pub did_open : {D : Type 0} (L : Ghosts D) (v : View L.tells) (disk : D) (s : Stage) → Out (seen L v) disk s → (log : LogState D) (standing : Standing) (out : List ℕ) (F : Type 0) → Makes (seen L v) disk (IsBegun (seen L v) log standing) → standing.session ≡ None → log.ended ≡ None → Blames L.passes L.refused L.own disk log.device F
-    → out ≡ codes "open commits=" ++ decimal standing.commits ++ codes " losers=0\n" → Adds (IsWhole v) (In (seen L v) log standing) s commands.Open out
+    → out ≡ codes "open commits=" ++ decimal standing.commits ++ codes " losers=" ++ decimal 0 ++ codes "\n" → Adds (IsWhole v) (In (seen L v) log standing) s commands.Open out
 did_open L (Whole t) disk s h log standing out F begun closed live b is =
     let M = seen L (Whole t) in
     let k = begun tt s.last (h.keeps tt) in
     let life : Life = record { opening = k.opening; history = [] } in
     let count : commits (life_log k.opening []) ≡ standing.commits = k.calm.calm.log.commits_are in
+    let openable = calm_openable _ _ _ _ _ _ _ k.calm.calm in
     record {
       turn = record { command = commands.Open; entries = []; found = k.opening; end = Done };
       is = refl;
-      fits = record { goes = h.goes; lawful = ap no_life h.life; row = (refl, λ _. k.found) };
+      fits = record { goes = h.goes; lawful = ap no_life h.life; row = ((λ _. (k.found, openable)), refl) };
       holds = record {
         past = h.past;
         here = life;
@@ -226,7 +244,7 @@ did_open L (Whole t) disk s h log standing out F begun closed live b is =
         fused = fused_after M disk log.device F b s.armed h.fused;
         lives = runs_on M log standing life log.ended live (record { count = count; lsn = length k.opening; calm = λ _. k.calm });
       };
-      lines = is ∙ ap (λ (n : ℕ). codes "open commits=" ++ decimal n ++ codes " losers=0\n") (sym count ∙ ap commits (append-nil k.opening));
+      lines = is ∙ (λ i. codes "open commits=" ++ decimal ((sym count ∙ ap commits (append-nil k.opening)) i) ++ codes " losers=" ++ decimal (length (sym openable.settled i)) ++ codes "\n");
     }
 did_open L Form disk s h log standing out F begun closed live b is =
     let M = seen L Form in
@@ -235,7 +253,7 @@ did_open L Form disk s h log standing out F begun closed live b is =
     record {
       turn = record { command = commands.Open; entries = []; found = opening; end = Done };
       is = refl;
-      fits = record { goes = h.goes; lawful = ap no_life h.life; row = (refl, λ t. absurd t) };
+      fits = record { goes = h.goes; lawful = ap no_life h.life; row = ((λ t. absurd t), refl) };
       holds = record {
         past = h.past;
         here = life;
@@ -246,7 +264,7 @@ did_open L Form disk s h log standing out F begun closed live b is =
         fused = fused_after M disk log.device F b s.armed h.fused;
         lives = runs_on M log standing life log.ended live (record { count = ap commits (append-nil opening) ∙ commits_of_some standing.commits; lsn = 0; calm = λ t. absurd t });
       };
-      lines = is ∙ ap (λ (n : ℕ). codes "open commits=" ++ decimal n ++ codes " losers=0\n") (sym (commits_of_some standing.commits));
+      lines = is ∙ (λ i. codes "open commits=" ++ decimal (sym (commits_of_some standing.commits) i) ++ codes " losers=" ++ decimal (length (sym (no_losers opening (open_of_some standing.commits)) i)) ++ codes "\n");
     }
 
 -- which statuses an opening and a format may give
@@ -257,10 +275,6 @@ open_kind L line disk left (statuses.LogBad block byte) not q = tt
 open_kind L line disk left statuses.NotFormatted not q = tt
 open_kind L line disk left (statuses.NotBuilt n) not q = tt
 open_kind L line disk left _ not q = absurd not
-
-pub open_shows : {D : Type 0} (L M : Ghosts D) (line : ℕ) (disk left : D) (status : Status) → IsNotBegun M line disk left status → Shows L left status
-open_shows L M line disk left statuses.AlreadyFormatted not = absurd not
-open_shows L M line disk left _ not = tt
 
 pub made_kind : {D : Type 0} (L : Ghosts D) (limit : ℕ) (disk left : D) (status : Status) → IsNotMade L limit disk left status → status ≢ statuses.LogFault → LogCause 0 0 status
 made_kind L limit disk left statuses.Memory not q = tt
@@ -275,6 +289,7 @@ cause_of L disk left statuses.LogFault few none b kind = own_rose L disk left _ 
 cause_of L disk left statuses.SourceFault few none b kind = kind (λ q. cc)
 cause_of L disk left statuses.SinkFault few none b kind = kind (λ q. cc)
 cause_of L disk left statuses.Usage few none b kind = kind (λ q. cc)
+cause_of L disk left statuses.NoGenerator few none b kind = kind (λ q. cc)
 cause_of L disk left statuses.Done few none b kind = kind (λ q. cc)
 cause_of L disk left _ few none b kind = tt
 
@@ -291,6 +306,9 @@ life_cause L left before now statuses.LogFault cause = (cause, tt)
 life_cause L left before now statuses.SourceFault cause = absurd cause
 life_cause L left before now statuses.SinkFault cause = absurd cause
 life_cause L left before now statuses.Usage cause = absurd cause
+life_cause L left before now statuses.NoGenerator cause = absurd cause
 life_cause L left before now statuses.Done cause = absurd cause
 life_cause L left before now statuses.AlreadyFormatted cause = absurd cause
+life_cause L left before now statuses.NotFormatted cause = absurd cause
+life_cause L left before now (statuses.LogBad block byte) cause = absurd cause
 life_cause L left before now _ cause = (tt, tt)

@@ -1,5 +1,6 @@
 -- Why a run ends: which statuses a part of the run may give, and that a device's fault has its cause.
-use Rattle.std.specs.Prelude.{◌≡◌, ◌≢◌, ◌≤◌, ℕ}
+use Rattle.std.specs.Prelude.{◌≡◌, ◌≢◌, ◌≤◌, ℕ, []}
+use Rattle.log_blocks.specs.Log.{StandsFor}
 use Rattle.media.specs.Cause.{Rose}
 use Rattle.media.specs.Objects.{Stored, MayLeave}
 use Rattle.media.specs.declared.disk.Disk.{Ghosts}
@@ -14,14 +15,15 @@ use Rattle.runner.specs.declared.living.Lived.{Lived}
 use Rattle.runner.specs.declared.living.Lived.TheVariants as ways
 use Rattle.runner.specs.declared.status.Status.{Status}
 use Rattle.runner.specs.declared.status.Status.TheVariants as statuses
-use Rattle.runner.specs.LogDisk.{IsFormatted}
+use Rattle.runner.specs.LogDisk.{IsBadLog, IsFormatted}
 
--- a fault of the log disk comes only where that disk's own count rose, and no stream's fault and no usage comes
+-- a fault of the log disk comes only where that disk's own count rose, and no stream's fault comes, and nothing that the words decide
 abbrev pub LogCause : ℕ → ℕ → Status → Type 0
 LogCause before now statuses.LogFault = Rose before now
 LogCause before now statuses.SourceFault = ⊥
 LogCause before now statuses.SinkFault = ⊥
 LogCause before now statuses.Usage = ⊥
+LogCause before now statuses.NoGenerator = ⊥
 LogCause before now statuses.Done = ⊥
 LogCause before now _ = Unit {0}
 
@@ -31,8 +33,11 @@ LifeCause before now statuses.LogFault = Rose before now
 LifeCause before now statuses.SourceFault = ⊥
 LifeCause before now statuses.SinkFault = ⊥
 LifeCause before now statuses.Usage = ⊥
+LifeCause before now statuses.NoGenerator = ⊥
 LifeCause before now statuses.Done = ⊥
 LifeCause before now statuses.AlreadyFormatted = ⊥
+LifeCause before now statuses.NotFormatted = ⊥
+LifeCause before now (statuses.LogBad block byte) = ⊥
 LifeCause before now _ = Unit {0}
 
 -- the same of the next line: no fault of the log disk or of the sink
@@ -49,9 +54,12 @@ pub record RunCause (source0 source1 sink0 sink1 log0 log1 : ℕ) (status : Stat
   pub sink : status ≡ statuses.SinkFault → Rose sink0 sink1
   pub log : status ≡ statuses.LogFault → Rose log0 log1
 
--- a log is refused as formatted only where an open gate stands on its disk
+-- Whatever the disk held: a log is refused as formatted only where an open gate stands on its disk with something behind
+-- it, as not formatted only where the log is empty, and as bad only at its first fault.
 abbrev pub Shows : {D : Type 0} → Ghosts D → D → Status → Type 0
 Shows L disk statuses.AlreadyFormatted = L.tells → IsFormatted (L.told disk)
+Shows L disk statuses.NotFormatted = L.tells → StandsFor [] (L.told disk)
+Shows L disk (statuses.LogBad block byte) = L.tells → IsBadLog block byte (L.told disk)
 Shows L disk _ = Unit {0}
 
 -- the log disk of a place
@@ -66,11 +74,13 @@ SteppedCause L device disk (steps.Ends status left) = (L.own disk ≤ L.own left
 
 abbrev pub TurnedCause : {D F : Type 0} → Ghosts D → (F → D) → D → ℕ → ℕ → ℕ → ℕ → Turned D F → Type 0
 TurnedCause L device disk source0 source1 sink0 sink1 (turns.Goes at) = L.own disk ≤ L.own (disk_at device at)
-TurnedCause L device disk source0 source1 sink0 sink1 (turns.Ends status left) = (L.own disk ≤ L.own left) × RunCause source0 source1 sink0 sink1 (L.own disk) (L.own left) status × Shows L left status × (status ≢ statuses.Usage)
+TurnedCause L device disk source0 source1 sink0 sink1 (turns.Ends status left) = (L.own disk ≤ L.own left) × RunCause source0 source1 sink0 sink1 (L.own disk) (L.own left) status
+    × Shows L left status × (status ≢ statuses.Usage) × (status ≢ statuses.NoGenerator)
 
 abbrev pub LivedCause : {D : Type 0} → Ghosts D → D → ℕ → ℕ → ℕ → ℕ → Lived D → Type 0
 LivedCause L disk source0 source1 sink0 sink1 (ways.Stopped left) = L.own disk ≤ L.own left
-LivedCause L disk source0 source1 sink0 sink1 (ways.Ends status left) = (L.own disk ≤ L.own left) × RunCause source0 source1 sink0 sink1 (L.own disk) (L.own left) status × Shows L left status × (status ≢ statuses.Usage)
+LivedCause L disk source0 source1 sink0 sink1 (ways.Ends status left) = (L.own disk ≤ L.own left) × RunCause source0 source1 sink0 sink1 (L.own disk) (L.own left) status
+    × Shows L left status × (status ≢ statuses.Usage) × (status ≢ statuses.NoGenerator)
 
 -- what stops leave of a vault, or none: its count of faults, each synced object, and what no name stood for
 pub record IsCycled {D : Type 0} (tells : Type 0) (told : D → ObjectName → Stored) (faults : D → ℕ) (old new : D) : Type 0 where
@@ -80,6 +90,7 @@ pub record IsCycled {D : Type 0} (tells : Type 0) (told : D → ObjectName → S
 -- a status that the script asks for, where no device fails; or want of memory
 abbrev pub IsAsked : Status → Type 0
 IsAsked statuses.Usage = ⊥
+IsAsked statuses.NoGenerator = ⊥
 IsAsked statuses.SourceFault = ⊥
 IsAsked statuses.SinkFault = ⊥
 IsAsked statuses.LogFault = ⊥

@@ -5,12 +5,11 @@ use Rattle.std.specs.Io.KnownBytes.{Appends, Consumes, IsAtEnd, prepend_known}
 use Rattle.std.specs.declared.result.Result.{Result}
 use Rattle.std.specs.declared.result.Result.TheVariants.{Ok, Err}
 use Rattle.media.specs.declared.disk.Disk.{Ghosts}
-use Rattle.wal_record.specs.declared.record.Record.{Record}
 use Rattle.script.specs.declared.command.Command.{Command}
 use Rattle.script.specs.Line.{reads}
-use Rattle.runner.specs.Lines.{Reader, to_come, longest_script, IsBounded, IsLine, IsNoLine}
-use Rattle.runner.specs.Built.{is_built}
-use Rattle.runner.specs.Turns.{Turn, Stage, stage, Fits, IsRightLife, MayFind, lives, is_lawful}
+use Rattle.line_reader.specs.Lines.{Reader, to_come, longest_script, IsBounded, IsLine, IsNoLine}
+use Rattle.line_reader.specs.Built.{is_built}
+use Rattle.runner.specs.Turns.{Last, Turn, Stage, stage, Fits, IsRightLife, MayFind, lives, is_lawful}
 use Rattle.runner.specs.Refusals.{IsNotBuilt, IsSplit, IsOpen, IsFormat, FindsLog}
 use Rattle.runner.specs.Status.{cuts}
 use Rattle.runner.specs.Text.{text}
@@ -34,15 +33,15 @@ IsPrefix a b = (rest : List ℕ) × (b ≡ a ++ rest)
 abbrev pub command_of : Turn → Command
 command_of t = t.command
 
--- turns that were run on a disk with this log: of the lines read; each fits, and each life is right
-pub record Ran (tells : Type 0) (log : List Record) (read : List ℕ) (turns : List Turn) : Type 0 where
+-- turns that were run on a disk that was handed in so: of the lines read; each fits, and each life is right
+pub record Ran (tells : Type 0) (start : Last) (read : List ℕ) (turns : List Turn) : Type 0 where
   pub script : Script read (map command_of turns)
-  pub fits : Fits tells log turns
-  pub right : tells → All IsRightLife (lives (stage log turns))
+  pub fits : Fits tells start turns
+  pub right : tells → All IsRightLife (lives (stage start turns))
 
 -- the bytes are the lines of all turns before the last, and some of the last one's
-abbrev pub Partly : List Record → List Turn → List ℕ → Type 0
-Partly log turns written = (before : List Turn) × (last : List Turn) × (length last < 2) × (turns ≡ before ++ last) × IsPrefix (text log before) written × IsPrefix written (text log turns)
+abbrev pub Partly : Last → List Turn → List ℕ → Type 0
+Partly start turns written = (before : List Turn) × (last : List Turn) × (length last < 2) × (turns ≡ before ++ last) × IsPrefix (text start before) written × IsPrefix written (text start turns)
 
 -- what is said of a command that a line spells
 abbrev pub OfCommand : (Command → Type 0) → Option Command → Type 0
@@ -53,81 +52,92 @@ abbrev pub Unlawful : Stage → Option Command → Type 0
 Unlawful s None = Unit {0}
 Unlawful s (Some c) = is_lawful s c ≡ false
 
+-- behind so many bytes of a script these are one line with its end
+pub record IsNext (taken : ℕ) (rest line : List ℕ) : Type 0 where
+  pub is : rest ≡ line ++ 10 ∷ []
+  pub one : IsLine line
+  pub within : taken + length rest ≤ longest_script
+
 -- the next line has a built word and is in no grammar, or its command isn't lawful after these turns; or no line is
 -- there: the input ends within it, or it is too long, or the script is
 abbrev pub BadLine : Stage → ℕ → List ℕ → Option (List ℕ) → Type 0
-BadLine s taken rest left = ((line : List ℕ) × (rest ≡ line ++ 10 ∷ []) × IsLine line × (is_built line ≡ true) × Unlawful s (reads line)) ⊎ IsNoLine taken rest left
+BadLine s taken rest left = ((line : List ℕ) × IsNext taken rest line × (is_built line ≡ true) × Unlawful s (reads line)) ⊎ IsNoLine taken rest left
 
 -- the next line spells a command of which this is so
-abbrev pub NextLine : (Command → Type 0) → List ℕ → Type 0
-NextLine P rest = (line : List ℕ) × (rest ≡ line ++ 10 ∷ []) × OfCommand P (reads line)
+abbrev pub NextLine : (Command → Type 0) → ℕ → List ℕ → Type 0
+NextLine P taken rest = (line : List ℕ) × IsNext taken rest line × OfCommand P (reads line)
 
-abbrev pub NotBuiltLine : {D : Type 0} → Ghosts D → D → Stage → List ℕ → Type 0
-NotBuiltLine L disk s rest = ((line : List ℕ) × (rest ≡ line ++ 10 ∷ []) × (is_built line ≡ false)) ⊎ NextLine (λ c. (is_lawful s c ≡ true) × IsNotBuilt L disk s c) rest
+abbrev pub NotBuiltLine : {D : Type 0} → Ghosts D → D → Stage → ℕ → List ℕ → Type 0
+NotBuiltLine L disk s taken rest = ((line : List ℕ) × IsNext taken rest line × (is_built line ≡ false)) ⊎ NextLine (λ c. (is_lawful s c ≡ true) × IsNotBuilt L disk s c) taken rest
 
--- by the status: what was written of the turns' text, and why the run ended; the log disk was handed in with this log,
--- and is handed back so
-abbrev pub Ended : {D : Type 0} → Ghosts D → List Record → D → Status → List Turn → List ℕ → List ℕ → List ℕ → Option (List ℕ) → Type 0
-Ended L log disk statuses.Done turns read rest written left = (written ≡ text log turns) × (rest ≡ []) × IsAtEnd left
-Ended L log disk statuses.Memory turns read rest written left = Partly log turns written
-Ended L log disk statuses.Usage turns read rest written left = written ≡ []
-Ended L log disk (statuses.Script line) turns read rest written left = (written ≡ text log turns) × (line ≡ length turns + 1) × BadLine (stage log turns) (length read) rest left
-Ended L log disk statuses.SourceFault turns read rest written left = written ≡ text log turns
-Ended L log disk statuses.SinkFault turns read rest written left = IsPrefix written (text log turns)
-Ended L log disk statuses.LogFault turns read rest written left = written ≡ text log turns
-Ended L log disk (statuses.LogBad block byte) turns read rest written left = (written ≡ text log turns) × NextLine IsOpen rest × (L.tells → ⊥)
-Ended L log disk statuses.NotFormatted turns read rest written left = (written ≡ text log turns) × NextLine IsOpen rest × (L.tells → MayFind (stage log turns).last [])
-Ended L log disk statuses.AlreadyFormatted turns read rest written left = (written ≡ text log turns) × NextLine IsFormat rest × (L.tells → FindsLog (stage log turns).last)
-Ended L log disk (statuses.NotBuilt line) turns read rest written left = (written ≡ text log turns) × (line ≡ length turns + 1) × NotBuiltLine L disk (stage log turns) rest
-Ended L log disk (statuses.NoSplit line) turns read rest written left = (written ≡ text log turns) × (line ≡ length turns + 1) × NextLine (λ c. (is_lawful (stage log turns) c ≡ true) × IsSplit L.tells (stage log turns) c) rest
+-- by the status: what was written of the turns' text, and why the run ended; the log disk was handed in as this use left
+-- it, and is handed back so
+abbrev pub Ended : {D : Type 0} → Ghosts D → Last → D → Status → List Turn → List ℕ → List ℕ → List ℕ → Option (List ℕ) → Type 0
+Ended L start disk statuses.Done turns read rest written left = (written ≡ text start turns) × (rest ≡ []) × IsAtEnd left
+Ended L start disk statuses.Memory turns read rest written left = Partly start turns written
+Ended L start disk statuses.Usage turns read rest written left = (turns ≡ []) × (read ≡ []) × (rest ≡ []) × (written ≡ [])
+Ended L start disk statuses.NoGenerator turns read rest written left = (turns ≡ []) × (read ≡ []) × (rest ≡ []) × (written ≡ [])
+Ended L start disk (statuses.Script line) turns read rest written left = (written ≡ text start turns) × (line ≡ length turns + 1) × BadLine (stage start turns) (length read) rest left
+Ended L start disk statuses.SourceFault turns read rest written left = written ≡ text start turns
+Ended L start disk statuses.SinkFault turns read rest written left = IsPrefix written (text start turns)
+Ended L start disk statuses.LogFault turns read rest written left = written ≡ text start turns
+Ended L start disk (statuses.LogBad block byte) turns read rest written left = (written ≡ text start turns) × NextLine IsOpen (length read) rest × (L.tells → ⊥)
+Ended L start disk statuses.NotFormatted turns read rest written left = (written ≡ text start turns) × NextLine IsOpen (length read) rest × (L.tells → MayFind (stage start turns).last [])
+Ended L start disk statuses.AlreadyFormatted turns read rest written left = (written ≡ text start turns) × NextLine IsFormat (length read) rest × (L.tells → FindsLog (stage start turns).last)
+Ended L start disk (statuses.NotBuilt line) turns read rest written left = (written ≡ text start turns) × (line ≡ length turns + 1) × NotBuiltLine L disk (stage start turns) (length read) rest
+Ended L start disk (statuses.NoSplit line) turns read rest written left = (written ≡ text start turns) × (line ≡ length turns + 1)
+    × NextLine (λ c. (is_lawful (stage start turns) c ≡ true) × IsSplit L.tells (stage start turns) c) (length read) rest
 
--- The log disk was handed in with this log, as disks of its type tell, and is handed back so; then what was left and told
+-- The log disk was handed in as this use left it, as disks of its type tell, and is handed back so; then what was left and told
 -- at the start, and what is now. What was read and given to no line is still pending.
-pub record Headline {D : Type 0} (L : Ghosts D) (log : List Record) (disk : D) (left0 : Option (List ℕ)) (pending : List ℕ) (left told0 told : Option (List ℕ)) (status : Status) : Type 0 where
+pub record Headline {D : Type 0} (L : Ghosts D) (start : Last) (disk : D) (left0 : Option (List ℕ)) (pending : List ℕ) (left told0 told : Option (List ℕ)) (status : Status) : Type 0 where
   pub turns : List Turn
   pub read : List ℕ
   pub rest : List ℕ
   pub written : List ℕ
   -- the lines read, and what was read behind them
   pub taken : Consumes left0 (prepend_known pending left) (read ++ rest)
-  -- in all, at most the longest script and one byte more
+  -- the lines are within the longest script; in all, at most that and one byte more was read
+  pub within : length read ≤ longest_script
   pub most : length read + length rest + length pending ≤ longest_script + 1
-  pub ran : Ran L.tells log read turns
+  pub ran : Ran L.tells start read turns
   -- a status cuts a command off where the log disk itself failed, and nowhere else
-  pub cut : (stage log turns).cut ≡ cuts status
+  pub cut : (stage start turns).cut ≡ cuts status
   pub wrote : Appends told0 told written
-  pub ended : Ended L log disk status turns read rest written (prepend_known pending left)
+  pub ended : Ended L start disk status turns read rest written (prepend_known pending left)
   -- it keeps a log that may be found next: of an open life a member of what a stop may leave
-  pub leaves : Leaves L disk (stage log turns)
+  pub leaves : Leaves L disk (stage start turns)
 
 -- between two turns: what was read and written since the start, by the turns so far; H says what holds of their stage
-pub record Between (tells : Type 0) (log : List Record) (H : Stage → Type 0) (left0 told0 : Option (List ℕ)) (reader : Reader) (turns : List Turn) (left told : Option (List ℕ)) : Type 0 where
+pub record Between (tells : Type 0) (start : Last) (H : Stage → Type 0) (left0 told0 : Option (List ℕ)) (reader : Reader) (turns : List Turn) (left told : Option (List ℕ)) : Type 0 where
   pub read : List ℕ
   pub script : Script read (map command_of turns)
   pub taken : Consumes left0 (to_come reader left) read
   pub count : reader.lines ≡ length turns
   pub size : reader.taken ≡ length read
+  pub within : length read ≤ longest_script
   pub most : IsBounded reader
-  pub fits : Fits tells log turns
-  pub holds : H (stage log turns)
-  pub wrote : Appends told0 told (text log turns)
+  pub fits : Fits tells start turns
+  pub holds : H (stage start turns)
+  pub wrote : Appends told0 told (text start turns)
 
 -- the command of the next line, and that line's number
 abbrev pub TakesCommand : Reader → Reader → Option (List ℕ) → Option (List ℕ) → Result (Option (Command × ℕ)) Status → Type 0
 TakesCommand old new left_old left_new (Ok None) = Consumes (to_come old left_old) (to_come new left_new) [] × IsAtEnd (to_come new left_new) × (new.taken ≡ old.taken)
 TakesCommand old new left_old left_new (Ok (Some (c, line))) = (bytes : List ℕ) × Consumes (to_come old left_old) (to_come new left_new) (bytes ++ 10 ∷ []) × IsLine bytes × (is_built bytes ≡ true) × (reads bytes ≡ Some c)
-    × (line ≡ old.lines + 1) × (new.lines ≡ old.lines + 1) × (new.taken ≡ old.taken + length bytes + 1)
+    × (line ≡ old.lines + 1) × (new.lines ≡ old.lines + 1) × (new.taken ≡ old.taken + length bytes + 1) × (new.taken ≤ longest_script)
 TakesCommand old new left_old left_new (Err (statuses.Script n)) = (n ≡ old.lines + 1) × (rest : List ℕ) × Consumes (to_come old left_old) (to_come new left_new) rest × (new.taken ≡ old.taken + length rest)
-    × (((bytes : List ℕ) × (rest ≡ bytes ++ 10 ∷ []) × IsLine bytes × (is_built bytes ≡ true) × (reads bytes ≡ None)) ⊎ IsNoLine old.taken rest (to_come new left_new))
-TakesCommand old new left_old left_new (Err (statuses.NotBuilt n)) = (n ≡ old.lines + 1) × (bytes : List ℕ) × Consumes (to_come old left_old) (to_come new left_new) (bytes ++ 10 ∷ []) × (new.taken ≡ old.taken + length bytes + 1) × (is_built bytes ≡ false)
+    × (((bytes : List ℕ) × (rest ≡ bytes ++ 10 ∷ []) × IsLine bytes × (is_built bytes ≡ true) × (reads bytes ≡ None) × (new.taken ≤ longest_script)) ⊎ IsNoLine old.taken rest (to_come new left_new))
+TakesCommand old new left_old left_new (Err (statuses.NotBuilt n)) = (n ≡ old.lines + 1) × (bytes : List ℕ) × Consumes (to_come old left_old) (to_come new left_new) (bytes ++ 10 ∷ []) × IsLine bytes
+    × (new.taken ≡ old.taken + length bytes + 1) × (new.taken ≤ longest_script) × (is_built bytes ≡ false)
 TakesCommand old new left_old left_new (Err e) = (rest : List ℕ) × Consumes (to_come old left_old) (to_come new left_new) rest × (new.taken ≡ old.taken + length rest)
 
 -- one line, behind which a run goes on or has ended
-abbrev pub TurnedTo : {D F : Type 0} → Ghosts D → List Record → (F → Stage → Type 0) → Option (List ℕ) → Option (List ℕ) → Reader → List Turn → Option (List ℕ) → Option (List ℕ) → Turned D F → Type 0
-TurnedTo L log inside left0 told0 reader turns left told (results.Goes at) = (t : Turn) × Between L.tells log (IsAt L inside at) left0 told0 reader (turns ++ t ∷ []) left told
-TurnedTo L log inside left0 told0 reader turns left told (results.Ends status disk) = Headline L log disk left0 reader.pending left told0 told status
+abbrev pub TurnedTo : {D F : Type 0} → Ghosts D → Last → (F → Stage → Type 0) → Option (List ℕ) → Option (List ℕ) → Reader → List Turn → Option (List ℕ) → Option (List ℕ) → Turned D F → Type 0
+TurnedTo L start inside left0 told0 reader turns left told (results.Goes at) = (t : Turn) × Between L.tells start (IsAt L inside at) left0 told0 reader (turns ++ t ∷ []) left told
+TurnedTo L start inside left0 told0 reader turns left told (results.Ends status disk) = Headline L start disk left0 reader.pending left told0 told status
 
 -- a life, which a stop has ended, or the run has ended in it
-abbrev pub LivedTo : {D : Type 0} → Ghosts D → List Record → Option (List ℕ) → Option (List ℕ) → Reader → Option (List ℕ) → Option (List ℕ) → Lived D → Type 0
-LivedTo L log left0 told0 reader left told (ways.Stopped disk) = (turns : List Turn) × Between L.tells log (Out L disk) left0 told0 reader turns left told
-LivedTo L log left0 told0 reader left told (ways.Ends status disk) = Headline L log disk left0 reader.pending left told0 told status
+abbrev pub LivedTo : {D : Type 0} → Ghosts D → Last → Option (List ℕ) → Option (List ℕ) → Reader → Option (List ℕ) → Option (List ℕ) → Lived D → Type 0
+LivedTo L start left0 told0 reader left told (ways.Stopped disk) = (turns : List Turn) × Between L.tells start (Out L disk) left0 told0 reader turns left told
+LivedTo L start left0 told0 reader left told (ways.Ends status disk) = Headline L start disk left0 reader.pending left told0 told status

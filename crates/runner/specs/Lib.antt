@@ -1,11 +1,11 @@
 pub mod Active
-pub mod Built
 pub mod Causes
 pub mod Clause
+pub mod Damaged
 pub mod Leaf
-pub mod Lines
 pub mod LogDisk
 pub mod Machine
+pub mod NextCall
 pub mod Openings
 pub mod Refusals
 pub mod Session

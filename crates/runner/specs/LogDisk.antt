@@ -1,13 +1,15 @@
 -- What the log disk keeps, by the logs that it may hold.
-use Rattle.std.specs.Prelude.{◌≡◌, ◌<◌, ℕ, List, [], ◌∷◌, length}
+use Rattle.std.specs.Prelude.{◌≡◌, ◌<◌, ℕ, List, [], ◌∷◌, length, ◌⊎◌}
 use Rattle.media.specs.Kept.{Kept}
 use Rattle.media.specs.declared.disk.Disk.{Ghosts}
 use Rattle.log_blocks.specs.declared.header.Place.{Place}
 use Rattle.log_blocks.specs.Log.{Block, StandsFor, open_gate}
+use Rattle.log_blocks.specs.Opening.{IsBadAt}
 use Rattle.log_manager.specs.Devices.{HoldEnd}
+use Rattle.log_replay.specs.Answers.{IsBadBlock}
 use Rattle.wal_record.specs.Sound.{IsSound}
 use Rattle.wal_record.specs.declared.record.Record.{Record}
-use Rattle.runner.specs.Turns.{Stage, Last, MayFind, last_after}
+use Rattle.runner.specs.Turns.{Stage, Last, MayFind, MayBeLeft, last_after}
 
 -- whether what the disk keeps is looked at, which disks of some types tell, or the form of a run alone
 pub data View (T : Type 0) : Type 0 where
@@ -29,24 +31,32 @@ pub record StandsOn (log : List Record) (k : Kept) : Type 0 where
   pub stands : StandsFor bs k
   pub records : HoldEnd log bs
 
--- what the disk gives now has P, and what a crash leaves of it
-pub record Keeps {D : Type 0} (L : Ghosts D) (P : Kept → Type 0) (disk : D) : Type 0 where
-  pub now : P (L.told disk)
-  pub crash : (c : Kept) → L.may_leave disk c → P c
+-- the kept bytes stand for a log that has P
+abbrev pub HoldsOne : (List Record → Type 0) → Kept → Type 0
+HoldsOne P k = (log : List Record) × P log × StandsOn log k
 
--- the kept bytes stand for a log that may be found
-abbrev pub HoldsOne : Last → Kept → Type 0
-HoldsOne last k = (log : List Record) × MayFind last log × StandsOn log k
+-- behind this use the disk gives a log that may be found, and a crash leaves one that may be left
+pub record KeepsLast {D : Type 0} (told : D → Kept) (may_leave : D → Kept → Type 0) (last : Last) (disk : D) : Type 0 where
+  pub now : HoldsOne (MayFind last) (told disk)
+  pub crash : (c : Kept) → may_leave disk c → HoldsOne (MayBeLeft last) c
+
+abbrev pub Keeps : {D : Type 0} → Ghosts D → Last → D → Type 0
+Keeps L last disk = KeepsLast L.told L.may_leave last disk
 
 -- behind these turns the disk keeps a log that may be found: of an open life a member of what a stop may leave
 abbrev pub Leaves : {D : Type 0} → Ghosts D → D → Stage → Type 0
-Leaves L disk s = L.tells → Keeps L (HoldsOne (last_after s.life s.last)) disk
+Leaves L disk s = L.tells → Keeps L (last_after s.life s.last) disk
 
 -- an open gate, and something behind it
 pub record IsFormatted (k : Kept) : Type 0 where
   pub long : 1 < length k.bytes
   pub rest : List ℕ
   pub gate : k.bytes ≡ open_gate ∷ rest
+
+-- At this block and byte the kept bytes are bad: an open gate stands before bytes that are no block, or, where they stand
+-- for blocks, the records of one are at fault there.
+abbrev pub IsBadLog : ℕ → ℕ → Kept → Type 0
+IsBadLog block byte k = IsBadAt block byte k ⊎ ((bs : List Block) × StandsFor bs k × IsBadBlock bs block byte)
 
 -- the LSN of the first record of these blocks, 1 where there is none
 abbrev pub lsn_from : List Place → ℕ

@@ -45,7 +45,7 @@ pub record Out {D : Type 0} (L : Ghosts D) (disk : D) (s : Stage) : Type 0 where
   pub ended : s.ended ≡ None
   pub goes : s.cut ≡ false
   pub fused : IsFused L disk s.armed
-  pub keeps : L.tells → Keeps L (HoldsOne s.last) disk
+  pub keeps : L.tells → Keeps L s.last disk
 
 -- A life that goes on, where the disk tells: it is calm, the page's pass has seen its whole history, the first of its
 -- records are on the disk and the others wait, and a commit doesn't wait.
@@ -76,7 +76,7 @@ pub record Runs {D : Type 0} (L : Ghosts D) (log : LogState D) (standing : Stand
 -- a life that has ended
 pub record IsOver {D : Type 0} (L : Ghosts D) (log : LogState D) (l : Life) : Type 0 where
   pub right : IsRightLife l
-  pub keeps : Keeps L (HoldsOne (LeftBy l)) log.device
+  pub keeps : Keeps L (LeftBy l) log.device
 
 abbrev pub LivesOn : {D : Type 0} → Ghosts D → LogState D → Standing → Life → Option ℕ → Type 0
 LivesOn L log standing l None = Runs L log standing l

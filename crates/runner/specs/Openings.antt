@@ -20,7 +20,7 @@ use Rattle.runner.specs.Turns.{Last, Formatted, Unformatted, MayFind}
 
 -- what was so of the disk before, where it tells, is this now
 abbrev pub Makes : {D : Type 0} → Ghosts D → D → (Last → Type 0) → Type 0
-Makes L disk Q = L.tells → (last : Last) → Keeps L (HoldsOne last) disk → Q last
+Makes L disk Q = L.tells → (last : Last) → Keeps L last disk → Q last
 
 -- the disk's bytes, also after a crash, stand for the record of a format, or for none; at least for so many
 pub record IsFirst {D : Type 0} (told : D → Kept) (may_leave : D → Kept → Type 0) (limit least : ℕ) (disk : D) : Type 0 where
@@ -30,13 +30,13 @@ pub record IsFirst {D : Type 0} (told : D → Kept) (may_leave : D → Kept → 
 -- a log is made where none was
 pub record IsMade {D : Type 0} (L : Ghosts D) (limit : ℕ) (left : D) (last : Last) : Type 0 where
   pub none : MayFind last []
-  pub keeps : Keeps L (HoldsOne (Formatted limit)) left
+  pub keeps : Keeps L (Formatted limit) left
 
 -- why a log isn't made
 abbrev pub IsNotMade : {D : Type 0} → Ghosts D → ℕ → D → D → Status → Type 0
-IsNotMade L limit disk left statuses.Memory = Makes L disk (λ last. Keeps L (HoldsOne last) left)
-IsNotMade L limit disk left statuses.LogFault = Makes L disk (λ last. Keeps L (HoldsOne (Unformatted last limit)) left)
-IsNotMade L limit disk left statuses.AlreadyFormatted = Makes L disk (λ last. FindsLog last × Keeps L (HoldsOne last) left)
+IsNotMade L limit disk left statuses.Memory = Makes L disk (λ last. Keeps L last left)
+IsNotMade L limit disk left statuses.LogFault = Makes L disk (λ last. Keeps L (Unformatted last limit) left)
+IsNotMade L limit disk left statuses.AlreadyFormatted = Makes L disk (λ last. FindsLog last × Keeps L last left)
 IsNotMade L limit disk left _ = ⊥
 
 -- a life begins on a log that may be found
@@ -47,11 +47,11 @@ pub record IsBegun {D : Type 0} (L : Ghosts D) (log : LogState D) (standing : St
 
 -- why no life begins, in the line that asks for it
 abbrev pub IsNotBegun : {D : Type 0} → Ghosts D → ℕ → D → D → Status → Type 0
-IsNotBegun L line disk left statuses.Memory = Makes L disk (λ last. Keeps L (HoldsOne last) left)
-IsNotBegun L line disk left statuses.LogFault = Makes L disk (λ last. Keeps L (HoldsOne last) left)
+IsNotBegun L line disk left statuses.Memory = Makes L disk (λ last. Keeps L last left)
+IsNotBegun L line disk left statuses.LogFault = Makes L disk (λ last. Keeps L last left)
 IsNotBegun L line disk left (statuses.LogBad block byte) = Makes L disk (λ last. ⊥)
-IsNotBegun L line disk left statuses.NotFormatted = Makes L disk (λ last. MayFind last [] × Keeps L (HoldsOne last) left)
-IsNotBegun L line disk left (statuses.NotBuilt n) = (n ≡ line) × Makes L disk (λ last. FindsUnbuilt L left last × Keeps L (HoldsOne last) left)
+IsNotBegun L line disk left statuses.NotFormatted = Makes L disk (λ last. MayFind last [] × Keeps L last left)
+IsNotBegun L line disk left (statuses.NotBuilt n) = (n ≡ line) × Makes L disk (λ last. FindsUnbuilt L left last × Keeps L last left)
 IsNotBegun L line disk left _ = ⊥
 
 -- the status of a fault, where a log isn't made, and where it isn't opened

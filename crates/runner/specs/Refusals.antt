@@ -33,11 +33,11 @@ pub record FindsUnbuilt {D : Type 0} (L : Ghosts D) (disk : D) (last : Last) : T
   pub stands : StandsOn log (L.told disk)
   pub unbuilt : IsUnbuilt log stands.bs
 
--- what isn't built of a lawful command: an opening of such a log, a second transaction beside an open one, the fuse of
--- another device than the log disk
+-- what isn't built of a lawful command: an opening of such a log, in a life that goes on a second transaction beside an
+-- open one, the fuse of another device than the log disk
 abbrev pub IsNotBuilt : {D : Type 0} → Ghosts D → D → Stage → Command → Type 0
 IsNotBuilt L disk s commands.Open = L.tells → FindsUnbuilt L disk s.last
-IsNotBuilt L disk s (commands.Begin name) = s.active ≢ []
+IsNotBuilt L disk s (commands.Begin name) = (s.ended ≡ None) × (s.active ≢ [])
 IsNotBuilt L disk s (commands.Ask name request) = IsRequestNotBuilt request
 IsNotBuilt L disk s (commands.Fuse device calls) = device ≢ Log
 IsNotBuilt L disk s (commands.Renew device) = device ≢ Log

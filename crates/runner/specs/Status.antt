@@ -7,6 +7,7 @@ abbrev pub code_of : Status → ℕ
 code_of statuses.Done = 0
 code_of statuses.Memory = 1
 code_of statuses.Usage = 2
+code_of statuses.NoGenerator = 12
 code_of (statuses.Script line) = 3
 code_of statuses.SourceFault = 4
 code_of statuses.SinkFault = 5

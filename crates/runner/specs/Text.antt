@@ -1,5 +1,5 @@
 -- The transcript of turns.
-use Rattle.std.specs.Prelude.{ℕ, List, [], ◌∷◌, ◌++◌, codes}
+use Rattle.std.specs.Prelude.{ℕ, List, [], ◌∷◌, ◌++◌, length, codes}
 use Rattle.std.specs.Fmt.{decimal}
 use Rattle.store_model.specs.Along.{along}
 use Rattle.store_model.specs.declared.request.Request.{Request}
@@ -9,13 +9,14 @@ use Rattle.store_model.specs.declared.reply.Reply.TheVariants as replies
 use Rattle.store_model.specs.declared.reply.Outcome.{Outcome}
 use Rattle.store_model.specs.declared.reply.Outcome.TheVariants as outcomes
 use Rattle.wal_record.specs.Checkpoints.{commits}
+use Rattle.wal_record.specs.OpenWrites.{losers}
 use Rattle.wal_record.specs.declared.record.Record.{Record}
 use Rattle.wal_record.specs.declared.entry.Entry.{Entry}
 use Rattle.wal_record.specs.declared.entry.Entry.TheVariants.{Said, Declined}
 use Rattle.script.specs.declared.command.Command.{Command}
 use Rattle.script.specs.declared.command.Command.TheVariants as commands
 use Rattle.transcript.specs.Printing.{escaped, shown}
-use Rattle.runner.specs.Turns.{Turn, End, Done, LogFault, Ended, Cut, Stage, stage, longer, log_of_life}
+use Rattle.runner.specs.Turns.{Turn, End, Done, LogFault, Ended, Cut, Last, Stage, stage, longer, log_of_life}
 
 abbrev pub reply_text : Reply → List ℕ
 reply_text (replies.Found v) = shown v
@@ -46,7 +47,7 @@ head _ = []
 abbrev pub done_lines : Stage → Command → List Entry → List Record → List ℕ
 done_lines s commands.Nothing es found = []
 done_lines s (commands.Format limit) es found = codes "format ok\n"
-done_lines s commands.Open es found = codes "open commits=" ++ decimal (commits found) ++ codes " losers=0\n"
+done_lines s commands.Open es found = codes "open commits=" ++ decimal (commits found) ++ codes " losers=" ++ decimal (length (losers found)) ++ codes "\n"
 done_lines s (commands.Begin name) es found = name ++ codes " begin\n"
 done_lines s (commands.Ask name request) es found = head (commands.Ask name request) ++ answer_text es ++ codes "\n"
 done_lines s (commands.Commit name) es found = name ++ codes " commit " ++ decimal (commits (log_of_life (longer s.life es))) ++ codes "\n"
@@ -65,5 +66,5 @@ lines_at s c es found Cut = []
 abbrev pub lines : Stage → Turn → List ℕ
 lines s t = lines_at s t.command t.entries t.found t.end
 
-unfoldable pub text : List Record → List Turn → List ℕ
-text log turns = along (λ before out t. out ++ lines (stage log before) t) [] turns
+unfoldable pub text : Last → List Turn → List ℕ
+text start turns = along (λ before out t. out ++ lines (stage start before) t) [] turns

@@ -9,9 +9,9 @@ use Rattle.store_model.specs.declared.reply.Outcome.TheVariants as outcomes
 use Rattle.store_model.specs.declared.range.Mode.TheVariants.{Shared, Exclusive}
 use Rattle.wal_record.specs.Rules.{is_limit}
 use Rattle.wal_record.specs.Chains.{pages}
-use Rattle.wal_record.specs.OpenWrites.{pending}
+use Rattle.wal_record.specs.OpenWrites.{losers, pending}
 use Rattle.wal_record.specs.Checkpoints.{limit_of}
-use Rattle.wal_record.specs.History.{life_log}
+use Rattle.wal_record.specs.History.{last_begun, life_log}
 use Rattle.wal_record.specs.Left.{IsLeft, acknowledges, is_commit_of}
 use Rattle.wal_record.specs.declared.record.Record.{Record}
 use Rattle.wal_record.specs.declared.record.Record.TheVariants as kinds
@@ -52,20 +52,39 @@ pub record Active : Type 0 where
 
 -- ---- which log an opening may find
 
--- what the disk was used for last: it was handed in with this log; a format made the log of a store with this limit, or
--- failed; or this life is over
+-- What the disk was used for last: it holds this log, and nothing waits for a sync; it holds this log, and what is
+-- synced is of an earlier use; a format made the log of a store with this limit, or failed; this life is over; or the
+-- machine has stopped.
 pub data Last : Type 0 where
   Found : List Record → Last
+  Unsynced : List Record → Last → Last
   Formatted : ℕ → Last
   Unformatted : Last → ℕ → Last
   LeftBy : Life → Last
+  Stopped : Last → Last
 
--- the logs that the disk may hold then; a format that failed has made its log where none was, or nothing
-abbrev pub MayFind : Last → List Record → Type 0
-MayFind (Found log) rs = rs ≡ log
-MayFind (Formatted limit) rs = rs ≡ first_log limit
-MayFind (Unformatted before limit) rs = MayFind before rs ⊎ (MayFind before [] × (rs ≡ first_log limit))
-MayFind (LeftBy l) rs = (own : List Record) × IsLeft l.opening l.history own × (rs ≡ l.opening ++ own)
+-- what a stop may leave of a life
+abbrev pub IsLeftBy : Life → List Record → Type 0
+IsLeftBy l rs = (own : List Record) × IsLeft l.opening l.history own × (rs ≡ l.opening ++ own)
+
+abbrev mutual
+  -- the logs that the disk may hold then; a format that failed has made its log where none was, or nothing
+  pub MayFind : Last → List Record → Type 0
+  MayFind (Found log) rs = rs ≡ log
+  MayFind (Unsynced log before) rs = rs ≡ log
+  MayFind (Formatted limit) rs = rs ≡ first_log limit
+  MayFind (Unformatted before limit) rs = MayFind before rs ⊎ (MayFind before [] × (rs ≡ first_log limit))
+  MayFind (LeftBy l) rs = IsLeftBy l rs
+  MayFind (Stopped before) rs = MayBeLeft before rs
+
+  -- the logs that the disk may hold behind a stop
+  pub MayBeLeft : Last → List Record → Type 0
+  MayBeLeft (Found log) rs = rs ≡ log
+  MayBeLeft (Unsynced log before) rs = (rs ≡ log) ⊎ MayBeLeft before rs
+  MayBeLeft (Formatted limit) rs = rs ≡ first_log limit
+  MayBeLeft (Unformatted before limit) rs = MayBeLeft before rs ⊎ (MayFind before [] × (rs ≡ first_log limit))
+  MayBeLeft (LeftBy l) rs = IsLeftBy l rs
+  MayBeLeft (Stopped before) rs = MayBeLeft before rs
 
 abbrev pub last_after : Option Life → Last → Last
 last_after None last = last
@@ -87,9 +106,9 @@ pub record Stage : Type 0 where
   -- whether a status has cut a command off
   pub cut : Bool
 
--- the log disk was handed in with this log
-abbrev pub begin_stage : List Record → Stage
-begin_stage log = record { last = Found log; past = []; life = None; active = []; armed = false; ended = None; cut = false }
+-- the log disk was handed in as this use left it
+abbrev pub begin_stage : Last → Stage
+begin_stage start = record { last = start; past = []; life = None; active = []; armed = false; ended = None; cut = false }
 
 -- pages and writes that may be undone, together, of a format
 abbrev pub room_of : Option ℕ → ℕ
@@ -123,7 +142,7 @@ lives_of (Some l) past = past ++ l ∷ []
 
 -- a stop ends the life, and renews the fuse
 abbrev pub stopped : Stage → Stage
-stopped s = record { last = last_after s.life s.last; past = lives_of s.life s.past; life = None; active = []; armed = false; ended = None; cut = s.cut }
+stopped s = record { last = Stopped (last_after s.life s.last); past = lives_of s.life s.past; life = None; active = []; armed = false; ended = None; cut = s.cut }
 
 abbrev pub done_stage : Stage → Command → List Entry → List Record → Stage
 done_stage s commands.Nothing es found = s
@@ -160,13 +179,17 @@ turn c es end = record { command = c; entries = es; found = []; end = end }
 abbrev pub stage_step : Stage → Turn → Stage
 stage_step s t = stage_after s t.command t.entries t.found t.end
 
-unfoldable pub stage : List Record → List Turn → Stage
-stage log turns = fold stage_step (begin_stage log) turns
+unfoldable pub stage : Last → List Turn → Stage
+stage start turns = fold stage_step (begin_stage start) turns
 
 -- the log of a life so far
 abbrev pub log_of_life : Option Life → List Record
 log_of_life None = []
 log_of_life (Some l) = life_log l.opening l.history
+
+abbrev pub history_of : Option Life → List Entry
+history_of None = []
+history_of (Some l) = l.history
 
 -- ---- which turn may stand where
 
@@ -228,31 +251,55 @@ abbrev pub Commits : Option ℕ → List Entry → Type 0
 Commits None es = ⊥
 Commits (Some tx) es = (session : ℕ) × (lsn : ℕ) × (prev : ℕ) × (es ≡ Rec lsn (kinds.Commit (record { tx = tx; prev = prev })) ∷ Acked session tx ∷ [])
 
--- the commit is entered and isn't acknowledged
-abbrev pub CutCommit : Option ℕ → List Entry → Type 0
-CutCommit None es = ⊥
-CutCommit (Some tx) es = (lsn : ℕ) × (prev : ℕ) × (es ≡ Rec lsn (kinds.Commit (record { tx = tx; prev = prev })) ∷ [])
+-- the transaction begins in a session that has begun none in this life
+abbrev pub Begins : Type 0 → List Entry → List Entry → Type 0
+Begins tells h es = (session : ℕ) × (tx : ℕ) × (tells → last_begun h session ≡ None) × (es ≡ Began session tx ∷ [])
 
--- What a command adds that is done. An `open` finds a log that may be found, a `format` an empty one; commands of a life
--- are done in one that goes on. A disk that tells nothing gives the form alone.
-abbrev pub DoneRow : Type 0 → Stage → Command → List Entry → List Record → Type 0
-DoneRow tells s commands.Nothing es found = es ≡ []
-DoneRow tells s (commands.Format limit) es found = (es ≡ []) × (tells → MayFind s.last [])
-DoneRow tells s commands.Open es found = (es ≡ []) × (tells → MayFind s.last found)
-DoneRow tells s (commands.Begin name) es found = (s.ended ≡ None) × (s.active ≡ []) × (session : ℕ) × (tx : ℕ) × (es ≡ Began session tx ∷ [])
-DoneRow tells s (commands.Ask name request) es found = (s.ended ≡ None) × IsRequestBuilt request × Answers tells (log_of_life s.life) (tx_of s.active name) request es
-DoneRow tells s (commands.Commit name) es found = (s.ended ≡ None) × Commits (tx_of s.active name) es
-DoneRow tells s (commands.Stop keep) es found = es ≡ []
-DoneRow tells s (commands.Fuse device calls) es found = (es ≡ []) × (device ≡ Log)
-DoneRow tells s (commands.Renew device) es found = (es ≡ []) × (device ≡ Log)
-DoneRow tells s _ es found = ⊥
+-- what a command enters
+abbrev pub MayEnter : Type 0 → Stage → Command → List Entry → Type 0
+MayEnter tells s (commands.Begin name) es = Begins tells (history_of s.life) es
+MayEnter tells s (commands.Ask name request) es = Answers tells (log_of_life s.life) (tx_of s.active name) request es
+MayEnter tells s (commands.Commit name) es = Commits (tx_of s.active name) es
+MayEnter tells s _ es = es ≡ []
 
--- what a command had entered when the disk failed
-abbrev pub CutRow : Stage → Command → List Entry → Type 0
-CutRow s (commands.Format limit) es = es ≡ []
-CutRow s commands.Open es = es ≡ []
-CutRow s (commands.Commit name) es = (s.ended ≡ None) × CutCommit (tx_of s.active name) es
-CutRow s _ es = ⊥
+-- an opening is built for the log: it isn't empty, and it has neither losers nor a second page
+pub record IsOpenable (log : List Record) : Type 0 where
+  pub some : log ≢ []
+  pub settled : losers log ≡ []
+  pub one_page : pages log ≡ 1
+
+-- Where a command may be done, and which log an `open` finds: one that may be found, and is built; a `format` finds the
+-- empty one. Commands of a life are done in one that goes on. A disk that tells nothing gives the form alone.
+abbrev pub MayBeDone : Type 0 → Stage → Command → List Record → Type 0
+MayBeDone tells s commands.Nothing found = Unit {0}
+MayBeDone tells s (commands.Format limit) found = tells → MayFind s.last []
+MayBeDone tells s commands.Open found = tells → MayFind s.last found × IsOpenable found
+MayBeDone tells s (commands.Begin name) found = (s.ended ≡ None) × (s.active ≡ [])
+MayBeDone tells s (commands.Ask name request) found = (s.ended ≡ None) × IsRequestBuilt request
+MayBeDone tells s (commands.Commit name) found = s.ended ≡ None
+MayBeDone tells s (commands.Stop keep) found = Unit {0}
+MayBeDone tells s (commands.Fuse device calls) found = device ≡ Log
+MayBeDone tells s (commands.Renew device) found = device ≡ Log
+MayBeDone tells s _ found = ⊥
+
+-- calls of the log may fail in the command
+abbrev pub CallsLog : Command → Type 0
+CallsLog (commands.Format limit) = Unit {0}
+CallsLog commands.Open = Unit {0}
+CallsLog (commands.Commit name) = Unit {0}
+CallsLog _ = ⊥
+
+-- a first part, neither nothing nor all; of nothing it is nothing
+abbrev pub IsPart : List Entry → List Entry → Type 0
+IsPart es rest = ((es ≡ []) × (rest ≡ [])) ⊎ ((es ≢ []) × (rest ≢ []))
+
+-- the log disk failed in a command of a life that goes on, or without one: a part of what it enters was entered
+pub record IsCutOff (tells : Type 0) (s : Stage) (c : Command) (es : List Entry) : Type 0 where
+  pub calls : CallsLog c
+  pub goes : s.ended ≡ None
+  pub rest : List Entry
+  pub enters : MayEnter tells s c (es ++ rest)
+  pub part : IsPart es rest
 
 -- the life's log was durable up to an LSN when it ended: none behind the last, and none before the Commit of an
 -- acknowledged transaction
@@ -273,10 +320,10 @@ EndedRow _ es = ⊥
 
 -- a fault is a line only where the disk's fuse is armed
 abbrev pub Row : Type 0 → Stage → Command → List Entry → List Record → End → Type 0
-Row tells s c es found Done = DoneRow tells s c es found
-Row tells s c es found (LogFault n) = (s.armed ≡ true) × CutRow s c es × (tells → IsEnd (failed_stage s c es).life (end_after s c n))
+Row tells s c es found Done = MayBeDone tells s c found × MayEnter tells s c es
+Row tells s c es found (LogFault n) = (s.armed ≡ true) × IsCutOff tells s c es × (tells → IsEnd (failed_stage s c es).life (end_after s c n))
 Row tells s c es found (Ended n) = (s.ended ≡ Some n) × EndedRow c es
-Row tells s c es found Cut = CutRow s c es
+Row tells s c es found Cut = IsCutOff tells s c es
 
 -- nothing follows a command that a status cut off
 pub record FitsAt (tells : Type 0) (s : Stage) (t : Turn) : Type 0 where
@@ -284,11 +331,11 @@ pub record FitsAt (tells : Type 0) (s : Stage) (t : Turn) : Type 0 where
   pub lawful : IsTrue (is_lawful s t.command)
   pub row : Row tells s t.command t.entries t.found t.end
 
-abbrev pub fits_after : Type 0 → List Record → List Turn → Turn → Type 0
-fits_after tells log before t = FitsAt tells (stage log before) t
+abbrev pub fits_after : Type 0 → Last → List Turn → Turn → Type 0
+fits_after tells start before t = FitsAt tells (stage start before) t
 
-unfoldable pub Fits : Type 0 → List Record → List Turn → Type 0
-Fits tells log turns = AllAlong (fits_after tells log) turns
+unfoldable pub Fits : Type 0 → Last → List Turn → Type 0
+Fits tells start turns = AllAlong (fits_after tells start) turns
 
 -- ---- lives
 

@@ -1,10 +1,10 @@
 //! Runs a script of commands over a store, and prints its transcript.
 //!
-//! The way of a line: `input` reads it, `script` says which command it spells, `turns` has it carried out, in `outside` or
-//! in `life`, and writes the lines that answer it before it reads on. A run is a row of lives, each from an `open` to a
-//! `stop` or to the end of the run. A life is a value that owns what it needs: the log with its disk, and the page in hand
-//! over the history of the life, under a name that `living` picks. Between two lives there is the log disk alone. It is in
-//! a fuse, which lines arm and renew, and which a stop renews.
+//! The way of a line: `line_reader` reads it, `script` says which command it spells, `turns` has it carried out, in
+//! `outside` or in `life`, and writes the lines that answer it before it reads on. A run is a row of lives, each from an
+//! `open` to a `stop` or to the end of the run. A life is a value that owns what it needs: the log with its disk, and the
+//! page in hand over the history of the life, under a name that `living` picks. Between two lives there is the log disk
+//! alone. It is in a fuse, which lines arm and renew, and which a stop renews.
 //!
 //! The layer's promise is the clause `headline` of [`run_words`]. There are turns (`specs/Turns`), each a command with the
 //! entries that it adds to the history of its life. Their commands are those of the lines read, each fits behind those
@@ -14,6 +14,10 @@
 //! back holds such a rest, also after a crash (`specs/LogDisk`). Each status comes for its own cause (`specs/Refusals`,
 //! `specs/Causes`).
 //!
+//! A call may begin with any use that may have left the log disk so (`Last` in `specs/Turns`), and the log disk that it
+//! hands back may be handed to the next call (`laws`). A disk that tells what it keeps and stands for no log is left alone
+//! where its bytes are no block (`specs/Damaged`), and a status shows what they are (`Shows` in `specs/Causes`).
+//!
 //! What a disk tells is said twice: of disks that tell, with what they hold, and of all, with the form of the transcript
 //! alone. Each clause is universal over these views (`View` in `specs/LogDisk`).
 //!
@@ -22,8 +26,7 @@
 #![tactic(auto)]
 
 mod at;
-mod built;
-mod input;
+mod laws;
 mod life;
 mod living;
 mod opened;
@@ -36,8 +39,8 @@ mod status;
 mod stop;
 mod transactions;
 mod turns;
-mod words;
 
+pub use laws::{next_call_law, standing_law};
 pub use run::run_words;
 pub use status::Status;
 

@@ -132,15 +132,15 @@ impl<'a, N: Life, L: Disk> OpenLife<'a, N, L> {
         if self.transactions.is_active(name) {
             return Err(Status::Script { line });
         }
-        if self.transactions.session.is_some() {
-            return Err(Status::NotBuilt { line });
-        }
         match self.log.ended() {
             Some(at) => return match transcript::begin_ended(alloc, name, at) {
                 Ok(out) => Ok(out),
                 Err(_) => Err(Status::Memory),
             },
             None => {}
+        }
+        if self.transactions.session.is_some() {
+            return Err(Status::NotBuilt { line });
         }
         if self.transactions.next >= LIMIT - 1 || !self.has_numbers() {
             return Err(Status::Memory);

@@ -1,19 +1,20 @@
 //! A life, line after line.
+ghost use Rattle.runner.specs.Damaged.{LivedFrom};
 ghost use Rattle.std.specs.Prelude.{◌≡◌, ◌≤◌, ◌↔◌, ℕ, List, [], Option};
 ghost use Rattle.page_ops.specs.Names.{life_names};
 ghost use Rattle.wal_record.specs.declared.record.Record.{Record};
 ghost use Rattle.runner.specs.LogDisk.{View, IsWhole, seen};
-ghost use Rattle.runner.specs.Turns.{Turn};
+ghost use Rattle.runner.specs.Turns.{Last, Turn};
 ghost use Rattle.runner.specs.Machine.{In, IsAt, Within, BeginsOn};
 ghost use Rattle.runner.specs.Clause.{Between, LivedTo};
 ghost use Rattle.runner.specs.Causes.{LivedCause, IsCycled, disk_at};
 
 use crate::at::At;
-use crate::input::Input;
 use crate::life::OpenLife;
 use crate::opened::Opened;
 use crate::status::Status;
 use crate::turns::{Turned, turn_inside};
+use line_reader::Input;
 use media::{Disk, Sink, Source, Vault};
 use operators::Operators;
 use page_ops::{Ground, Life, Tokens, Unnamed};
@@ -37,10 +38,11 @@ pub fn run_from<S: Source, K: Sink, V: Vault, L: Disk>(
     vault: &mut V,
     at: At<L, Opened<L>>,
 ) -> Lived<L>
-    ensures turns { (v : View L.tells) (log : List Record) (left told : Option (List ℕ)) (turns : List Turn) → Between (IsWhole v) log (IsAt (seen L.Disk v) (λ life. In (seen L.Disk v) life.log.log life.standing) at) left told input.old turns (S.left source.old) (K.told sink.old)
-        → LivedTo (seen L.Disk v) log left told input.new (S.left source.new) (K.told sink.new) result }
+    ensures turns { (v : View L.tells) (start : Last) (left told : Option (List ℕ)) (turns : List Turn) → Between (IsWhole v) start (IsAt (seen L.Disk v) (λ life. In (seen L.Disk v) life.log.log life.standing) at) left told input.old turns (S.left source.old) (K.told sink.old)
+        → LivedTo (seen L.Disk v) start left told input.new (S.left source.new) (K.told sink.new) result }
     ensures later { (S.faults source.old ≤ S.faults source.new) × (K.faults sink.old ≤ K.faults sink.new) }
     ensures cause { LivedCause L.Disk (disk_at (λ life. life.log.log.device) at) (S.faults source.old) (S.faults source.new) (K.faults sink.old) (K.faults sink.new) result }
+    ensures from { LivedFrom at result }
     ensures vault { IsCycled V.tells V.told V.faults vault.old vault.new }
 {
     let opened = match at {
@@ -71,8 +73,8 @@ fn run_named<N: Life, S: Source, K: Sink, V: Vault, L: Disk>(
 ) -> Lived<L>
     requires named { unnamed ≡ life_names N.count N.pages N.sessions N.maint N.entries N.session_entries N.log_faults N.vault_faults N.data_faults N.made }
     requires opens { (opening : List Record) → (N.opens opening ↔ BeginsOn L.Disk opened opening) }
-    ensures turns { (v : View L.tells) (log : List Record) (left told : Option (List ℕ)) (turns : List Turn) → Between (IsWhole v) log (In (seen L.Disk v) opened.log.log opened.standing) left told input.old turns (S.left source.old) (K.told sink.old)
-        → LivedTo (seen L.Disk v) log left told input.new (S.left source.new) (K.told sink.new) result }
+    ensures turns { (v : View L.tells) (start : Last) (left told : Option (List ℕ)) (turns : List Turn) → Between (IsWhole v) start (In (seen L.Disk v) opened.log.log opened.standing) left told input.old turns (S.left source.old) (K.told sink.old)
+        → LivedTo (seen L.Disk v) start left told input.new (S.left source.new) (K.told sink.new) result }
     ensures later { (S.faults source.old ≤ S.faults source.new) × (K.faults sink.old ≤ K.faults sink.new) }
     ensures cause { LivedCause L.Disk opened.log.log.device (S.faults source.old) (S.faults source.new) (K.faults sink.old) (K.faults sink.new) result }
     ensures vault { IsCycled V.tells V.told V.faults vault.old vault.new }
@@ -97,8 +99,8 @@ fn run_on<'a, N: Life, S: Source, K: Sink, V: Vault, L: Disk>(
 ) -> Lived<L>
     requires history { (tokens.front ≡ []) × (tokens.pass.log ≡ []) × (tokens.books.pages ≡ []) }
     requires opens { (opening : List Record) → N.opens opening → BeginsOn L.Disk opened opening }
-    ensures turns { (v : View L.tells) (log : List Record) (left told : Option (List ℕ)) (turns : List Turn) → Between (IsWhole v) log (In (seen L.Disk v) opened.log.log opened.standing) left told input.old turns (S.left source.old) (K.told sink.old)
-        → LivedTo (seen L.Disk v) log left told input.new (S.left source.new) (K.told sink.new) result }
+    ensures turns { (v : View L.tells) (start : Last) (left told : Option (List ℕ)) (turns : List Turn) → Between (IsWhole v) start (In (seen L.Disk v) opened.log.log opened.standing) left told input.old turns (S.left source.old) (K.told sink.old)
+        → LivedTo (seen L.Disk v) start left told input.new (S.left source.new) (K.told sink.new) result }
     ensures later { (S.faults source.old ≤ S.faults source.new) × (K.faults sink.old ≤ K.faults sink.new) }
     ensures cause { LivedCause L.Disk opened.log.log.device (S.faults source.old) (S.faults source.new) (K.faults sink.old) (K.faults sink.new) result }
     ensures vault { IsCycled V.tells V.told V.faults vault.old vault.new }
@@ -117,8 +119,8 @@ fn run_life<'a, N: Life, S: Source, K: Sink, V: Vault, L: Disk>(
     vault: &mut V,
     life: OpenLife<'a, N, L>,
 ) -> Lived<L>
-    ensures turns { (v : View L.tells) (log : List Record) (left told : Option (List ℕ)) (turns : List Turn) → Between (IsWhole v) log (Within (seen L.Disk v) life.entry.log life.entry.leaf life.entry.transactions) left told input.old turns (S.left source.old) (K.told sink.old)
-        → LivedTo (seen L.Disk v) log left told input.new (S.left source.new) (K.told sink.new) result }
+    ensures turns { (v : View L.tells) (start : Last) (left told : Option (List ℕ)) (turns : List Turn) → Between (IsWhole v) start (Within (seen L.Disk v) life.entry.log life.entry.leaf life.entry.transactions) left told input.old turns (S.left source.old) (K.told sink.old)
+        → LivedTo (seen L.Disk v) start left told input.new (S.left source.new) (K.told sink.new) result }
     ensures later { (S.faults source.old ≤ S.faults source.new) × (K.faults sink.old ≤ K.faults sink.new) }
     ensures cause { LivedCause L.Disk life.entry.log.log.device (S.faults source.old) (S.faults source.new) (K.faults sink.old) (K.faults sink.new) result }
     ensures vault { IsCycled V.tells V.told V.faults vault.old vault.new }

@@ -1,4 +1,5 @@
 //! Commands where no life is open.
+ghost use Rattle.runner.specs.Damaged.{SteppedAlone};
 ghost use Rattle.std.specs.Prelude.{◌≡◌, ◌≤◌, ◌<◌, ◌^◌, codes, IfOk, IfErr};
 ghost use Rattle.wal_record.specs.Rules.{is_limit};
 ghost use Rattle.runner.specs.Causes.{SteppedCause};
@@ -34,6 +35,7 @@ pub fn step<L: Disk>(
 ) -> Stepped<L, Opened<L>>
     ensures turns { (v : View L.tells) (s : Stage) → Out (seen L.Disk v) disk s → Steps (seen L.Disk v) (λ life. In (seen L.Disk v) life.log.log life.standing) s command.now line result }
     ensures cause { SteppedCause L.Disk (λ life. life.log.log.device) disk result }
+    ensures alone { SteppedAlone L.Disk disk result }
 {
     match command {
         Command::Nothing => Stepped::Goes {
@@ -65,6 +67,7 @@ pub fn step<L: Disk>(
 fn format<L: Disk>(alloc: Global, disk: L, limit: Option<u32>, line: u64) -> Stepped<L, Opened<L>>
     ensures turns { (v : View L.tells) (s : Stage) → Out (seen L.Disk v) disk s → Steps (seen L.Disk v) (λ life. In (seen L.Disk v) life.log.log life.standing) s (commands.Format limit) line result }
     ensures cause { SteppedCause L.Disk (λ life. life.log.log.device) disk result }
+    ensures alone { SteppedAlone L.Disk disk result }
 {
     let room = limit.unwrap_or(ROOM);
     if !is_room(room) {
@@ -118,6 +121,7 @@ fn format_lines(alloc: Global) -> Result<(Vec<u8>, Vec<u8>), Status>
 fn opens<L: Disk>(alloc: Global, operators: &Operators, disk: L, line: u64) -> Stepped<L, Opened<L>>
     ensures turns { (v : View L.tells) (s : Stage) → Out (seen L.Disk v) disk s → Steps (seen L.Disk v) (λ life. In (seen L.Disk v) life.log.log life.standing) s commands.Open line result }
     ensures cause { SteppedCause L.Disk (λ life. life.log.log.device) disk result }
+    ensures alone { SteppedAlone L.Disk disk result }
 {
     let refused = disk.refused();
     if refused >= MOST {
@@ -134,7 +138,7 @@ fn opens<L: Disk>(alloc: Global, operators: &Operators, disk: L, line: u64) -> S
         },
     };
     match open(alloc, operators, disk, line) {
-        Ok(life) => match transcript::open_line(alloc, life.commits()) {
+        Ok(life) => match transcript::open_line(alloc, life.commits(), 0) {
             Ok(lines) => Stepped::Goes {
                 lines,
                 at: At::Inside { life },
@@ -185,6 +189,7 @@ fn fuse<L: Disk>(
 ) -> Stepped<L, Opened<L>>
     ensures turns { (v : View L.tells) (s : Stage) → Out (seen L.Disk v) disk s → Steps (seen L.Disk v) (λ life. In (seen L.Disk v) life.log.log life.standing) s (commands.Fuse device calls) line result }
     ensures cause { SteppedCause L.Disk (λ life. life.log.log.device) disk result }
+    ensures alone { SteppedAlone L.Disk disk result }
 {
     let mut disk = disk;
     if device != Device::Log {
@@ -212,6 +217,7 @@ fn fuse<L: Disk>(
 fn renew<L: Disk>(alloc: Global, disk: L, device: Device, line: u64) -> Stepped<L, Opened<L>>
     ensures turns { (v : View L.tells) (s : Stage) → Out (seen L.Disk v) disk s → Steps (seen L.Disk v) (λ life. In (seen L.Disk v) life.log.log life.standing) s (commands.Renew device) line result }
     ensures cause { SteppedCause L.Disk (λ life. life.log.log.device) disk result }
+    ensures alone { SteppedAlone L.Disk disk result }
 {
     let mut disk = disk;
     if device != Device::Log {

@@ -1,28 +1,29 @@
 //! A whole run.
+ghost use Rattle.runner.specs.Damaged.{LeavesAlone};
 ghost use Rattle.std.specs.Prelude.{◌≡◌, ◌≢◌, ◌≤◌, ◌↔◌, ℕ, List, map, true, false};
 ghost use Rattle.media.specs.Cause.{Rose};
 ghost use Rattle.wal_record.specs.declared.record.Record.{Record};
-ghost use Rattle.log_manager.specs.Devices.{DevicesStandFor};
-ghost use Rattle.runner.specs.Lines.{to_come, IsBounded};
-ghost use Rattle.runner.specs.LogDisk.{View, IsWhole, seen};
-ghost use Rattle.runner.specs.Turns.{begin_stage};
+ghost use Rattle.line_reader.specs.Lines.{to_come, IsBounded};
+ghost use Rattle.runner.specs.LogDisk.{View, IsWhole, Keeps, seen};
+ghost use Rattle.runner.specs.Turns.{Last, begin_stage};
 ghost use Rattle.runner.specs.Machine.{Out};
 ghost use Rattle.runner.specs.Clause.{Headline};
 ghost use Rattle.runner.specs.Causes.{RunCause, Shows, IsAsked, IsCycled};
-ghost use Rattle.runner.specs.Usage.{is_call};
+ghost use Rattle.call_words.specs.Calls.{call_of};
+ghost use Rattle.runner.specs.Usage.{AsksRun, ByWords, IsUnbegun};
 ghost use Rattle.runner.specs.declared.status.Status.TheVariants as statuses;
 
-use crate::input::Input;
 use crate::living::{Lived, run_from};
 use crate::status::Status;
 use crate::turns::{Turned, turn_outside};
-use crate::words::is_call;
+use call_words::{Mode, Refusal, call_of};
+use line_reader::Input;
 use media::{Devices, Disk, Fuse, PageDevice, Sink, Source, Vault};
 use operators::Operators;
 use std::alloc::Global;
 
-/// Runs the script that the source has, prints its transcript to the sink, and hands the devices back. The words are
-/// none, or `run`.
+/// Runs the script that the source has, prints its transcript to the sink, and hands the devices back. The words are those
+/// of a call behind its place (`call_words`). Workers and frames have no effect, and no script is generated yet.
 pub fn run_words<S: Source, K: Sink, L: Disk, P: PageDevice, V: Vault>(
     alloc: Global,
     words: &[String],
@@ -31,22 +32,25 @@ pub fn run_words<S: Source, K: Sink, L: Disk, P: PageDevice, V: Vault>(
     devices: Devices<L, P, V>,
     operators: &Operators,
 ) -> (Status, Devices<L, P, V>)
-    // Of every log for which the devices stand: there are turns whose commands are those of the lines read; each fits
-    // behind those before it, and each life opens a log that the stop before may have left, or that was handed in or
+    // Of every use that may have left the log disk so: there are turns whose commands are those of the lines read; each
+    // fits behind those before it, and each life opens a log that the stop before may have left, or that was handed in or
     // made; their text is what was written; and each life of theirs is legal, has the replies of a serial run, and
     // whatever a stop may leave of it has its first transactions. The log disk that is handed back keeps a log that may
-    // be found next, also after any crash. What the reader has read and given to no line yet is still pending; at most
-    // the longest script is read, and one byte more.
-    ensures headline { (v : View L.tells) (log : List Record) → (IsWhole v → DevicesStandFor L.told L.may_leave devices.log log)
-        → (pending : List ℕ) × Headline (seen L.Disk v) log result.1.log (S.left source.old) pending (S.left source.new) (K.told sink.old) (K.told sink.new) result.0 }
+    // be found next, also after any crash, so it may be handed to the next call. What the reader has read and given to no
+    // line yet is still pending; at most the longest script is read, and one byte more.
+    ensures headline { (v : View L.tells) (start : Last) → (IsWhole v → Keeps L.Disk start devices.log)
+        → (pending : List ℕ) × Headline (seen L.Disk v) start result.1.log (S.left source.old) pending (S.left source.new) (K.told sink.old) (K.told sink.new) result.0 }
 
-    // Where the words are a call, the devices stand for a log, and no device failed, the run is done, the script asked
-    // for its end, or memory ran out.
-    ensures complete { is_call (map (λ word. word.bytes.items) words.now) ≡ true → L.tells → (log : List Record) → DevicesStandFor L.told L.may_leave devices.log log
+    // Where the words are a call, the log disk keeps a log, and no device failed, the run is done, the script asked for
+    // its end, or memory ran out.
+    ensures complete { AsksRun (call_of (map (λ word. word.bytes.items) words.now)) → L.tells → (start : Last) → Keeps L.Disk start devices.log
         → (Rose (S.faults source.old) (S.faults source.new) → ⊥) → (Rose (K.faults sink.old) (K.faults sink.new) → ⊥) → (Rose (L.faults devices.log) (L.faults result.1.log) → ⊥) → IsAsked result.0 }
 
-    // The words decide alone whether they are a call.
-    ensures usage { (result.0 ≡ statuses.Usage) ↔ (is_call (map (λ word. word.bytes.items) words.now) ≡ false) }
+    // The words alone decide whether they are a call, and of which script; want of memory is free.
+    ensures usage { ByWords (call_of (map (λ word. word.bytes.items) words.now)) result.0 }
+
+    // Where they don't ask for a run, nothing is read, written or run.
+    ensures untouched { IsUnbegun result.0 → (result.1 ≡ devices) × (source.new ≡ source.old) × (sink.new ≡ sink.old) }
 
     // A device's fault ends the run only where that device's own count of faults rose in this call.
     ensures source { result.0 ≡ statuses.SourceFault → Rose (S.faults source.old) (S.faults source.new) }
@@ -55,16 +59,27 @@ pub fn run_words<S: Source, K: Sink, L: Disk, P: PageDevice, V: Vault>(
     ensures later { L.faults devices.log ≤ L.faults result.1.log }
     ensures shows { Shows L.Disk result.1.log result.0 }
 
+    // A disk with an open gate before bytes that are no block is left alone: no byte of it changes, whatever is run.
+    ensures alone { LeavesAlone L.Disk devices.log result.1.log }
+
     // The data device is as it was; the vault too, but for stops of the machine.
     ensures pages { result.1.pages ≡ devices.pages }
     ensures vault { IsCycled V.tells V.told V.faults devices.vault result.1.vault }
 {
-    if !is_call(words) {
-        return (Status::Usage, devices);
+    let call = match call_of(alloc, words) {
+        Ok(call) => call,
+        Err(refusal) => match refusal {
+            Refusal::Memory => return (Status::Memory, devices),
+            Refusal::Usage => return (Status::Usage, devices),
+        },
+    };
+    match call.mode {
+        Mode::Run => {}
+        Mode::Generate(_) => return (Status::NoGenerator, devices),
     }
     let mut input = match Input::new(alloc) {
         Ok(input) => input,
-        Err(status) => return (status, devices),
+        Err(_) => return (Status::Memory, devices),
     };
     let Devices { log, pages, vault } = devices;
     let mut vault = vault;
@@ -98,11 +113,12 @@ fn run<S: Source, K: Sink, V: Vault, L: Disk>(
     disk: L,
 ) -> (Status, L)
     requires { (input.old.lines ≡ 0) × (input.old.taken ≡ 0) × IsBounded input.old }
-    ensures headline { (v : View L.tells) (log : List Record) → Out (seen L.Disk v) disk (begin_stage log) → Headline (seen L.Disk v) log result.1 (to_come input.old (S.left source.old)) input.new.pending (S.left source.new) (K.told sink.old) (K.told sink.new) result.0 }
+    ensures headline { (v : View L.tells) (start : Last) → Out (seen L.Disk v) disk (begin_stage start) → Headline (seen L.Disk v) start result.1 (to_come input.old (S.left source.old)) input.new.pending (S.left source.new) (K.told sink.old) (K.told sink.new) result.0 }
     ensures later { (S.faults source.old ≤ S.faults source.new) × (K.faults sink.old ≤ K.faults sink.new) × (L.own disk ≤ L.own result.1) }
     ensures cause { RunCause (S.faults source.old) (S.faults source.new) (K.faults sink.old) (K.faults sink.new) (L.own disk) (L.own result.1) result.0 }
     ensures shows { Shows L.Disk result.1 result.0 }
-    ensures called { result.0 ≢ statuses.Usage }
+    ensures alone { LeavesAlone L.Disk disk result.1 }
+    ensures called { (result.0 ≢ statuses.Usage) × (result.0 ≢ statuses.NoGenerator) }
     ensures vault { IsCycled V.tells V.told V.faults vault.old vault.new }
 {
     let mut disk = disk;

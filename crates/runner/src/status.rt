@@ -11,8 +11,10 @@ pub enum Status {
     Done,
     /// Want of memory.
     Memory,
-    /// The words of the call are in no grammar.
+    /// The words are no call.
     Usage,
+    /// The words ask for a generated script, and none is generated yet.
+    NoGenerator,
     /// No script goes on with this line, or its command isn't lawful there, or the input ends within it.
     Script { line: u64 },
     /// The source failed.
@@ -42,6 +44,7 @@ impl Status {
             Status::Done => 0,
             Status::Memory => 1,
             Status::Usage => 2,
+            Status::NoGenerator => 12,
             Status::Script { line: _ } => 3,
             Status::SourceFault => 4,
             Status::SinkFault => 5,
@@ -61,6 +64,7 @@ impl fmt::Display for Status {
             Status::Done => f.write_str("done"),
             Status::Memory => f.write_str("out of memory"),
             Status::Usage => f.write_str("usage"),
+            Status::NoGenerator => f.write_str("generate is not built"),
             Status::Script { line } => write!(f, "script fault in line {line}"),
             Status::SourceFault => f.write_str("input failed"),
             Status::SinkFault => f.write_str("output failed"),

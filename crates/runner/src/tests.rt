@@ -254,7 +254,7 @@ const FUSED: [(&[u8], &[u8]); 5] = [
     ),
     (
         b"fuse log 0\ncommit A\nrenew log\ncommit A\nput A x 2\nbegin B\nget A x\n",
-        b"fuse log 0\nA commit log failed\nrenew log\nA commit ended 1\nA put x ended 1\n",
+        b"fuse log 0\nA commit log failed\nrenew log\nA commit ended 1\nA put x ended 1\nB begin ended 1\nA get x ended 1\n",
     ),
 ];
 

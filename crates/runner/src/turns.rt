@@ -1,20 +1,19 @@
 //! One line of a run.
+ghost use Rattle.runner.specs.Damaged.{TurnedAlone};
 ghost use Rattle.std.specs.Prelude.{◌≡◌, ◌≤◌, ℕ, List, Option, IfErr};
-ghost use Rattle.wal_record.specs.declared.record.Record.{Record};
-ghost use Rattle.runner.specs.Lines.{IsBounded};
+ghost use Rattle.line_reader.specs.Lines.{IsBounded};
 ghost use Rattle.runner.specs.LogDisk.{View, IsWhole, seen};
-ghost use Rattle.runner.specs.Turns.{Turn};
+ghost use Rattle.runner.specs.Turns.{Last, Turn};
 ghost use Rattle.runner.specs.Machine.{Out, In, Within};
 ghost use Rattle.runner.specs.Clause.{Between, TakesCommand, TurnedTo};
 ghost use Rattle.runner.specs.Causes.{LineCause, TurnedCause, IsCycled};
 
 use crate::at::{At, Stepped, disk_inside, disk_opened, step_inside};
-use crate::built::is_built;
-use crate::input::{Input, Next};
 use crate::life::OpenLife;
 use crate::opened::Opened;
 use crate::outside;
 use crate::status::Status;
+use line_reader::{Input, Next, NotRead, is_built};
 use media::{Disk, Sink, Source, Vault, write_all};
 use operators::Operators;
 use page_ops::Life;
@@ -38,10 +37,11 @@ pub fn turn_outside<S: Source, K: Sink, V: Vault, L: Disk>(
     vault: &mut V,
     disk: L,
 ) -> Turned<L, Opened<L>>
-    ensures turns { (v : View L.tells) (log : List Record) (left told : Option (List ℕ)) (turns : List Turn) → Between (IsWhole v) log (Out (seen L.Disk v) disk) left told input.old turns (S.left source.old) (K.told sink.old)
-        → TurnedTo (seen L.Disk v) log (λ life. In (seen L.Disk v) life.log.log life.standing) left told input.new turns (S.left source.new) (K.told sink.new) result }
+    ensures turns { (v : View L.tells) (start : Last) (left told : Option (List ℕ)) (turns : List Turn) → Between (IsWhole v) start (Out (seen L.Disk v) disk) left told input.old turns (S.left source.old) (K.told sink.old)
+        → TurnedTo (seen L.Disk v) start (λ life. In (seen L.Disk v) life.log.log life.standing) left told input.new turns (S.left source.new) (K.told sink.new) result }
     ensures later { (S.faults source.old ≤ S.faults source.new) × (K.faults sink.old ≤ K.faults sink.new) }
     ensures cause { TurnedCause L.Disk (λ life. life.log.log.device) disk (S.faults source.old) (S.faults source.new) (K.faults sink.old) (K.faults sink.new) result }
+    ensures alone { TurnedAlone L.Disk disk result }
     ensures vault { IsCycled V.tells V.told V.faults vault.old vault.new }
 {
     let (command, line) = match next_command(alloc, input, source) {
@@ -75,8 +75,8 @@ pub fn turn_inside<'a, N: Life, S: Source, K: Sink, V: Vault, L: Disk>(
     vault: &mut V,
     life: OpenLife<'a, N, L>,
 ) -> Turned<L, OpenLife<'a, N, L>>
-    ensures turns { (v : View L.tells) (log : List Record) (left told : Option (List ℕ)) (turns : List Turn) → Between (IsWhole v) log (Within (seen L.Disk v) life.entry.log life.entry.leaf life.entry.transactions) left told input.old turns (S.left source.old) (K.told sink.old)
-        → TurnedTo (seen L.Disk v) log (λ life. Within (seen L.Disk v) life.log life.leaf life.transactions) left told input.new turns (S.left source.new) (K.told sink.new) result }
+    ensures turns { (v : View L.tells) (start : Last) (left told : Option (List ℕ)) (turns : List Turn) → Between (IsWhole v) start (Within (seen L.Disk v) life.entry.log life.entry.leaf life.entry.transactions) left told input.old turns (S.left source.old) (K.told sink.old)
+        → TurnedTo (seen L.Disk v) start (λ life. Within (seen L.Disk v) life.log life.leaf life.transactions) left told input.new turns (S.left source.new) (K.told sink.new) result }
     ensures later { (S.faults source.old ≤ S.faults source.new) × (K.faults sink.old ≤ K.faults sink.new) }
     ensures cause { TurnedCause L.Disk (λ life. life.log.log.device) life.entry.log.log.device (S.faults source.old) (S.faults source.new) (K.faults sink.old) (K.faults sink.new) result }
     ensures vault { IsCycled V.tells V.told V.faults vault.old vault.new }
@@ -131,7 +131,10 @@ fn next_command<S: Source>(
         Ok(Next::Line(text)) => text,
         Ok(Next::End) => return Ok(None),
         Ok(Next::Bad) => return Err(Status::Script { line }),
-        Err(status) => return Err(status),
+        Err(why) => match why {
+            NotRead::Memory => return Err(Status::Memory),
+            NotRead::SourceFault => return Err(Status::SourceFault),
+        },
     };
     if !is_built(&text) {
         return Err(Status::NotBuilt { line });

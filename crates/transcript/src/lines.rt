@@ -93,14 +93,16 @@ pub fn format_failed(alloc: Global) -> Result<Vec<u8>, AllocError>
     Ok(out)
 }
 
-/// `open commits=C losers=0`.
-pub fn open_line(alloc: Global, commits: u64) -> Result<Vec<u8>, AllocError>
-    ensures { IfOk result (λ out. out.items ≡ codes "open commits=" ++ decimal commits ++ codes " losers=0\n") }
+/// `open commits=C losers=L`.
+pub fn open_line(alloc: Global, commits: u64, losers: u64) -> Result<Vec<u8>, AllocError>
+    ensures { IfOk result (λ out. out.items ≡ codes "open commits=" ++ decimal commits ++ codes " losers=" ++ decimal losers ++ codes "\n") }
 {
     let mut out = Vec::new(alloc);
     add(&mut out, b"open commits=".as_slice())?;
     add_number(&mut out, commits)?;
-    add(&mut out, b" losers=0\n".as_slice())?;
+    add(&mut out, b" losers=".as_slice())?;
+    add_number(&mut out, losers)?;
+    add(&mut out, b"\n".as_slice())?;
     Ok(out)
 }
 

@@ -1,5 +1,5 @@
 use Rattle.std.proofs.Common.{◌≡◌, true, false, sym, ◌∙◌}
-use Rattle.log_replay.proofs.Opening.{first_kept, whole_log, found_answer, unread_answer, on_ok, no_fault, none_bad}
+use Rattle.log_replay.proofs.Opening.{first_kept, whole_log, found_answer, unread_answer, on_ok, no_fault, no_page, none_bad}
 use Rattle.log_replay.proofs.reading.replay.Goals as goal
 
 pub returns-in-Ok-clause-met : goal.returns-in-Ok-clause-met
@@ -28,4 +28,4 @@ returns-in-Err-clause-bad g c = λ t bs d.
     c.in-Err.ensures.bad t bs d one
 
 pub returns-in-Ok-clause-bad : goal.returns-in-Ok-clause-bad
-returns-in-Ok-clause-bad g c = λ t bs d. none_bad bs c.found.result c.found.ensures.kind
+returns-in-Ok-clause-bad g c = λ t bs d. none_bad bs c.found.result (λ is. no_page _ bs c.in-Ok.replay d.stands.sequence.run (c.in-Ok.ensures.read t bs d) (c.found.ensures.empty is)) c.found.ensures.kind

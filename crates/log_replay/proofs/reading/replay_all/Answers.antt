@@ -1,6 +1,6 @@
-use Rattle.std.proofs.Common.{rules, ◌+◌, ◌<◌, ◌++◌, length, arith}
+use Rattle.std.proofs.Common.{rules, ◌+◌, ◌<◌, ◌++◌, length, ◌∙◌, arith}
 use Rattle.media.proofs.Blaming.{then_more}
-use Rattle.log_replay.proofs.ReadBlocks.{block_bad, block_now, block_unread, count_now, counted_now, next_now, payload_now, replayed_all, replayed_more, same_count}
+use Rattle.log_replay.proofs.ReadBlocks.{block_bad, block_now, block_unread, count_now, counted_now, next_now, payload_now, all_read, replayed_all, replayed_more, same_count}
 use Rattle.log_replay.proofs.reading.replay_all.Goals as goal
 
 pub loop-block-preserved : goal.loop-block-preserved
@@ -11,6 +11,7 @@ loop-block-preserved g c =
       same = (search rules);
       live = (search rules);
       durable = (search rules);
+      told = λ t. c.in-Ok.ensures.told t ∙ c.loop-block.invariant.told t;
       faults = (search rules);
       fuse = then_more g.L.Disk.passes g.L.Disk.refused g.L.Disk.own _ _ _ ⊥ ⊥ c.loop-block.invariant.fuse (λ (x : ⊥). x) c.in-Ok.ensures.fuse;
       replayed = (log.0 ++ taken.0, taken.2 log.0 log.1);
@@ -50,3 +51,9 @@ returns-clause-met g c = λ t bs rs d a one lawful.
       replayed_all bs c.loop-block.block c.loop-block.replay (omega (arith, count, same, c.loop-block-test.false, c.blocks-block-end.ensures.value)) (c.loop-block.invariant.so_far t bs d) rs a,
       next_now g.L.Disk.told g.L.Disk.may_leave c.args.log.now c.loop-block.log bs d c.requires.fresh c.loop-block.invariant.same rs a one c.blocks-block-end.ensures.numbered,
     )
+
+pub returns-clause-read : goal.returns-clause-read
+returns-clause-read g c = λ t bs d.
+    let count = count_now g.L.Disk.told g.L.Disk.may_leave c.args.log.now c.loop-block.log bs d c.requires.fresh c.loop-block.invariant.same in
+    let same = same_count c.args.log.now c.loop-block.log c.loop-block.invariant.same in
+    all_read bs c.loop-block.block c.loop-block.replay (omega (arith, count, same, c.loop-block-test.false, c.blocks-block-end.ensures.value)) (c.loop-block.invariant.so_far t bs d)

@@ -11,6 +11,7 @@ invariant-loop-block g l = record {
   same : l.log ≡ record l.fn.log { device = l.log.device; ended = l.log.ended };
   live : ◌≡◌ {A = Option ℕ} l.log.ended None;
   durable : g.L.Disk.tells → (bs : List Block) → IsDurable g.L.Disk.told g.L.Disk.may_leave l.fn.log bs → IsDurable g.L.Disk.told g.L.Disk.may_leave l.log bs;
+  told : g.L.Disk.tells → g.L.Disk.told l.log.device ≡ g.L.Disk.told l.fn.log.device;
   faults : g.L.Disk.faults l.fn.log.device ≤ g.L.Disk.faults l.log.device;
   fuse : Blames g.L.Disk.passes g.L.Disk.refused g.L.Disk.own l.fn.log.device l.log.device ⊥;
   replayed : HasReplayed l.replay;

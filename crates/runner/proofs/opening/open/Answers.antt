@@ -1,9 +1,11 @@
 use Rattle.std.proofs.Common.{sym, subst, ◌∙◌, ◌≡◌}
+use Rattle.runner.specs.Causes.{Shows}
 use Rattle.runner.specs.LogDisk.{seen}
 use Rattle.runner.specs.Openings.{IsNotBegun}
+use Rattle.runner.proofs.Alone.{alone_by, alone_unless, match_both, not_damaged}
 use Rattle.runner.proofs.Commands.{err_map}
 use Rattle.runner.proofs.Lives.{crashed, tells_of}
-use Rattle.runner.proofs.Openings.{read_refused, replay_refused, open_no_memory, did_begin_life, ok_map}
+use Rattle.runner.proofs.Openings.{read_refused, read_shows, replay_refused, replay_shows, open_no_memory, did_begin_life, ok_map}
 use Rattle.runner.proofs.opening.open.Goals as goal
 
 pub returns-in-Err-clause-not : goal.returns-in-Err-clause-not
@@ -20,3 +22,25 @@ returns-in-Ok-replay-clause-not g c = err_map c.begin.result _ _ (λ r k v. subs
 pub returns-in-Err-replay-clause-not : goal.returns-in-Err-replay-clause-not
 returns-in-Err-replay-clause-not g c = λ v. subst (λ (d : g.row.L.Denot). IsNotBegun (seen g.L.Disk v) c.args.line c.args.disk d c.not_replayed.result) (sym c.into_device.ensures)
     (replay_refused c.one_log.ensures (seen g.L.Disk v) c.args.disk c.in-Ok.log c.replay.new.log (λ t. c.in-Ok.ensures.blocks (tells_of v t)) (λ t. c.in-Ok.ensures.same (tells_of v t)) (λ t bs d. c.replay.ensures.durable (tells_of v t) bs d) c.args.line c.in-Err-replay.why c.not_replayed.result c.not_replayed.ensures (λ t bs rs d r sound. c.in-Err-replay.ensures.met (tells_of v t) bs rs d r sound))
+
+pub returns-in-Err-clause-shows : goal.returns-in-Err-clause-shows
+returns-in-Err-clause-shows g c = read_shows c.never_bad.ensures g.L.Disk c.args.disk c.in-Err.refused.disk c.in-Err.ensures.same (crashed g.L.Disk c.args.disk c.in-Err.refused.disk _ c.in-Err.ensures.any_moment (λ t k le m. g.met.L.Disk.counts_now c.in-Err.refused.disk t k le m))
+    c.in-Err.refused.fault c.not_read.result c.not_read.ensures c.in-Err.ensures.bad
+
+pub returns-in-Ok-replay-clause-shows : goal.returns-in-Ok-replay-clause-shows
+returns-in-Ok-replay-clause-shows g c = err_map c.begin.result _ _ (λ r k. subst (Shows g.L.Disk r.disk) (sym k.1) tt) c.begin.ensures.not
+
+pub returns-in-Err-replay-clause-shows : goal.returns-in-Err-replay-clause-shows
+returns-in-Err-replay-clause-shows g c = subst (λ (d : g.row.L.Denot). Shows g.L.Disk d c.not_replayed.result) (sym c.into_device.ensures)
+    (replay_shows c.one_log.ensures g.L.Disk c.args.disk c.in-Ok.log c.replay.new.log c.in-Ok.ensures.blocks c.in-Ok.ensures.same c.replay.ensures.durable c.args.line c.in-Err-replay.why c.not_replayed.result c.not_replayed.ensures c.in-Err-replay.ensures.bad)
+
+pub returns-in-Err-clause-alone : goal.returns-in-Err-clause-alone
+returns-in-Err-clause-alone g c = alone_by g.L.Disk c.args.disk c.in-Err.refused.disk c.in-Err.ensures.same (crashed g.L.Disk c.args.disk c.in-Err.refused.disk _ c.in-Err.ensures.any_moment (λ t k le m. g.met.L.Disk.counts_now c.in-Err.refused.disk t k le m))
+
+pub returns-in-Ok-replay-clause-alone : goal.returns-in-Ok-replay-clause-alone
+returns-in-Ok-replay-clause-alone g c =
+    let never = not_damaged g.L.Disk c.never_bad.ensures c.args.disk c.in-Ok.log c.in-Ok.ensures.blocks c.in-Ok.ensures.same in
+    match_both c.begin.result _ _ (λ life. never) (λ r. alone_unless g.L.Disk c.args.disk r.disk never)
+
+pub returns-in-Err-replay-clause-alone : goal.returns-in-Err-replay-clause-alone
+returns-in-Err-replay-clause-alone g c = alone_unless g.L.Disk c.args.disk c.into_device.result (not_damaged g.L.Disk c.never_bad.ensures c.args.disk c.in-Ok.log c.in-Ok.ensures.blocks c.in-Ok.ensures.same)

@@ -11,7 +11,7 @@ pub returns-then-is_active-clause-err : goal.returns-then-is_active-clause-err
 returns-then-is_active-clause-err g c = λ v s h. unlawful (seen g.L.Disk v) s _ _ h (commands.Begin c.args.name.now) c.args.line (begun_twice (seen g.L.Disk v) s _ _ h c.args.name.now (sym c.is_active.ensures ∙ c.if-is_active.true))
 
 pub returns-then-is_some-clause-err : goal.returns-then-is_some-clause-err
-returns-then-is_some-clause-err g c = λ v s h. begun_beside (seen g.L.Disk v) s _ _ h c.args.name.now c.args.line (sym c.is_active.ensures ∙ c.if-is_active.false) (search rules)
+returns-then-is_some-clause-err g c = λ v s h. begun_beside (seen g.L.Disk v) s _ _ h c.args.name.now c.args.line (search rules) (sym c.is_active.ensures ∙ c.if-is_active.false) (search rules)
 
 pub returns-in-Ok-clause-ok : goal.returns-in-Ok-clause-ok
 returns-in-Ok-clause-ok g c = λ v s h. did_end (seen g.L.Disk v) s _ _ h (commands.Begin c.args.name.now) c.in-Some.at c.in-Ok.out.items (sym c.ended.ensures ∙ c.in-Some.is) (may_begin (seen g.L.Disk v) s _ _ h c.args.name.now (sym c.is_active.ensures ∙ c.if-is_active.false)) refl c.in-Ok.ensures

@@ -5,14 +5,14 @@ use Rattle.std.specs.declared.result.Result.{Result}
 use Rattle.std.specs.declared.result.Result.TheVariants.{Ok, Err}
 use Rattle.std.specs.Io.KnownBytes.{Consumes, IsAtEnd, prepend_known}
 use Rattle.media.specs.Cause.{Rose}
-use Rattle.runner.specs.declared.status.Status.{Status}
-use Rattle.runner.specs.declared.status.Status.TheVariants as statuses
-use Rattle.runner.specs.declared.input.Byte.{Byte}
-use Rattle.runner.specs.declared.input.Byte.TheVariants as bytes
-use Rattle.runner.specs.declared.input.Filled.{Filled}
-use Rattle.runner.specs.declared.input.Filled.TheVariants as fills
-use Rattle.runner.specs.declared.input.Next.{Next}
-use Rattle.runner.specs.declared.input.Next.TheVariants as nexts
+use Rattle.line_reader.specs.declared.refusal.NotRead.{NotRead}
+use Rattle.line_reader.specs.declared.refusal.NotRead.TheVariants as refusals
+use Rattle.line_reader.specs.declared.input.Byte.{Byte}
+use Rattle.line_reader.specs.declared.input.Byte.TheVariants as bytes
+use Rattle.line_reader.specs.declared.input.Filled.{Filled}
+use Rattle.line_reader.specs.declared.input.Filled.TheVariants as fills
+use Rattle.line_reader.specs.declared.input.Next.{Next}
+use Rattle.line_reader.specs.declared.input.Next.TheVariants as nexts
 
 -- the most bytes of a line, with its end, and of a script
 abbrev pub longest_line : ℕ
@@ -65,10 +65,14 @@ abbrev pub CountsByte : {E : Type 0} → Reader → Reader → Result Byte E →
 CountsByte old new (Ok (bytes.One b)) = (new.taken ≡ old.taken + 1) × (new.lines ≡ old.lines) × (new.lines < new.taken)
 CountsByte old new _ = (new.taken ≡ old.taken) × (new.lines ≡ old.lines)
 
+-- the bytes are of one line: a line end stands at their own end, or nowhere
+abbrev pub IsOfOneLine : List ℕ → Type 0
+IsOfOneLine rest = (has_end rest ≡ false) ⊎ ((line : List ℕ) × (rest ≡ line ++ 10 ∷ []) × (has_end line ≡ false))
+
 -- why these bytes begin no line of a script that had so many bytes before: they are too many for a line, or the input
--- ends within the line, or the script gets too long
+-- ends within the line, or the script gets too long within the line or with its end
 abbrev pub IsNoLine : ℕ → List ℕ → Option (List ℕ) → Type 0
-IsNoLine before rest left = ((has_end rest ≡ false) × ((2048 ≤ length rest) ⊎ ((0 < length rest) × IsAtEnd left))) ⊎ (longest_script < before + length rest)
+IsNoLine before rest left = ((has_end rest ≡ false) × ((2048 ≤ length rest) ⊎ ((0 < length rest) × IsAtEnd left))) ⊎ (IsOfOneLine rest × (longest_script < before + length rest))
 
 -- the input ends behind these bytes of a line
 abbrev pub ended : List ℕ → Next
@@ -86,7 +90,6 @@ TakesLine old new left_old left_new (Ok next) = TakesNext old new left_old left_
 TakesLine old new left_old left_new (Err e) = (rest : List ℕ) × Consumes (to_come old left_old) (to_come new left_new) rest × (new.taken ≡ old.taken + length rest)
 
 -- a line isn't read for want of memory, or since the source failed
-abbrev pub IsReadFault : ℕ → ℕ → Status → Type 0
-IsReadFault before now statuses.Memory = Unit {0}
-IsReadFault before now statuses.SourceFault = Rose before now
-IsReadFault before now _ = ⊥
+abbrev pub IsReadFault : ℕ → ℕ → NotRead → Type 0
+IsReadFault before now refusals.Memory = Unit {0}
+IsReadFault before now refusals.SourceFault = Rose before now

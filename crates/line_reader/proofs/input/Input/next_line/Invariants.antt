@@ -1,7 +1,7 @@
 use Rattle.std.proofs.Common.{◌≡◌, ◌≤◌, ◌+◌, false, length}
 use Rattle.std.specs.Io.KnownBytes.{Consumes}
-use Rattle.runner.specs.Lines.{to_come, has_end, IsBounded}
-use Rattle.runner.proofs.input.Input.next_line.Given as goal
+use Rattle.line_reader.specs.Lines.{to_come, has_end, IsBounded}
+use Rattle.line_reader.proofs.input.Input.next_line.Given as goal
 
 abbrev pub invariant-loop : goal.invariant-loop
 invariant-loop g l = record {

@@ -5,8 +5,8 @@ use Rattle.std.specs.Io.KnownBytes.{Consumes, IsAtEnd, prepend_known}
 use Rattle.std.specs.Global.{Vec}
 use Rattle.std.proofs.KnownBytes.{Consumes-trans}
 use Rattle.std.proofs.lemmas.Bool.{leb-true, leb-false}
-use Rattle.runner.specs.Lines.{Reader, to_come, has_end, longest_script, TakesNext, ended}
-use Rattle.runner.specs.declared.input.Next.TheVariants as nexts
+use Rattle.line_reader.specs.Lines.{Reader, to_come, has_end, longest_script, TakesNext, ended}
+use Rattle.line_reader.specs.declared.input.Next.TheVariants as nexts
 
 -- the input ends behind these bytes of a line
 pub at_end : (old mid new : Reader) (lo lm ln : Option (List ℕ)) (line : List ℕ) → Consumes (to_come old lo) (to_come mid lm) line → Consumes (to_come mid lm) (to_come new ln) [] × IsAtEnd (to_come new ln)
@@ -29,4 +29,4 @@ at_line old mid got new lo lm ln line b took last is one short taken pending sam
 
     by : (c : Bool) → nat_le got.taken longest_script ≡ c → new.lines ≡ (if c then old.lines + 1 else old.lines) → TakesNext old new lo ln (if c then nexts.Line line else nexts.Bad)
     by true e lines = (whole, record { one = one; short = short }, same ∙ taken, omega (arith, leb-true _ _ e, same), lines)
-    by false e lines = (line.items ++ 10 ∷ [], whole, inr (omega (arith, leb-false _ _ e, taken, length-append line.items (10 ∷ []))), omega (arith, same, taken, length-append line.items (10 ∷ [])))
+    by false e lines = (line.items ++ 10 ∷ [], whole, inr (inr (line.items, refl, one), omega (arith, leb-false _ _ e, taken, length-append line.items (10 ∷ []))), omega (arith, same, taken, length-append line.items (10 ∷ [])))

@@ -2,10 +2,10 @@ use Rattle.std.proofs.Common.{◌≡◌, ◌++◌, ◌∷◌, [], subst, sym, ap
 use Rattle.std.specs.Prelude.{if◌then◌else◌}
 use Rattle.std.proofs.KnownBytes.{Consumes-trans}
 use Rattle.media.specs.declared.fault.Failed.{Failed}
-use Rattle.runner.specs.declared.input.Byte.{Byte}
-use Rattle.runner.specs.Lines.{TakesByte, CountsByte, TakesNext, ended, longest_script}
-use Rattle.runner.proofs.Reading.{at_end, at_line}
-use Rattle.runner.proofs.input.Input.next_line.Goals as goal
+use Rattle.line_reader.specs.declared.input.Byte.{Byte}
+use Rattle.line_reader.specs.Lines.{TakesByte, CountsByte, TakesNext, ended, longest_script}
+use Rattle.line_reader.proofs.Reading.{at_end, at_line}
+use Rattle.line_reader.proofs.input.Input.next_line.Goals as goal
 
 pub returns-in-End-clause-bytes : goal.returns-in-End-clause-bytes
 returns-in-End-clause-bytes g c = subst (TakesNext c.args.self.now c.next_byte.new.self (g.S.Source.left c.args.source.now) (g.S.Source.left c.next_byte.new.source))

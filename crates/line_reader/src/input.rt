@@ -1,14 +1,14 @@
 //! The lines of a source.
 ghost use Rattle.std.specs.Prelude.{◌≡◌, ◌≤◌, ◌+◌, ◌-◌, ◌<◌, IfErr, IfOk, length, ◌∷◌, nat_le, if◌then◌else◌};
-ghost use Rattle.runner.specs.declared.input.Next.TheVariants as nexts;
+ghost use Rattle.line_reader.specs.declared.input.Next.TheVariants as nexts;
 ghost use Rattle.std.specs.Io.{ReadsAtMost};
 ghost use Rattle.std.specs.Io.KnownBytes.{ReadConsumes};
 ghost use Rattle.media.specs.Cause.{HasCause, Rose};
-ghost use Rattle.runner.specs.Lines.{Fills, TakesByte, CountsByte, TakesLine, IsBounded, IsReadFault, ended, first_reader, longest_script};
+ghost use Rattle.line_reader.specs.Lines.{Fills, TakesByte, CountsByte, TakesLine, IsBounded, IsReadFault, ended, first_reader, longest_script};
 
-use crate::status::Status;
+use crate::refusal::NotRead;
 use media::{Failed, Source};
-use std::alloc::Global;
+use std::alloc::{AllocError, Global};
 use std::marker::Model;
 
 /// How many bytes are asked of the source at a time.
@@ -59,7 +59,7 @@ pub struct Input {
 
 impl Model for Input {
     ghost use Rattle.std.specs.Prelude.{◌≡◌, ◌≤◌, ◌+◌, ◌-◌, take, drop, length};
-    ghost use Rattle.runner.specs.Lines.{Reader};
+    ghost use Rattle.line_reader.specs.Lines.{Reader};
 
     ghost Value = { Reader };
 
@@ -70,20 +70,16 @@ impl Model for Input {
 
 impl Input {
     /// Nothing is read yet.
-    pub fn new(alloc: Global) -> Result<Input, Status>
-        ensures start { IfOk result (λ input. input ≡ first_reader) }
-        ensures memory { IfErr result (λ status. status ≡ Status.Memory) }
+    pub fn new(alloc: Global) -> Result<Input, AllocError>
+        ensures { IfOk result (λ input. input ≡ first_reader) }
     {
-        match vec![in alloc; 0u8; PIECE] {
-            Ok(piece) => Ok(Input {
-                piece,
-                from: 0,
-                upto: 0,
-                read: 0,
-                lines: 0,
-            }),
-            Err(_) => Err(Status::Memory),
-        }
+        Ok(Input {
+            piece: vec![in alloc; 0u8; PIECE]?,
+            from: 0,
+            upto: 0,
+            read: 0,
+            lines: 0,
+        })
     }
 
     /// How many lines there were.
@@ -151,18 +147,18 @@ impl Input {
     }
 
     /// The next line, without its end.
-    pub fn next_line<S: Source>(&mut self, alloc: Global, source: &mut S) -> Result<Next, Status>
+    pub fn next_line<S: Source>(&mut self, alloc: Global, source: &mut S) -> Result<Next, NotRead>
         requires { IsBounded self.old }
         ensures bytes { TakesLine self.old self.new (S.left source.old) (S.left source.new) result }
         ensures most { IsBounded self.new }
         ensures later { S.faults source.old ≤ S.faults source.new }
-        ensures cause { IfErr result (λ status. IsReadFault (S.faults source.old) (S.faults source.new) status) }
+        ensures cause { IfErr result (IsReadFault (S.faults source.old) (S.faults source.new)) }
     {
         let mut line = Vec::new(alloc);
         for _ in 0..LONGEST_LINE {
             let next = match self.next_byte(source) {
                 Ok(next) => next,
-                Err(_) => return Err(Status::SourceFault),
+                Err(_) => return Err(NotRead::SourceFault),
             };
             let byte = match next {
                 Byte::One(byte) => byte,
@@ -173,7 +169,7 @@ impl Input {
                 return Ok(self.finish(line));
             }
             if line.push(byte).is_err() {
-                return Err(Status::Memory);
+                return Err(NotRead::Memory);
             }
         }
         Ok(Next::Bad)

@@ -1,7 +1,7 @@
 //! Which lines ask for what is built.
 ghost use Rattle.std.specs.Prelude.{◌≡◌, Option, List, ℕ};
 ghost use Rattle.std.specs.Option.{option_copied};
-ghost use Rattle.runner.specs.Built.{is_built, is_built_word, has_fuse, is_built_device};
+ghost use Rattle.line_reader.specs.Built.{is_built, is_built_word, has_fuse, is_built_device};
 
 use script::cut;
 

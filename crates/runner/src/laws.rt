@@ -1,0 +1,24 @@
+//! What one call leaves, the next one may be handed.
+ghost use Rattle.std.specs.Prelude.{ℕ, List, Option};
+ghost use Rattle.log_manager.specs.Devices.{DevicesStandFor};
+ghost use Rattle.wal_record.specs.declared.record.Record.{Record};
+ghost use Rattle.runner.specs.Clause.{Headline};
+ghost use Rattle.runner.specs.LogDisk.{Keeps};
+ghost use Rattle.runner.specs.NextCall.{HandsOn};
+ghost use Rattle.runner.specs.Turns.{Found, Last, stage};
+ghost use Rattle.runner.specs.declared.status.Status.{Status};
+
+use media::Disk;
+
+/// A log disk of devices that stand for a log may be handed to a call as one on which it was found.
+pub fn standing_law<L: Disk>()
+    ensures { (disk : L) (log : List Record) → DevicesStandFor L.told L.may_leave disk log → Keeps L.Disk (Found log) disk }
+{}
+
+/// The log disk that a call hands back, whatever its status, holds a log that may be found behind the turns of that call,
+/// and may be handed to the next call as such. Whatever that call's first opening finds on it, before a stop or behind
+/// one, has each commit that the first call has acknowledged in the life that was open at its end.
+pub fn next_call_law<L: Disk>()
+    ensures { (start : Last) (disk : L) (left0 : Option (List ℕ)) (pending : List ℕ) (left told0 told : Option (List ℕ)) (status : Status) → (call : Headline L.Disk start disk left0 pending left told0 told status)
+        → L.tells → HandsOn L.Disk (stage start call.turns) disk }
+{}
