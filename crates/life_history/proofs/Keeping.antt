@@ -108,7 +108,7 @@ kept_watched opens h h' n ps ps' ss ss' ms ms' total total' of_session of_sessio
 
 -- ---- a session more
 
-entry_of-apart : (m : ℕ) (new : BookEntry) (es : List BookEntry) → m ≢ new.number → entry_of m (es ++ new ∷ []) ≡ entry_of m es
+pub entry_of-apart : (m : ℕ) (new : BookEntry) (es : List BookEntry) → m ≢ new.number → entry_of m (es ++ new ∷ []) ≡ entry_of m es
 entry_of-apart m new [] apart = grind (arith, nat_tests, apart)
 entry_of-apart m new (e ∷ es) apart = grind (arith, nat_tests, apart, entry_of-apart m new es apart)
 
