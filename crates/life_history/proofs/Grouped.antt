@@ -160,7 +160,7 @@ pub log_group : (opening : List Record) (h : List Entry) (lsn : ℕ) (recs : Lis
 log_group opening h lsn recs said =
     ap (life_log opening) (sym (append_assoc h (record_entries lsn recs) (said_entries said))) ∙ log_said opening (h ++ record_entries lsn recs) said ∙ log_records opening h lsn recs
 
-heads_behind : (p : ℕ) (log recs : List Record) (lsn : ℕ) → lsn ≡ length log + 1 → head (log ++ recs) p ≡ head_behind p (head log p) lsn recs
+pub heads_behind : (p : ℕ) (log recs : List Record) (lsn : ℕ) → lsn ≡ length log + 1 → head (log ++ recs) p ≡ head_behind p (head log p) lsn recs
 heads_behind p log [] lsn at = ap (λ l. head l p) (append-nil log)
 heads_behind p log (r ∷ rs) lsn at =
     ap (λ l. head l p) (sym (append_assoc log (r ∷ []) rs)) ∙ heads_behind p (log ++ r ∷ []) rs (suc lsn) (omega (arith, at, length-append log (r ∷ [])))

@@ -105,6 +105,10 @@ IsOneOf session tx es = ⊥
 abbrev pub commit_entry : ℕ → ℕ → ℕ → Entry
 commit_entry lsn tx prev = entries.Rec lsn (kinds.Commit (record { tx = tx; prev = prev }))
 
+-- the end of a transaction whose writes have all been undone
+abbrev pub end_entry : ℕ → ℕ → ℕ → Entry
+end_entry lsn tx prev = entries.Rec lsn (kinds.End (record { tx = tx; prev = prev }))
+
 -- a sound log that isn't empty, with this number above all its transactions
 pub record Begins (opening : List Record) (next : ℕ) : Type 0 where
   pub sound : IsSound opening

@@ -17,7 +17,7 @@ ghost use Rattle.wal_record.specs.declared.entry.Entry.{Entry};
 ghost use Rattle.wal_record.specs.declared.entry.Entry.TheVariants as entries;
 ghost use Rattle.wal_record.specs.declared.record.Record.{Record};
 ghost use Rattle.life_history.specs.Groups.{IsOwn, counted_group, is_covered, is_still, own_entries, raised};
-ghost use Rattle.life_history.specs.Kept.{AreKept, Begins, IsOneOf, IsSmall, commit_entry, counted_more};
+ghost use Rattle.life_history.specs.Kept.{AreKept, Begins, IsOneOf, IsSmall, commit_entry, counted_more, end_entry};
 
 use crate::counts::Counts;
 use crate::stand::Stand;
@@ -452,7 +452,30 @@ impl<'a, N: Life> History<'a, N> {
         ensures counted { of_sessions self.new ≡ of_sessions self.old + 1 }
     {
         let tx = s.tx();
-        self.stand.enter_commit::<Brand>(lsn, prev, s, tx, counts);
+        self.stand.enter_record::<Brand>(lsn, prev, s, tx, counts);
+        self.count += 1;
+        self.live -= 1;
+    }
+
+    /// Enters the end of the session's transaction, as the record with this LSN. The session has then no transaction.
+    pub fn enter_end(
+        &mut self,
+        lsn: Lsn,
+        prev: Lsn,
+        s: &mut SessionRight<N>,
+        counts: &mut Counts<N>,
+    )
+        requires active { 0 < s.old.tx }
+        requires live { phase self.old s.old.tx ≡ Live }
+        requires agrees { SessionAgrees self.old s.old }
+        requires consistent { IsConsistent N.opens (self.old ++ end_entry lsn s.old.tx prev ∷ []) }
+        ensures history { self.new ≡ self.old ++ end_entry lsn s.old.tx prev ∷ [] }
+        ensures live { live_count self.new + 1 ≡ live_count self.old }
+        ensures right { s.new ≡ record { session = s.old.session; entries = s.old.entries + 1; tx = 0 } }
+        ensures counts { counts.new ≡ counted_more counts.old 1 }
+        ensures counted { of_sessions self.new ≡ of_sessions self.old + 1 }
+    {
+        self.stand.enter_record::<Brand>(lsn, prev, s, 0, counts);
         self.count += 1;
         self.live -= 1;
     }

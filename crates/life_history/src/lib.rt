@@ -27,4 +27,4 @@ mod stand;
 
 pub use counts::Counts;
 pub use history::History;
-pub use raising::names;
+pub use raising::{head_after, names};

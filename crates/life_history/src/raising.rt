@@ -48,7 +48,7 @@ fn is_linked(rec: &Record) -> bool
 }
 
 /// The head of a page behind records from this LSN on, where it was this before.
-fn head_after(page: PageNo, before: Lsn, lsn: Lsn, recs: &[Record]) -> Lsn
+pub fn head_after(page: PageNo, before: Lsn, lsn: Lsn, recs: &[Record]) -> Lsn
     requires few { length recs.now ≤ 2 }
     requires fits { lsn + 1 < 2 ^ 63 }
     ensures value { result ≡ head_behind page before lsn recs.now }

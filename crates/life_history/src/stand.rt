@@ -7,7 +7,6 @@ ghost use Rattle.books.specs.Rights.{session_entry};
 ghost use Rattle.page_ops.specs.Groups.{group_entries};
 ghost use Rattle.wal_record.specs.Chains.{names};
 ghost use Rattle.wal_record.specs.Rules.{is_page};
-ghost use Rattle.life_history.specs.Kept.{commit_entry};
 ghost use Rattle.life_history.specs.Groups.{ArePagesSet, IsMaintenanceSet, IsSessionSet, counted_group, own_entries, raised, raised_session};
 
 use crate::counts::Counts;
@@ -105,17 +104,17 @@ impl<'a, N: Life> Stand<'a, N> {
         self.session_entries.add(&mut counts.session_entries, 1);
     }
 
-    /// As `enter`, where the entry of A is this commit of the session's transaction.
-    pub(crate) fn enter_commit<A: Added<Entry>>(
+    /// As `enter`, where the entry of A is the record with this LSN, and the one before it of the transaction has that one.
+    pub(crate) fn enter_record<A: Added<Entry>>(
         &mut self,
-        lsn: Lsn,
-        prev: Lsn,
+        _lsn: Lsn,
+        _prev: Lsn,
         s: &mut SessionRight<N>,
         tx: TxId,
         counts: &mut Counts<N>,
     )
         requires spare { IsSome self.old.spare }
-        requires entry { A.entries ≡ commit_entry lsn s.old.tx prev ∷ [] }
+        requires one { length A.entries ≡ 1 }
         requires fits { length self.old.front + 1 < 2 ^ 64 }
         requires room { s.old.entries + 1 < 2 ^ 64 }
         ensures before { entry_of s.old.session self.old.books.sessions ≡ Some (session_entry s.old) }
@@ -123,7 +122,7 @@ impl<'a, N: Life> Stand<'a, N> {
         ensures right { s.new ≡ record { session = s.old.session; entries = s.old.entries + 1; tx = tx } }
         ensures spare { IsSome self.new.spare }
         ensures others { (self.new.books.pages ≡ self.old.books.pages) × (self.new.books.maint ≡ self.old.books.maint) }
-        ensures front { self.new.front ≡ self.old.front ++ commit_entry lsn s.old.tx prev ∷ [] }
+        ensures front { self.new.front ≡ self.old.front ++ A.entries }
         ensures total { self.new.entries.total ≡ self.old.entries.total + 1 }
         ensures sessions_total { self.new.session_entries.total ≡ self.old.session_entries.total + 1 }
         ensures counts { counts.new ≡ record counts.old { entries = record { parts = counts.old.entries.parts; amount = counts.old.entries.amount + 1 }; session_entries = record { parts = counts.old.session_entries.parts; amount = counts.old.session_entries.amount + 1 } } }
