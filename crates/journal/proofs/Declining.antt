@@ -19,7 +19,7 @@ use Rattle.wal_record.specs.declared.entry.Entry.TheVariants as entries
 use Rattle.wal_record.proofs.Pushes.{log_same}
 use Rattle.page_ops.specs.Asking.{LacksRoomFor, MayBeDeclined, needed}
 use Rattle.page_ops.specs.Claims.{Claims, Agree, session_alone}
-use Rattle.page_ops.specs.Groups.{declined_entries}
+use Rattle.page_ops.specs.Groups.{HasSpeaker, declined_entries}
 use Rattle.page_ops.specs.Names.{LedgerName}
 use Rattle.page_ops.specs.Outcomes.{EntersGroup, IsAnswer, IsFull, KeepsRights, SameHolders, page_of}
 use Rattle.page_ops.specs.Seeing.{Account, known, Enters, IsConsistent, IsMoment, of_sessions}
@@ -40,6 +40,10 @@ pub declined_consistent : (opens : List Record → Type 0) (h : List Entry) (sai
 declined_consistent opens h said full c told may = consistent_entry opens h (declined said full) c refl refl (λ log. refl) (λ opening stands.
     let is = told opening stands in
     subst (λ (x : ℕ × ℕ). MayDecline opening h said.session said.tx said.request (outcomes.Full x.0 x.1)) (λ i. (sym is.0 i, sym is.1 i)) (may opening stands))
+
+-- the session of the right speaks
+pub speaker_of : (o : Option SessionClaim) (p : Option Said) (s : SessionClaim) (said : Said) → HasSpeaker o p → o ≡ Some s → p ≡ Some said → (said.session ≡ s.session) × (said.tx ≡ s.tx)
+speaker_of o p s said speaks is told = subst (λ (x : Option SessionClaim × Option Said). HasSpeaker x.0 x.1) (λ i. (is i, told i)) speaks
 
 same_log : (opening : List Record) (h : List Entry) (said : Option Said) (why : Outcome) → life_log opening (h ++ declined_entries said why) ≡ life_log opening h
 same_log opening h (Some s) why = log_same opening h (entries.Declined s.session s.tx s.request why) refl
