@@ -1,9 +1,9 @@
 -- Records filled in by what the listing tells are those that the laws of asking tell.
-use Rattle.std.proofs.Common.{◌≡◌, ℕ, suc, eqb, cond, ◌+◌, ◌<◌, ◌≤◌, ◌^◌, List, [], ◌∷◌, ◌++◌, length, Option, Some, None, Bool, true, false, refl, sym, ap, ◌∙◌, subst, arith, append_assoc, append-nil, length-append, get_or}
+use Rattle.std.proofs.Common.{◌≡◌, ℕ, cond, ◌+◌, ◌≤◌, List, [], ◌∷◌, ◌++◌, length, Option, Some, None, Bool, true, false, refl, sym, ap, ◌∙◌, subst, arith, append-nil, get_or}
 use Rattle.std.specs.Prelude.{◌||◌, slice_get, slice_set}
 use Rattle.std.specs.List.{list_any}
 use Rattle.asking_laws.specs.Entered.{fill, fill_all}
-use Rattle.page_ops.specs.Groups.{Each, Numbers, no_checkpoint, filled, made_by, place_of, AreFilled, AreFilledFrom}
+use Rattle.page_ops.specs.Groups.{Each, Numbers, no_checkpoint, filled, made_by, AreFilled, AreFilledFrom}
 use Rattle.log_index.specs.Listing.{noted}
 use Rattle.log_index.specs.Ready.{is_upkeep, makes_page}
 use Rattle.log_index.specs.declared.listing.Listing.{Listing}
@@ -12,7 +12,7 @@ use Rattle.wal_record.specs.Checkpoints.{is_checkpoint}
 use Rattle.wal_record.specs.declared.record.Record.{Record}
 use Rattle.wal_record.specs.declared.record.Record.TheVariants as kinds
 use Rattle.wal_record.proofs.Pushes.{last_push}
-use Rattle.group_filling.specs.Fields.{no_fields, fields_of, with_fields, with_two, ArePlaced, IsKnown, IsUnfinished, AreChained, Joins}
+use Rattle.group_filling.specs.Fields.{fields_of, with_fields, with_two, ArePlaced, IsKnown, IsUnfinished, AreChained, Joins}
 use Rattle.group_filling.specs.declared.fields.Fields.{Fields}
 
 -- ---- one record

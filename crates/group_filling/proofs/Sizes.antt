@@ -1,6 +1,6 @@
 -- How long the record of a group is: no longer than 8,192 bytes.
-use Rattle.std.proofs.Common.{◌≡◌, ℕ, suc, ◌+◌, ◌*◌, ◌≤◌, ◌^◌, Bool, true, false, List, [], ◌∷◌, ◌++◌, length, Option, Some, None, refl, sym, ap, ◌∙◌, subst, arith, length-append, nat_le}
-use Rattle.std.specs.Prelude.{IsTrue, flat_map, ◌&&◌}
+use Rattle.std.proofs.Common.{◌≡◌, ℕ, suc, ◌+◌, ◌*◌, ◌≤◌, true, false, List, [], ◌∷◌, ◌++◌, length, Option, Some, None, refl, ap, ◌∙◌, arith, length-append, nat_le}
+use Rattle.std.specs.Prelude.{flat_map}
 use Rattle.std.specs.List.{sum_by}
 use Rattle.std.specs.Int.{w8, w16, w32, w64, to_be_bytes}
 use Rattle.std.proofs.lemmas.Bool.{leb-true}
@@ -11,7 +11,7 @@ use Rattle.store_model.proofs.Bools.{both_true}
 use Rattle.wal_record.specs.Checkpoints.{is_checkpoint}
 use Rattle.wal_record.specs.Rules.{HasSpelling, is_maybe_value}
 use Rattle.wal_record.specs.Spelling.{number_bytes, text_bytes, value_bytes, maybe_bytes, list_bytes, flag_of, foster_bytes, leaf_row_bytes, branch_row_bytes, rows_bytes, state_bytes, page_lsn_bytes, spelling}
-use Rattle.wal_record.specs.State.{is_key, is_text, is_value, text_of, leaf_row_size, branch_row_size, rows_size, high_size, foster_size, state_size, KeepsState}
+use Rattle.wal_record.specs.State.{is_key, is_text, text_of, leaf_row_size, branch_row_size, rows_size, high_size, foster_size, state_size, KeepsState}
 use Rattle.wal_record.specs.declared.page.Foster.{Foster}
 use Rattle.wal_record.specs.declared.page.LeafRow.{LeafRow}
 use Rattle.wal_record.specs.declared.page.BranchRow.{BranchRow}

@@ -1,9 +1,8 @@
 -- The records of a group, filled in, have a spelling, and how long it is.
-use Rattle.std.proofs.Common.{◌≡◌, ℕ, suc, ◌+◌, ◌*◌, ◌≤◌, ◌<◌, ◌^◌, List, [], ◌∷◌, ◌++◌, length, Option, Some, None, Bool, true, false, refl, sym, ap, ◌∙◌, subst, arith, length-append, nat_le}
-use Rattle.std.specs.Prelude.{IsTrue, flat_map, All}
-use Rattle.std.specs.Int.{w8, w16, w32, w64, to_be_bytes}
+use Rattle.std.proofs.Common.{◌≡◌, ℕ, ◌≤◌, List, [], ◌∷◌, length, Option, false, refl, sym, subst}
+use Rattle.std.specs.Prelude.{All}
 use Rattle.std.proofs.lemmas.List.Elements.{All-nil, All-cons}
-use Rattle.page_ops.specs.Groups.{Each, Numbers, least_numbers, filled, IsSpelled, AreFilled, AreFilledFrom, made_by}
+use Rattle.page_ops.specs.Groups.{Each, Numbers, filled, IsSpelled, AreFilledFrom}
 use Rattle.wal_record.specs.Rules.{HasSpelling}
 use Rattle.wal_record.specs.declared.record.Record.{Record}
 use Rattle.wal_record.specs.declared.record.Record.TheVariants as kinds

@@ -1,5 +1,5 @@
 -- The fields of a record that the journal fills in, and which numbers they get.
-use Rattle.std.specs.Prelude.{◌≡◌, ℕ, List, [], ◌∷◌, ◌++◌, Option, Some, None, true, false}
+use Rattle.std.specs.Prelude.{◌≡◌, ℕ, List, [], ◌∷◌, Option, Some, None, true, false}
 use Rattle.std.specs.List.{list_any}
 use Rattle.log_index.specs.Listing.{IsListingOf, noted}
 use Rattle.log_index.specs.Ready.{is_upkeep, makes_page}

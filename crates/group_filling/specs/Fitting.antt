@@ -1,5 +1,5 @@
 -- The form of a group that can be entered.
-use Rattle.std.specs.Prelude.{◌≡◌, ◌+◌, ◌<◌, ◌≤◌, ◌^◌, List, length, Option, None, IsSome, IfSome, IsTrue, true}
+use Rattle.std.specs.Prelude.{◌≡◌, List, Option, None, IsSome, IfSome, IsTrue, true}
 use Rattle.std.specs.List.{list_all, list_any}
 use Rattle.books.specs.Rights.{PageClaim}
 use Rattle.life_history.specs.Groups.{IsOwn, is_covered, is_still}

@@ -1,6 +1,6 @@
 -- A request that is declined, since there is no room for its write.
-use Rattle.std.proofs.Common.{◌≡◌, ℕ, suc, ◌+◌, ◌≤◌, ◌<◌, List, [], ◌∷◌, ◌++◌, length, Option, Some, None, true, refl, sym, ap, ◌∙◌, subst, arith, append-nil}
-use Rattle.std.specs.Prelude.{IfErr, IfSome, IsSome, Result, Ok, Err}
+use Rattle.std.proofs.Common.{◌≡◌, ℕ, ◌+◌, ◌≤◌, ◌<◌, List, [], ◌∷◌, ◌++◌, length, Option, Some, None, true, refl, sym, ap, ◌∙◌, subst, arith, append-nil}
+use Rattle.std.specs.Prelude.{IfErr, IsSome, Result, Ok, Err}
 use Rattle.books.specs.Rights.{SessionClaim}
 use Rattle.front.specs.Seen.{PassSeen}
 use Rattle.store_model.specs.declared.fault.Fault.{Fault}
@@ -21,7 +21,7 @@ use Rattle.page_ops.specs.Asking.{LacksRoomFor, MayBeDeclined, needed}
 use Rattle.page_ops.specs.Claims.{Claims, Agree, session_alone}
 use Rattle.page_ops.specs.Groups.{HasSpeaker, declined_entries}
 use Rattle.page_ops.specs.Names.{LedgerName}
-use Rattle.page_ops.specs.Outcomes.{EntersGroup, IsAnswer, IsFull, KeepsRights, SameHolders, page_of}
+use Rattle.page_ops.specs.Outcomes.{EntersGroup, IsAnswer, IsFull}
 use Rattle.page_ops.specs.Seeing.{Account, known, Enters, IsConsistent, IsMoment, of_sessions}
 use Rattle.page_ops.specs.declared.group.Group.{Group}
 use Rattle.page_ops.specs.declared.group.Said.{Said}
@@ -30,7 +30,7 @@ use Rattle.page_ops.specs.declared.outcome.Entered.TheVariants as entered
 use Rattle.life_history.specs.Kept.{counted_more}
 use Rattle.life_history.proofs.Entering.{entered_then}
 use Rattle.life_history.proofs.Own.{consistent_entry}
-use Rattle.journal.specs.Declined.{IsTaken, IsSame, EntersDeclined, IsDeclined}
+use Rattle.journal.specs.Declined.{IsTaken, IsSame, IsDeclined}
 use Rattle.journal.specs.declared.taken.Taken.{Taken}
 
 abbrev pub declined : Said → Taken → Entry

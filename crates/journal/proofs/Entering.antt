@@ -1,11 +1,11 @@
 -- What a caller knows behind a group that was entered, or wasn't.
-use Rattle.std.proofs.Common.{◌≡◌, ℕ, suc, ◌+◌, ◌≤◌, List, [], ◌∷◌, ◌++◌, length, Option, Some, None, true, refl, sym, ap, ◌∙◌, subst, arith}
+use Rattle.std.proofs.Common.{◌≡◌, ℕ, ◌+◌, ◌≤◌, List, [], ◌∷◌, ◌++◌, length, Option, Some, None, refl, sym, ap, ◌∙◌, subst, arith}
 use Rattle.std.specs.Prelude.{◌<◌, IsSome, IsTrue, Ok, Err}
 use Rattle.std.specs.Option.{option_map}
 use Rattle.books.specs.Rights.{PageClaim, SessionClaim, MaintClaim}
 use Rattle.front.specs.Seen.{PassSeen}
 use Rattle.front.proofs.Keeping.{prefix_trans}
-use Rattle.life_history.specs.Groups.{counted_group, own_entries, raised, raised_page, raised_session, raised_maintenance, new_or}
+use Rattle.life_history.specs.Groups.{counted_group, own_entries, raised_page, raised_session, raised_maintenance, new_or}
 use Rattle.life_history.specs.Kept.{counted_more}
 use Rattle.life_history.proofs.Entering.{entered_then}
 use Rattle.page_ops.specs.Asking.{HasRoomFor}

@@ -1,6 +1,6 @@
 -- A group, filled in by the journal: the history is consistent behind it, and the log lawful.
-use Rattle.std.proofs.Common.{◌≡◌, ℕ, zero, suc, cond, ◌+◌, ◌≤◌, ◌<◌, ◌^◌, List, [], ◌∷◌, ◌++◌, length, Option, Some, None, Bool, true, false, refl, sym, ap, ◌∙◌, subst, arith, append_assoc, append-nil, length-append}
-use Rattle.std.specs.Prelude.{IsTrue, IsSome, IfSome, is_some, nat_le, not, ◌-◌, ◌||◌, ◌&&◌}
+use Rattle.std.proofs.Common.{◌≡◌, ℕ, suc, cond, ◌+◌, ◌≤◌, ◌<◌, ◌^◌, List, [], ◌∷◌, ◌++◌, length, Option, Some, None, Bool, true, false, refl, sym, ap, ◌∙◌, subst, arith, append_assoc, append-nil}
+use Rattle.std.specs.Prelude.{IsTrue, IsSome, IfSome, is_some, nat_le, not, ◌-◌, ◌||◌}
 use Rattle.std.specs.List.{list_any, list_all}
 use Rattle.std.proofs.lemmas.List.Folds.{list_any-append}
 use Rattle.store_model.proofs.Bools.{both_true}
@@ -20,13 +20,12 @@ use Rattle.std.specs.List.{All}
 use Rattle.wal_record.specs.Rules.{HasSpelling}
 use Rattle.life_history.specs.Groups.{is_still}
 use Rattle.life_history.proofs.Grouped.{log_group}
-use Rattle.life_history.proofs.Keeping.{not_empty}
 use Rattle.listed_log.specs.Listed.{IsLogWith}
 use Rattle.log_index.specs.declared.listing.Listing.{Listing}
 use Rattle.log_manager.specs.Managed.{Managed}
 use Rattle.media.specs.Kept.{Kept}
 use Rattle.page_ops.specs.Asking.{HasNumbers, MayFollow}
-use Rattle.page_ops.specs.Groups.{Each, Numbers, filled, child_of, or_else, made_by, AreFilled, AreFilledFrom, is_write, is_grouped, told_by, record_entries, said_entries, group_entries, IsGroup}
+use Rattle.page_ops.specs.Groups.{Each, Numbers, filled, child_of, or_else, made_by, AreFilled, AreFilledFrom, is_write, told_by, record_entries, said_entries, group_entries, IsGroup}
 use Rattle.page_ops.specs.Seeing.{IsConsistent}
 use Rattle.page_ops.specs.declared.group.Group.{Group}
 use Rattle.page_ops.specs.declared.group.Said.{Said}

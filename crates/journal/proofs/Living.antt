@@ -1,6 +1,6 @@
 -- What each kind of step makes of what the journal keeps: an entry that is no record, a beginning, a group, a commit, a
 -- flush.
-use Rattle.std.proofs.Common.{◌≡◌, ◌≢◌, ℕ, suc, eqb, cond, ◌+◌, ◌≤◌, ◌<◌, ◌^◌, List, [], ◌∷◌, ◌++◌, length, Option, Some, None, Bool, true, false, refl, sym, ap, ◌∙◌, subst, inl, inr, arith, append-nil, length-append}
+use Rattle.std.proofs.Common.{◌≡◌, ◌≢◌, ℕ, eqb, cond, ◌+◌, ◌≤◌, ◌<◌, ◌^◌, List, [], ◌∷◌, ◌++◌, length, Option, None, Bool, true, false, refl, sym, ap, ◌∙◌, subst, inl, inr, arith, append-nil, length-append}
 use Rattle.std.specs.List.{list_all}
 use Rattle.std.specs.Prelude.{◌-◌, ◌⊎◌, ◌↔◌, Result, Ok, Err, OnOk, is_some}
 use Rattle.std.proofs.lemmas.Bool.{eqb-true}
@@ -11,7 +11,7 @@ use Rattle.media.specs.Kept.{Kept}
 use Rattle.page_ops.specs.Outcomes.{begun}
 use Rattle.page_ops.specs.declared.group.Said.{Said}
 use Rattle.range_lock.specs.Held as table
-use Rattle.range_lock.specs.Lock.{Lock, IsAmong}
+use Rattle.range_lock.specs.Lock.{IsAmong}
 use Rattle.range_lock.specs.declared.range_locks.RangeLocks.{RangeLocks}
 use Rattle.store_model.specs.declared.fault.Fault.{Fault}
 use Rattle.wal_record.specs.History.{log_of, life_log, Phase, Live, Committed, Acknowledged, phase, phase_step, live_count}
@@ -22,13 +22,13 @@ use Rattle.wal_record.specs.declared.record.Record.TheVariants as kinds
 use Rattle.wal_record.specs.declared.entry.Entry.{Entry}
 use Rattle.wal_record.specs.declared.entry.Entry.TheVariants as entries
 use Rattle.wal_record.proofs.Pushes.{log_same, log_more, phase_push, taken_push}
-use Rattle.log_laws.proofs.Central.{differ, eqb_self}
+use Rattle.log_laws.proofs.Central.{differ}
 use Rattle.life_history.specs.Groups.{is_still}
 use Rattle.life_history.specs.Kept.{commit_entry}
 use Rattle.life_history.proofs.Grouped.{log_group}
 use Rattle.page_ops.specs.Groups.{group_entries}
 use Rattle.listed_log.specs.Listed.{HoldsEnd, IsLogWith}
-use Rattle.journal.specs.Kept.{HasPlaces, IsOfLife, EndsByFault, IsKept}
+use Rattle.journal.specs.Kept.{IsOfLife, EndsByFault, IsKept}
 use Rattle.journal.specs.Locks.{AreHeld}
 use Rattle.journal.specs.Groups.{IsNext}
 use Rattle.journal.proofs.Locking.{held_same}

@@ -1,5 +1,5 @@
 -- A group as it is entered.
-use Rattle.std.specs.Prelude.{◌≡◌, ℕ, suc, ◌+◌, ◌≤◌, ◌^◌, length, List, [], ◌∷◌, ◌++◌, Option, Some, None, IsSome, IsTrue}
+use Rattle.std.specs.Prelude.{◌≡◌, ℕ, suc, ◌+◌, ◌≤◌, ◌^◌, length, List, ◌++◌, Option, Some, None, IsSome, IsTrue}
 use Rattle.books.specs.Rights.{PageClaim}
 use Rattle.life_history.specs.Groups.{counted_group, own_entries, raised}
 use Rattle.page_ops.specs.Claims.{Claims}

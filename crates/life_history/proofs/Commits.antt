@@ -1,10 +1,9 @@
 -- What a commit and its acknowledgement make of what the history keeps, after the calls.
-use Rattle.std.proofs.Common.{◌≡◌, ℕ, ◌+◌, ◌*◌, ◌≤◌, ◌<◌, ◌^◌, List, [], ◌∷◌, ◌++◌, length, Some, refl, sym, ap, ◌∙◌, subst, arith}
+use Rattle.std.proofs.Common.{◌≡◌, ℕ, ◌+◌, ◌*◌, ◌<◌, ◌^◌, List, [], ◌∷◌, ◌++◌, length, Some, sym, ap, ◌∙◌, subst, arith}
 use Rattle.std.specs.Prelude.{◌-◌}
 use Rattle.books.specs.Booking.{entry, entry_of, replaced}
 use Rattle.books.specs.declared.entry.BookEntry.{BookEntry}
 use Rattle.books.specs.Rights.{SessionClaim, session_entry}
-use Rattle.wal_record.specs.Books.{session_entries}
 use Rattle.wal_record.specs.History.{Live, Committed, phase, live_count}
 use Rattle.wal_record.specs.declared.record.Record.{Record}
 use Rattle.wal_record.specs.declared.entry.Entry.{Entry}

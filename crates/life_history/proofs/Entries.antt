@@ -1,31 +1,24 @@
 -- What a session's entries make of what a caller knows, and of what the history keeps, after the calls.
-use Rattle.std.proofs.Common.{◌≡◌, ◌≢◌, ℕ, suc, eqb, cond, ◌+◌, ◌≤◌, ◌<◌, ◌^◌, List, [], ◌∷◌, ◌++◌, length, Some, None, Option, Bool, true, false, refl, sym, ap, ◌∙◌, subst, arith, length-append, append-nil, append_assoc}
-use Rattle.std.specs.Prelude.{IfSome, IsSome}
-use Rattle.std.proofs.lemmas.Bool.Decides.{nat_tests}
-use native.Mathlib.Decide.{ℕ_discrete}
-use mathlib.Core.Logic.{dite}
+use Rattle.std.proofs.Common.{◌≡◌, ◌≢◌, ℕ, suc, cond, ◌+◌, ◌≤◌, ◌<◌, ◌^◌, List, [], ◌∷◌, ◌++◌, length, Some, Bool, true, refl, sym, ap, ◌∙◌, subst, arith, length-append}
 use Rattle.front.proofs.Keeping.{prefix_trans}
 use Rattle.books.specs.Booking.{entry, entry_of, replaced}
 use Rattle.books.specs.declared.entry.BookEntry.{BookEntry}
-use Rattle.books.specs.Rights.{PageClaim, page_entry, SessionClaim, session_entry}
-use Rattle.books.proofs.Keeping.{entry_of-other, entry_of-replaced}
-use Rattle.wal_record.specs.Books.{maintenance_book, session_entries}
-use Rattle.wal_record.specs.Chains.{head, names}
-use Rattle.wal_record.specs.History.{life_log, is_owner, live_count}
+use Rattle.books.specs.Rights.{SessionClaim, session_entry}
+use Rattle.wal_record.specs.Books.{maintenance_book}
+use Rattle.wal_record.specs.Chains.{head}
+use Rattle.wal_record.specs.History.{life_log, live_count}
 use Rattle.wal_record.specs.declared.record.Record.{Record}
-use Rattle.wal_record.specs.declared.record.Record.TheVariants as kinds
 use Rattle.wal_record.specs.declared.entry.Entry.{Entry}
 use Rattle.wal_record.specs.declared.entry.Entry.TheVariants.{Rec, Began}
 use Rattle.wal_record.specs.declared.entry.Entry.TheVariants as entries
 use Rattle.wal_record.proofs.Pushes.{log_same, maintenance_push}
-use Rattle.log_laws.proofs.Central.{eqb_differ, eqb_self}
 use Rattle.front.specs.Seen.{PassSeen}
 use Rattle.page_ops.proofs.Gaining.{ended_self}
 use Rattle.page_ops.specs.Names.{LedgerName}
 use Rattle.page_ops.specs.Claims.{Agree, SessionAgrees, session_alone}
 use Rattle.page_ops.specs.Seeing.{Account, known, Keeps, Enters, IsMoment, IsConsistent, HasTotals, is_of_session, of_sessions}
 use Rattle.life_history.specs.Kept.{IsKept, IsOneOf, counted_more, is_calm, is_of}
-use Rattle.life_history.proofs.Keeping.{of_sessions_push, some_is}
+use Rattle.life_history.proofs.Keeping.{of_sessions_push}
 use Rattle.life_history.proofs.Own.{Continues, continues_live, continues_one, calm_of, kept_then, agrees_then, sessions_then, fresh_then, kept_began, began_consistent, began_entries, began_tx, session_within}
 
 agree_alone : (opens : List Record → Type 0) (h : List Entry) (x : SessionClaim) → SessionAgrees h x → Agree opens h (session_alone x)

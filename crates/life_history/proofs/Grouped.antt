@@ -7,13 +7,13 @@ use Rattle.std.proofs.lemmas.Bool.{eqb-true}
 use native.Mathlib.Decide.{ℕ_discrete}
 use mathlib.Core.Logic.{dite}
 use Rattle.store_model.proofs.Bools.{both_true, false_unless}
-use Rattle.books.specs.Booking.{entry, entry_of, replaced}
+use Rattle.books.specs.Booking.{entry_of, replaced}
 use Rattle.books.specs.declared.entry.BookEntry.{BookEntry}
 use Rattle.books.specs.Rights.{PageClaim, page_entry, SessionClaim, session_entry, MaintClaim, maint_entry}
 use Rattle.books.proofs.Keeping.{entry_of-other, entry_of-replaced}
-use Rattle.wal_record.specs.Books.{page_book, maintenance_step, maintenance_book, owns_link, belongs, session_entries, session_transaction}
+use Rattle.wal_record.specs.Books.{page_book, maintenance_step, maintenance_book, owns_link, session_entries, session_transaction}
 use Rattle.wal_record.specs.Chains.{head, names, Link, link_of}
-use Rattle.wal_record.specs.History.{life_log, Phase, phase, phase_step, Beginning, beginnings, is_owner, last_begun, live_count}
+use Rattle.wal_record.specs.History.{life_log, Phase, phase, phase_step, Beginning, beginnings, is_owner, live_count}
 use Rattle.wal_record.specs.declared.record.Record.{Record}
 use Rattle.wal_record.specs.declared.record.Record.TheVariants as kinds
 use Rattle.wal_record.specs.declared.entry.Entry.{Entry}
@@ -24,13 +24,13 @@ use Rattle.life_laws.proofs.CalmLog.{number_is}
 use Rattle.page_ops.specs.Claims.{Claims, IsInRange, AreInRange, Agree, PageAgrees, SessionAgrees, MaintAgrees}
 use Rattle.wal_record.specs.Rules.{is_number, is_page}
 use Rattle.page_ops.specs.Groups.{Each, is_to, needs_maintenance, record_entries, said_entries, group_entries, HasSpeaker}
-use Rattle.page_ops.specs.Seeing.{IsConsistent, is_begun, is_begun_link, is_of_session, of_sessions}
+use Rattle.page_ops.specs.Seeing.{IsConsistent, is_begun, is_begun_link, of_sessions}
 use Rattle.page_ops.specs.declared.group.Said.{Said}
-use Rattle.life_history.specs.Groups.{head_behind, maintenance_behind, is_still, linked, own_entries, IsOwn, named_pages, has_page, is_covered, raised_page, raised_maintenance, new_or, IsPageSet, IsMaintenanceSet, IsSessionSet, ArePagesSet}
-use Rattle.life_history.specs.Kept.{Numbers, BooksOf, AreKept, IsFresh, IsKept, IsSmall}
+use Rattle.life_history.specs.Groups.{head_behind, maintenance_behind, is_still, linked, own_entries, IsOwn, has_page, is_covered, raised_page, raised_maintenance, new_or, IsPageSet, IsMaintenanceSet, IsSessionSet, ArePagesSet}
+use Rattle.life_history.specs.Kept.{Numbers, BooksOf, IsFresh, IsKept, IsSmall}
 use Rattle.life_history.proofs.Keeping.{of_sessions_push, some_is}
-use Rattle.life_history.proofs.Own.{Continues, continues_none, continues_then, continues_live, continues_tx, kept_then, agreeing, owner, owned_by_none, begun_by, sessions_then, fresh_then, session_within}
-use Rattle.life_history.proofs.Small.{none_replaced, some_before, small_same}
+use Rattle.life_history.proofs.Own.{Continues, continues_none, continues_then, continues_live, continues_tx, kept_then, owner, owned_by_none, begun_by, sessions_then, fresh_then, session_within}
+use Rattle.life_history.proofs.Small.{none_replaced, some_before}
 
 -- ---- the entries one by one
 

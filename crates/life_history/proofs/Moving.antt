@@ -1,12 +1,10 @@
 -- An entry by which a session's transaction goes on to another phase: its commit, and that this is acknowledged.
-use Rattle.std.proofs.Common.{◌≡◌, ◌≢◌, ℕ, suc, eqb, cond, ◌+◌, ◌*◌, ◌≤◌, ◌<◌, ◌^◌, List, [], ◌∷◌, ◌++◌, length, Option, Some, None, Bool, true, false, refl, sym, ap, ◌∙◌, subst, arith, length-append, append-nil}
+use Rattle.std.proofs.Common.{◌≡◌, ◌≢◌, ℕ, suc, eqb, cond, ◌+◌, ◌*◌, ◌≤◌, ◌<◌, ◌^◌, List, [], ◌∷◌, ◌++◌, Option, Some, Bool, true, false, refl, sym, ap, ◌∙◌, subst, arith, length-append, append-nil}
 use Rattle.std.specs.Prelude.{max, nat_le}
 use Rattle.std.proofs.lemmas.Bool.Decides.{nat_tests}
-use Rattle.std.specs.List.{list_any}
 use Rattle.books.specs.Booking.{entry, entry_of, replaced}
-use Rattle.books.specs.declared.entry.BookEntry.{BookEntry}
 use Rattle.books.specs.Rights.{SessionClaim, session_entry}
-use Rattle.wal_record.specs.Books.{page_book, maintenance_step, maintenance_book, belongs, session_entries, unless_over, session_transaction}
+use Rattle.wal_record.specs.Books.{maintenance_step, maintenance_book, belongs, session_entries, unless_over, session_transaction}
 use Rattle.wal_record.specs.Chains.{head, greatest}
 use Rattle.wal_record.specs.History.{life_log, Phase, Live, Committed, Acknowledged, Ended, phase, phase_step, is_live, is_over, Beginning, beginnings, is_owner, begun_step, greatest_begun, session_step, last_begun}
 use Rattle.wal_record.specs.declared.record.Record.{Record}
@@ -17,7 +15,7 @@ use Rattle.wal_record.proofs.Pushes.{head_push, log_same, log_more, beginnings_p
 use Rattle.log_laws.proofs.Central.{eqb_differ, eqb_self}
 use Rattle.page_ops.specs.Claims.{SessionAgrees}
 use Rattle.page_ops.specs.Seeing.{IsConsistent, is_of_session, of_sessions}
-use Rattle.life_history.specs.Kept.{Numbers, BooksOf, AreBegun, IsKept, commit_entry, end_entry, is_started}
+use Rattle.life_history.specs.Kept.{Numbers, BooksOf, AreBegun, IsKept, commit_entry, end_entry}
 use Rattle.life_history.proofs.Beginnings.{one_owner, begun_over, begun_on, some_live}
 use Rattle.life_history.proofs.Keeping.{of_sessions_push}
 use Rattle.life_history.proofs.Own.{agreeing, begun_by, begun_once, consistent_entry, owner, owned_by_none, unless_live}

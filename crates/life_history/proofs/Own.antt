@@ -7,17 +7,17 @@ use Rattle.std.specs.List.{list_any}
 use Rattle.books.specs.Booking.{entry, entry_of, replaced}
 use Rattle.books.specs.declared.entry.BookEntry.{BookEntry}
 use Rattle.books.specs.Rights.{SessionClaim, session_entry}
-use Rattle.wal_record.specs.Books.{page_book, maintenance_step, maintenance_book, belongs, session_entries, unless_over, session_transaction}
+use Rattle.wal_record.specs.Books.{maintenance_step, belongs, session_entries, unless_over, session_transaction}
 use Rattle.wal_record.specs.Chains.{head, greatest}
-use Rattle.wal_record.specs.History.{log_of, life_log, Phase, Live, Acknowledged, Ended, phase, phase_step, is_live, is_over, live_count, Beginning, beginnings, is_owner, begun_step, greatest_begun, session_step, last_begun, IsFree}
+use Rattle.wal_record.specs.History.{log_of, life_log, Phase, Live, phase, phase_step, is_live, is_over, live_count, Beginning, beginnings, is_owner, begun_step, greatest_begun, session_step, last_begun, IsFree}
 use Rattle.wal_record.specs.Legal.{untold_step, split_leaf, split_step, FollowsSplit, EntryRule, IsAllowed, IsLegal}
 use Rattle.wal_record.specs.Sound.{IsSound}
 use Rattle.wal_record.specs.declared.page.PageState.{PageState}
 use Rattle.wal_record.specs.declared.record.Record.{Record}
 use Rattle.wal_record.specs.declared.entry.Entry.{Entry}
-use Rattle.wal_record.specs.declared.entry.Entry.TheVariants.{Rec, Lock, Refused, Said, Declined, Began}
+use Rattle.wal_record.specs.declared.entry.Entry.TheVariants.{Lock, Refused, Said, Declined, Began}
 use Rattle.wal_record.proofs.Along.{AllAlong_back, by_pushes}
-use Rattle.wal_record.proofs.Pushes.{head_push, log_same, beginnings_push, begun_push, untold_push, split_leaf_push, last_begun_push, phase_push, maintenance_push, session_entries_push}
+use Rattle.wal_record.proofs.Pushes.{log_same, beginnings_push, begun_push, untold_push, split_leaf_push, last_begun_push, phase_push, maintenance_push, session_entries_push}
 use Rattle.log_laws.proofs.Central.{eqb_differ, eqb_self}
 use Rattle.log_laws.proofs.Serial.{owner_new}
 use Rattle.page_ops.specs.Claims.{SessionAgrees}

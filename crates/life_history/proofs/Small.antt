@@ -1,5 +1,5 @@
 -- Which entries the books of pages and of maintenance have.
-use Rattle.std.proofs.Common.{◌≡◌, ◌≢◌, ℕ, suc, ◌+◌, ◌≤◌, List, [], ◌∷◌, ◌++◌, Option, Some, None, refl, sym, ap, ◌∙◌, subst, arith}
+use Rattle.std.proofs.Common.{◌≡◌, ℕ, ◌+◌, ◌≤◌, List, [], ◌∷◌, ◌++◌, Some, None, refl, sym, ap, ◌∙◌, arith}
 use native.Mathlib.Decide.{ℕ_discrete}
 use mathlib.Core.Logic.{dite}
 use Rattle.books.specs.Booking.{entry, entry_of, replaced}
@@ -8,7 +8,7 @@ use Rattle.books.proofs.Keeping.{entry_of-added, entry_of-other}
 use Rattle.wal_record.specs.Books.{page_book}
 use Rattle.wal_record.specs.declared.entry.Entry.{Entry}
 use Rattle.wal_record.specs.declared.record.Record.{Record}
-use Rattle.life_history.specs.Kept.{Numbers, BooksOf, IsKept, IsSmall}
+use Rattle.life_history.specs.Kept.{Numbers, IsKept, IsSmall}
 use Rattle.life_history.proofs.Keeping.{entry_of-apart, some_is}
 
 -- a number without an entry stays so

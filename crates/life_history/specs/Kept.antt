@@ -1,5 +1,5 @@
 -- What a life's history keeps.
-use Rattle.std.specs.Prelude.{◌≡◌, ◌≢◌, ℕ, suc, max, ◌+◌, ◌*◌, ◌^◌, ◌<◌, ◌≤◌, List, [], ◌∷◌, ◌++◌, length, filter, Option, Some, None, is_some, Bool, true, false, ◌&&◌, ◌==◌, IsTrue}
+use Rattle.std.specs.Prelude.{◌≡◌, ◌≢◌, ℕ, suc, max, ◌+◌, ◌*◌, ◌^◌, ◌<◌, ◌≤◌, List, [], ◌∷◌, length, filter, Option, Some, None, is_some, Bool, true, false, ◌&&◌, ◌==◌, IsTrue}
 use Rattle.std.specs.List.{list_any}
 use Rattle.books.specs.Booking.{entry_of}
 use Rattle.books.specs.declared.entry.BookEntry.{BookEntry}

@@ -1,4 +1,4 @@
-use Rattle.std.proofs.Common.{◌≡◌, ◌∙◌, sym, ap, get_or}
+use Rattle.std.proofs.Common.{◌∙◌, sym, ap, get_or}
 use Rattle.group_filling.specs.Fields.{no_fields}
 use Rattle.group_filling.proofs.Chaining.{fill_one, fill_two, joins_filled}
 use Rattle.page_ops.specs.Groups.{made_by}

@@ -1,5 +1,5 @@
-use Rattle.std.proofs.Common.{◌≡◌, ◌+◌, length, arith, sym, ap, ◌∙◌}
-use Rattle.page_ops.specs.Groups.{said_entries, group_entries}
+use Rattle.std.proofs.Common.{◌+◌, length, arith, sym, ap, ◌∙◌}
+use Rattle.page_ops.specs.Groups.{said_entries}
 use Rattle.life_history.proofs.Grouped.{group_longer}
 use Rattle.life_history.proofs.raising.entries_of.Goals as goal
 

@@ -1,5 +1,5 @@
-use Rattle.std.proofs.Common.{ap, sym, ◌∙◌, subst}
-use Rattle.page_ops.specs.Claims.{Claims, AreInRange}
+use Rattle.std.proofs.Common.{◌∙◌, subst}
+use Rattle.page_ops.specs.Claims.{Claims}
 use Rattle.life_history.specs.Groups.{ArePagesSet, new_or}
 use Rattle.life_history.proofs.Grouped.{claims_in_range}
 use Rattle.life_history.proofs.raising.raise_pages.Goals as goal

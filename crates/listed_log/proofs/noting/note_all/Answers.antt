@@ -1,4 +1,4 @@
-use Rattle.std.proofs.Common.{◌≡◌, ◌+◌, ◌≤◌, List, [], ◌∷◌, ◌++◌, arith, ap, sym, ◌∙◌, subst, length}
+use Rattle.std.proofs.Common.{◌≡◌, List, [], ◌∷◌, ◌++◌, arith, ap, sym, ◌∙◌, subst}
 use Rattle.std.specs.List.{list_any}
 use Rattle.log_index.specs.Listing.{IsListingOf}
 use Rattle.wal_record.specs.Chains.{finishes, last}
@@ -28,5 +28,5 @@ returns-in-len2-clause-noted c log at low before t none =
     let q = c.two-item.result in
     let is : c.args.recs.now ≡ r ∷ q ∷ [] = two_items c.args.recs.now r q c.in-len2.len_at_least c.in-len2.len_below c.one-item-then-recs-lt3.is c.two-item.is in
     noted_two log r q c.args.lsn c.saturating_add.result c.args.listing.now c.note-in-len2.new.self c.note-in-len2-2.new.self before c.note-in-len2.ensures.noted c.note-in-len2-2.ensures.noted at (omega (arith, c.saturating_add.ensures, at, low)) t
-        (ap (λ (l : List Record). list_any (finishes t) (log ++ l)) (sym is) ∙ none)
+    (ap (λ (l : List Record). list_any (finishes t) (log ++ l)) (sym is) ∙ none)
     ∙ ap (λ (l : List Record). last (log ++ l) t) (sym is)

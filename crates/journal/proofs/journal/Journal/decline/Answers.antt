@@ -1,11 +1,10 @@
-use Rattle.std.proofs.Common.{◌++◌, ◌∷◌, [], ◌≡◌, ◌+◌, List, Option, Some, sym, ap, ◌∙◌, refl, subst}
+use Rattle.std.proofs.Common.{◌++◌, ◌∷◌, [], ◌+◌, List, Option, Some, sym, ap, ◌∙◌, refl, subst}
 use Rattle.std.specs.Prelude.{IsSome}
 use Rattle.page_ops.specs.Asking.{MayBeDeclined}
 use Rattle.page_ops.specs.Groups.{declined_entries}
 use Rattle.page_ops.specs.Seeing.{IsConsistent, of_sessions}
 use Rattle.page_ops.specs.declared.group.Said.{Said}
 use Rattle.store_model.specs.declared.reply.Outcome.TheVariants as outcomes
-use Rattle.wal_record.specs.History.{live_count}
 use Rattle.wal_record.specs.declared.entry.Entry.{Entry}
 use Rattle.wal_record.specs.declared.entry.Entry.TheVariants as entries
 use Rattle.journal.proofs.Declining.{declined_consistent, speaker_of}

@@ -1,4 +1,4 @@
-use Rattle.std.proofs.Common.{refl, sym, ap, ◌∙◌}
+use Rattle.std.proofs.Common.{refl, sym, ◌∙◌}
 use Rattle.std.proofs.lemmas.Result.{err_from_is_err_and}
 use Rattle.journal.proofs.Declining.{declined_group, full_of}
 use Rattle.journal.proofs.Ending.{told_stops, stopped_ends}

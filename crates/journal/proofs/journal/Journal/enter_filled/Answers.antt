@@ -1,10 +1,9 @@
-use Rattle.std.proofs.Common.{List, Option, ◌≡◌, ◌≤◌, ◌++◌, refl, sym, subst, arith, ap, ◌∙◌, length}
+use Rattle.std.proofs.Common.{List, Option, ◌++◌, refl, sym, subst, arith}
 use Rattle.std.specs.Prelude.{IfSome}
 use Rattle.books.specs.Rights.{PageClaim}
 use Rattle.page_ops.specs.Claims.{PageAgrees}
 use Rattle.wal_record.specs.History.{life_log}
 use Rattle.wal_record.specs.Sound.{AreLawful}
-use Rattle.wal_record.specs.declared.record.Record.{Record}
 use Rattle.wal_record.specs.declared.entry.Entry.{Entry}
 use Rattle.journal.specs.Groups.{IsNext}
 use Rattle.journal.proofs.Living.{kept_group, kept_refused}

@@ -1,4 +1,4 @@
-use Rattle.std.proofs.Common.{List, Option, ℕ, ◌≡◌, ◌≤◌, length, refl, sym, subst, ap, ◌∙◌}
+use Rattle.std.proofs.Common.{List, Option, ℕ, ◌≤◌, length, refl, sym, subst}
 use Rattle.std.specs.Prelude.{IsSome, IsTrue}
 use Rattle.std.specs.List.{All}
 use Rattle.group_filling.specs.Fitting.{AreInRange}

@@ -6,8 +6,7 @@ use Rattle.range_lock.specs.Held as table
 use Rattle.range_lock.specs.Lock.{Lock, conflict}
 use Rattle.range_lock.specs.Nearest.{IsFirstInConflict}
 use Rattle.range_lock.specs.declared.rival.Rival.{Rival}
-use Rattle.store_model.specs.Range.{Interval}
-use Rattle.wal_record.specs.History.{Live, phase, live_count}
+use Rattle.wal_record.specs.History.{live_count}
 use Rattle.wal_record.specs.Legal.{held}
 use Rattle.wal_record.specs.Locks.{locks}
 use Rattle.wal_record.specs.declared.entry.Entry.{Entry}

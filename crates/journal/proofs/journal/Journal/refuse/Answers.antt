@@ -1,4 +1,4 @@
-use Rattle.std.proofs.Common.{◌++◌, ◌∷◌, [], ◌≡◌, List, sym, ap, ◌∙◌, refl, subst}
+use Rattle.std.proofs.Common.{◌++◌, ◌∷◌, [], List, sym, ap, ◌∙◌, refl, subst}
 use Rattle.std.proofs.lemmas.Result.{err_from_is_err_and}
 use Rattle.page_ops.specs.Claims.{session_alone}
 use Rattle.page_ops.specs.Seeing.{IsConsistent, IsMoment}

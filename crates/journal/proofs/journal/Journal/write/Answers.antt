@@ -1,4 +1,4 @@
-use Rattle.std.proofs.Common.{List, ◌≡◌, sym, subst}
+use Rattle.std.proofs.Common.{List, sym, subst}
 use Rattle.page_ops.specs.Asking.{HasNumbers, MayFollow}
 use Rattle.wal_record.specs.declared.entry.Entry.{Entry}
 use Rattle.journal.proofs.journal.Journal.write.Goals as goal

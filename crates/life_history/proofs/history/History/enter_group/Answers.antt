@@ -1,7 +1,6 @@
-use Rattle.std.proofs.Common.{◌≤◌, ◌<◌, refl, sym, ap, ◌∙◌, arith, length, ◌++◌, ◌+◌, ◌^◌, subst, List, ◌≡◌}
+use Rattle.std.proofs.Common.{◌≤◌, sym, ap, ◌∙◌, arith, length, ◌++◌, ◌+◌, subst, List, ◌≡◌}
 use Rattle.std.specs.Prelude.{IfSome, IsSome}
 use Rattle.wal_record.specs.declared.record.Record.{Record}
-use Rattle.wal_record.specs.declared.entry.Entry.{Entry}
 use Rattle.wal_record.specs.History.{life_log, live_count}
 use Rattle.page_ops.specs.Claims.{Agree, PageAgrees}
 use Rattle.page_ops.specs.Groups.{group_entries}

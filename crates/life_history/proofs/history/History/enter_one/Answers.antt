@@ -1,6 +1,5 @@
-use Rattle.std.proofs.Common.{◌≤◌, refl, sym, ap, ◌∙◌, arith, length, subst, ◌+◌, ◌++◌, [], ◌∷◌}
+use Rattle.std.proofs.Common.{◌≤◌, refl, sym, ap, ◌∙◌, arith, length, subst, ◌+◌, ◌++◌}
 use Rattle.wal_record.specs.History.{live_count}
-use Rattle.page_ops.specs.Claims.{SessionAgrees}
 use Rattle.page_ops.specs.Seeing.{IsConsistent, of_sessions}
 use Rattle.life_history.proofs.Entries.{session_fits, own_kept, own_agrees, own_counted, own_live, one_long}
 use Rattle.life_history.proofs.Small.{small_same}

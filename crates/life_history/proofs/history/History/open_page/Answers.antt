@@ -1,6 +1,5 @@
-use Rattle.std.proofs.Common.{◌≤◌, arith, sym, ap, ◌∙◌, ◌≡◌, List, subst}
+use Rattle.std.proofs.Common.{arith, ap, ◌∙◌}
 use Rattle.wal_record.specs.Books.{page_book}
-use Rattle.wal_record.specs.declared.record.Record.{Record}
 use Rattle.life_history.proofs.Small.{kept_page, small_opened}
 use Rattle.life_history.proofs.history.History.open_page.Goals as goal
 

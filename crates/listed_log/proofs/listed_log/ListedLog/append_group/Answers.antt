@@ -1,4 +1,3 @@
-use Rattle.std.proofs.Common.{◌≡◌}
 use Rattle.listed_log.proofs.Adding.{readied, added}
 use Rattle.listed_log.proofs.listed_log.ListedLog.append_group.Goals as goal
 
