@@ -1,5 +1,5 @@
 -- A commit, as it is entered: what the journal keeps behind each of its calls, and what the caller knows then.
-use Rattle.std.proofs.Common.{◌≡◌, ℕ, suc, eqb, cond, ◌+◌, ◌≤◌, ◌<◌, ◌^◌, List, [], ◌∷◌, ◌++◌, length, Option, None, Some, Bool, true, false, refl, sym, ap, ◌∙◌, subst, inl, inr, arith}
+use Rattle.std.proofs.Common.{◌≡◌, ℕ, cond, ◌+◌, ◌≤◌, ◌<◌, ◌^◌, List, [], ◌∷◌, ◌++◌, length, None, Bool, true, false, refl, sym, ap, ◌∙◌, subst, inl, inr, arith}
 use Rattle.std.specs.Prelude.{◌⊎◌, is_some, is_err, IfErr, OnOk, Result, Ok, Err}
 use Rattle.std.specs.List.{list_any}
 use Rattle.books.specs.Rights.{SessionClaim}
@@ -21,7 +21,7 @@ use Rattle.wal_record.specs.declared.record.Record.{Record}
 use Rattle.wal_record.specs.declared.record.Record.TheVariants as kinds
 use Rattle.wal_record.specs.declared.entry.Entry.{Entry}
 use Rattle.wal_record.specs.declared.entry.Entry.TheVariants as entries
-use Rattle.wal_record.proofs.Pushes.{log_same, phase_push}
+use Rattle.wal_record.proofs.Pushes.{phase_push}
 use Rattle.log_laws.proofs.Central.{eqb_self}
 use Rattle.claim_laws.proofs.Filling.{last_in}
 use Rattle.page_ops.specs.Causes.{IsOpen}

@@ -1,20 +1,19 @@
 -- A commit: of a live transaction it is legal, and the life is at rest behind it.
-use Rattle.std.proofs.Common.{◌≡◌, ◌≢◌, ℕ, suc, eqb, cond, ◌+◌, ◌≤◌, ◌<◌, ◌^◌, List, [], ◌∷◌, ◌++◌, length, Bool, true, false, not, refl, sym, ap, ◌∙◌, subst, arith, min}
+use Rattle.std.proofs.Common.{◌≡◌, ◌≢◌, ℕ, eqb, cond, ◌+◌, ◌≤◌, ◌<◌, ◌^◌, List, [], ◌∷◌, ◌++◌, length, Bool, true, false, not, refl, sym, ap, ◌∙◌, subst, arith}
 use Rattle.std.specs.Prelude.{filter, ◌&&◌, ◌||◌}
 use Rattle.std.proofs.lemmas.Bool.{eqb-true}
 use Rattle.std.specs.List.{list_any}
 use Rattle.std.proofs.lemmas.List.Folds.{list_any-append}
 use Rattle.books.specs.Rights.{SessionClaim}
-use Rattle.wal_record.specs.Chains.{finishes, greatest, last}
+use Rattle.wal_record.specs.Chains.{finishes, last}
 use Rattle.wal_record.specs.History.{log_of, life_log, Phase, Live, phase, is_live, live_count, Beginning, beginnings, is_owner}
 use Rattle.wal_record.specs.OpenWrites.{has_items}
 use Rattle.wal_record.specs.Rules.{HasSpelling}
-use Rattle.wal_record.specs.Sound.{AreLawful, IsSound, used}
-use Rattle.wal_record.specs.Checkpoints.{limit_of}
+use Rattle.wal_record.specs.Sound.{AreLawful}
 use Rattle.wal_record.specs.declared.record.Record.{Record}
 use Rattle.wal_record.specs.declared.record.Record.TheVariants as kinds
 use Rattle.wal_record.specs.declared.entry.Entry.{Entry}
-use Rattle.wal_record.proofs.Pushes.{log_more, untold_push, lawful_front}
+use Rattle.wal_record.proofs.Pushes.{log_more, untold_push}
 use Rattle.log_laws.proofs.Phases.{live_law}
 use Rattle.log_laws.proofs.Serial.{owner_new}
 use Rattle.life_laws.proofs.CalmLog.{lsn_is, number_is}

@@ -1,6 +1,6 @@
 -- A request that is declined, since there is no room for its write.
-use Rattle.std.proofs.Common.{◌≡◌, ℕ, suc, ◌+◌, ◌≤◌, ◌<◌, List, [], ◌∷◌, ◌++◌, length, Option, Some, None, true, refl, sym, ap, ◌∙◌, subst, arith, append-nil}
-use Rattle.std.specs.Prelude.{IfErr, IfSome, IsSome, Result, Ok, Err}
+use Rattle.std.proofs.Common.{◌≡◌, ℕ, ◌+◌, ◌≤◌, ◌<◌, List, [], ◌∷◌, ◌++◌, length, Option, Some, None, true, refl, sym, ap, ◌∙◌, subst, arith, append-nil}
+use Rattle.std.specs.Prelude.{IfErr, IsSome, Result, Ok, Err}
 use Rattle.books.specs.Rights.{SessionClaim}
 use Rattle.front.specs.Seen.{PassSeen}
 use Rattle.store_model.specs.declared.fault.Fault.{Fault}
@@ -19,9 +19,9 @@ use Rattle.wal_record.specs.declared.entry.Entry.TheVariants as entries
 use Rattle.wal_record.proofs.Pushes.{log_same}
 use Rattle.page_ops.specs.Asking.{LacksRoomFor, MayBeDeclined, needed}
 use Rattle.page_ops.specs.Claims.{Claims, Agree, session_alone}
-use Rattle.page_ops.specs.Groups.{declined_entries}
+use Rattle.page_ops.specs.Groups.{HasSpeaker, declined_entries}
 use Rattle.page_ops.specs.Names.{LedgerName}
-use Rattle.page_ops.specs.Outcomes.{EntersGroup, IsAnswer, IsFull, KeepsRights, SameHolders, page_of}
+use Rattle.page_ops.specs.Outcomes.{EntersGroup, IsAnswer, IsFull}
 use Rattle.page_ops.specs.Seeing.{Account, known, Enters, IsConsistent, IsMoment, of_sessions}
 use Rattle.page_ops.specs.declared.group.Group.{Group}
 use Rattle.page_ops.specs.declared.group.Said.{Said}
@@ -30,7 +30,7 @@ use Rattle.page_ops.specs.declared.outcome.Entered.TheVariants as entered
 use Rattle.life_history.specs.Kept.{counted_more}
 use Rattle.life_history.proofs.Entering.{entered_then}
 use Rattle.life_history.proofs.Own.{consistent_entry}
-use Rattle.journal.specs.Declined.{IsTaken, IsSame, EntersDeclined, IsDeclined}
+use Rattle.journal.specs.Declined.{IsTaken, IsSame, IsDeclined}
 use Rattle.journal.specs.declared.taken.Taken.{Taken}
 
 abbrev pub declined : Said → Taken → Entry
@@ -40,6 +40,10 @@ pub declined_consistent : (opens : List Record → Type 0) (h : List Entry) (sai
 declined_consistent opens h said full c told may = consistent_entry opens h (declined said full) c refl refl (λ log. refl) (λ opening stands.
     let is = told opening stands in
     subst (λ (x : ℕ × ℕ). MayDecline opening h said.session said.tx said.request (outcomes.Full x.0 x.1)) (λ i. (sym is.0 i, sym is.1 i)) (may opening stands))
+
+-- the session of the right speaks
+pub speaker_of : (o : Option SessionClaim) (p : Option Said) (s : SessionClaim) (said : Said) → HasSpeaker o p → o ≡ Some s → p ≡ Some said → (said.session ≡ s.session) × (said.tx ≡ s.tx)
+speaker_of o p s said speaks is told = subst (λ (x : Option SessionClaim × Option Said). HasSpeaker x.0 x.1) (λ i. (is i, told i)) speaks
 
 same_log : (opening : List Record) (h : List Entry) (said : Option Said) (why : Outcome) → life_log opening (h ++ declined_entries said why) ≡ life_log opening h
 same_log opening h (Some s) why = log_same opening h (entries.Declined s.session s.tx s.request why) refl

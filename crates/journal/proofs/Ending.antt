@@ -1,13 +1,13 @@
 -- What a caller knows where a call finds the life ended, wants memory, or meets a fault of the log disk.
-use Rattle.std.proofs.Common.{◌≡◌, ℕ, ◌+◌, ◌≤◌, ◌<◌, List, [], length, Option, Some, None, true, refl, sym, ap, ◌∙◌, subst, inl, inr, arith}
-use Rattle.std.specs.Prelude.{◌⊎◌, IfSome, IsTrue, is_some, Result, Err}
+use Rattle.std.proofs.Common.{◌≡◌, ℕ, ◌+◌, ◌<◌, List, [], length, Option, Some, None, refl, sym, ap, ◌∙◌, subst, inl, inr, arith}
+use Rattle.std.specs.Prelude.{◌⊎◌, IfSome, IsTrue, is_some}
 use Rattle.front.specs.Seen.{PassSeen}
 use Rattle.store_model.specs.declared.fault.Fault.{Fault}
 use Rattle.store_model.specs.declared.fault.Fault.TheVariants as faults
 use Rattle.wal_record.specs.declared.record.Record.{Record}
 use Rattle.wal_record.specs.declared.entry.Entry.{Entry}
 use Rattle.life_history.specs.Kept.{counted_more}
-use Rattle.page_ops.specs.Causes.{IsOpen, MeetsNoEnd, FindsEnd, EndsBy, FailsToEnter, FailsToFlush}
+use Rattle.page_ops.specs.Causes.{IsOpen, MeetsNoEnd, EndsBy, FailsToEnter, FailsToFlush}
 use Rattle.page_ops.specs.Claims.{Claims}
 use Rattle.page_ops.specs.Names.{LedgerName}
 use Rattle.page_ops.specs.Seeing.{Account, Counted, known, Keeps, Enters, of_sessions}

@@ -1,30 +1,30 @@
 -- What a caller knows behind a group that was entered, or wasn't.
-use Rattle.std.proofs.Common.{◌≡◌, ℕ, suc, ◌+◌, ◌≤◌, List, [], ◌∷◌, ◌++◌, length, Option, Some, None, true, refl, sym, ap, ◌∙◌, subst, arith}
-use Rattle.std.specs.Prelude.{◌<◌, IsSome, Ok, Err}
+use Rattle.std.proofs.Common.{◌≡◌, ℕ, ◌+◌, ◌≤◌, List, [], ◌∷◌, ◌++◌, length, Option, Some, None, refl, sym, ap, ◌∙◌, subst, arith}
+use Rattle.std.specs.Prelude.{◌<◌, IsSome, IsTrue, Ok, Err}
 use Rattle.std.specs.Option.{option_map}
 use Rattle.books.specs.Rights.{PageClaim, SessionClaim, MaintClaim}
 use Rattle.front.specs.Seen.{PassSeen}
 use Rattle.front.proofs.Keeping.{prefix_trans}
-use Rattle.life_history.specs.Kept.{counted_more, told_entries}
+use Rattle.life_history.specs.Groups.{counted_group, own_entries, raised_page, raised_session, raised_maintenance, new_or}
+use Rattle.life_history.specs.Kept.{counted_more}
 use Rattle.life_history.proofs.Entering.{entered_then}
-use Rattle.life_history.proofs.Entries.{keeps_counted}
 use Rattle.page_ops.specs.Asking.{HasRoomFor}
 use Rattle.page_ops.specs.Claims.{Claims, SessionAgrees, session_alone}
-use Rattle.page_ops.specs.Groups.{Numbers, no_checkpoint, AreFilled, made_by, group_entries}
+use Rattle.page_ops.proofs.Gaining.{ended_self}
+use Rattle.page_ops.specs.Groups.{made_by, group_entries}
 use Rattle.page_ops.specs.Names.{LedgerName}
 use Rattle.page_ops.specs.Outcomes.{EntersGroup, IsFilledIn, page_of, new_place}
 use Rattle.page_ops.specs.Seeing.{Account, known, Keeps, Enters, IsConsistent, IsMoment, of_sessions}
 use Rattle.page_ops.specs.declared.group.Group.{Group}
-use Rattle.page_ops.specs.declared.group.Said.{Said}
 use Rattle.page_ops.specs.declared.outcome.Entered.TheVariants as entered
 use Rattle.store_model.specs.declared.fault.Fault.TheVariants as faults
-use Rattle.wal_record.specs.declared.record.Write.{Write}
 use Rattle.wal_record.specs.declared.record.Record.{Record}
-use Rattle.wal_record.specs.declared.record.Record.TheVariants as kinds
 use Rattle.wal_record.specs.declared.entry.Entry.{Entry}
 use Rattle.wal_record.specs.History.{Live, phase}
 use Rattle.journal.specs.Locks.{AreAcknowledged}
-use Rattle.journal.specs.Puts.{filled_write, AsksWrite, EntersWrite}
+use Rattle.journal.specs.Groups.{IsNewRight, EntersFilled, EntersNow}
+use Rattle.page_ops.specs.Groups.{AreFilled}
+use Rattle.wal_record.specs.State.{is_child}
 use Rattle.journal.proofs.Locking.{live_of}
 
 -- what was seen is a moment of the history, at which the rights agree
@@ -66,16 +66,20 @@ entered_entry opens entries sessions a0 a1 a2 a3 s0 s1 s3 x0 x1 x3 h h3 e first 
     (more ∙ ap (λ (a : Account). counted_more a 1) same) (subst (λ (l : List Entry). of_sessions l ≡ of_sessions h + 1) now own) consistent
     (record { a = tt; b = tt; c = tt; s = subst (λ (l : List Entry). SessionAgrees l x3) now agrees; m = tt })
 
-module _ (opens : List Record → Type 0) (entries sessions : LedgerName) (asked now : Group) (a0 a1 a3 a4 : Account) (s0 s1 s3 : PassSeen Entry) (h1 h3 : List Entry) (x0 x1 x3 x4 : Claims) (pos : ℕ) where
-  pub entered_group : Enters opens entries sessions (known a0 s0 x0) [] (known a1 s1 x1) → a1 ≡ a0 → x1 ≡ x0 → s1.log ≡ h1 → (p : EntersWrite asked now x1 x3 h1 h3) → a3 ≡ counted_more a1 2 → of_sessions h3 ≡ of_sessions h1 + 2
+-- ---- a group
+
+pub keeps_group : (a : Account) (n own : ℕ) → Keeps a (counted_group a n own)
+keeps_group a n own = record { entry_parts = refl; session_parts = refl; log_parts = refl; vault_parts = refl; log_faults = omega arith; vault_faults = omega arith; made = refl; ended = ended_self a.ended }
+
+module _ (opens : List Record → Type 0) (entries sessions : LedgerName) (asked now : Group) (a0 a1 a2 a3 a4 : Account) (s0 s1 s3 : PassSeen Entry) (h1 h3 : List Entry) (x0 x1 x3 x4 : Claims) (pos : ℕ) where
+  pub entered_group : Enters opens entries sessions (known a0 s0 x0) [] (known a1 s1 x1) → a1 ≡ a0 → a2 ≡ a1 → x1 ≡ x0 → s1.log ≡ h1 → EntersNow asked now x1 x3 a2 a3 h1 h3
       → Enters opens entries sessions (known a3 s1 x3) [] (known a4 s3 x4) → a4 ≡ a3 → s3.log ≡ h3 → ((opening : List Record) → opens opening → HasRoomFor opening h1 asked)
       → EntersGroup opens entries sessions asked now (Ok (entered.At pos)) (known a0 s0 x0) (known a4 s3 x4)
-  entered_group e account claims log p more counted after same seen room =
-      let group : group_entries now.lsn now.recs asked.said ≡ told_entries p.lsn (filled_write p.w p.prev p.page.lsn) p.said =
-      λ i. group_entries (p.group i).lsn (p.group i).recs (p.asks.is i).said in
+  entered_group e account checked claims log p after same seen room =
       let es = group_entries now.lsn now.recs asked.said in
-      let is : s3.log ≡ s1.log ++ es = seen ∙ p.history ∙ ap (λ l. h1 ++ l) (sym group) ∙ ap (λ h. h ++ es) (sym log) in
-      let sums : a4 ≡ counted_more a0 2 = same ∙ more ∙ ap (λ (a : Account). counted_more a 2) account in
+      let own = p.own in
+      let is : s3.log ≡ s1.log ++ es = seen ∙ p.history ∙ ap (λ h. h ++ es) (sym log) in
+      let sums : a4 ≡ counted_group a0 (length es) own = same ∙ p.counted ∙ ap (λ (a : Account). counted_group a (length es) own) (checked ∙ account) in
       record {
         enters = record {
           moment = s1.log;
@@ -83,10 +87,10 @@ module _ (opens : List Record → Type 0) (entries sessions : LedgerName) (asked
           is = is;
           now = record { begins = prefix_trans s0.log s1.log s3.log e.now.begins after.now.begins; consistent = after.now.consistent; rights = after.now.rights };
           durable = let first = e.durable in let then = after.durable in omega (arith, first, then);
-          keeps = subst (λ a. Keeps a0 a) (sym sums) (keeps_counted a0 2);
-          counted = ap (λ (a : Account). a.entries.amount) sums ∙ ap (λ (l : List Entry). a0.entries.amount + length l) (sym group);
+          keeps = subst (λ a. Keeps a0 a) (sym sums) (keeps_group a0 (length es) own);
+          counted = ap (λ (a : Account). a.entries.amount) sums;
           sessions_counted =
-              let one : of_sessions s3.log ≡ of_sessions s1.log + 2 = ap of_sessions seen ∙ counted ∙ ap (λ h. of_sessions h + 2) (sym log) in
+              let one : of_sessions s3.log ≡ of_sessions s1.log + own = ap of_sessions seen ∙ p.belongs ∙ ap (λ h. of_sessions h + own) (sym log) in
               let sum = ap (λ (a : Account). a.session_entries.amount) sums in
               omega (arith, one, sum);
           totals = after.totals;
@@ -94,25 +98,52 @@ module _ (opens : List Record → Type 0) (entries sessions : LedgerName) (asked
         room = λ opening stands. subst (λ h. HasRoomFor opening h asked) (sym log) (room opening stands);
       }
 
-filled_one : (w : Write) (prev page_prev : ℕ) → AreFilled 0 (kinds.Write w ∷ []) (filled_write w prev page_prev ∷ [])
-filled_one w prev page_prev =
-    let numbers : Numbers = record { prev = prev; page_prev = page_prev; other_prev = 0; child = 0; checkpoint = no_checkpoint; pages = 0 } in
-    ((numbers, refl, refl), tt)
+pages_of : (lsn : ℕ) (recs : List Record) (o : Option PageClaim) → page_of (option_map (raised_page lsn recs) o) ≡ page_of o
+pages_of lsn recs None = refl
+pages_of lsn recs (Some p) = refl
 
-pub filled_in : (asked now : Group) (h1 h3 : List Entry) (x0 x1 x3 x4 : Claims) → EntersWrite asked now x1 x3 h1 h3 → x1 ≡ x0 → x4 ≡ x3 → IsFilledIn asked now x0 x4
-filled_in asked now h1 h3 x0 x1 x3 x4 p first last =
-    let rights : x4 ≡ record x0 { a = Some (record { page = p.page.page; lsn = p.lsn }); s = Some (record { session = p.s.session; entries = p.s.entries + 2; tx = p.s.tx }) } =
-    last ∙ p.rights ∙ ap (λ (x : Claims). record x { a = Some (record { page = p.page.page; lsn = p.lsn }); s = Some (record { session = p.s.session; entries = p.s.entries + 2; tx = p.s.tx }) }) first in
-    let asks = subst (λ x. AsksWrite asked x p.w p.said p.page p.s) first p.asks in
+sessions_of : (own : ℕ) (o : Option SessionClaim) → option_map (λ (s : SessionClaim). s.session) (option_map (raised_session own) o) ≡ option_map (λ (s : SessionClaim). s.session) o
+sessions_of own None = refl
+sessions_of own (Some s) = refl
+
+numbers_of : (lsn : ℕ) (recs : List Record) (o : Option MaintClaim) → option_map (λ (m : MaintClaim). m.number) (option_map (raised_maintenance lsn recs) o) ≡ option_map (λ (m : MaintClaim). m.number) o
+numbers_of lsn recs None = refl
+numbers_of lsn recs (Some m) = refl
+
+place_of : (n : Option ℕ) (child lsn : ℕ) (recs : List Record) (made old : Option PageClaim) → IsNewRight n child made → page_of (new_or (option_map (raised_page lsn recs) made) (option_map (raised_page lsn recs) old)) ≡ new_place n child (page_of old)
+place_of None child lsn recs made old is = ap (λ (m : Option PageClaim). page_of (new_or (option_map (raised_page lsn recs) m) (option_map (raised_page lsn recs) old))) is ∙ pages_of lsn recs old
+place_of (Some n) child lsn recs None old is = absurd (cc is)
+place_of (Some n) child lsn recs (Some p) old is = is
+
+-- records and an answer that were entered are those of the group
+pub enters_now : (asked now : Group) (x x' : Claims) (a a' : Account) (h h' : List Entry) (child : ℕ) (made : Option PageClaim) → AreFilled child asked.recs now.recs → now ≡ record asked { recs = now.recs; lsn = now.lsn }
+    → EntersFilled now.recs asked.said made x x' a a' h h' now.lsn → IsNewRight (made_by asked.recs) child made → (IsSome (made_by asked.recs) → IsTrue (is_child child)) → EntersNow asked now x x' a a' h h'
+enters_now asked now x x' a a' h h' child made filling is e new numbered =
+    let recs = now.recs in
+    let rights = e.rights in
     record {
-      child = 0;
-      recs = subst (λ (y : List Record × List Record). AreFilled 0 y.0 y.1) (λ i. (sym (ap (λ (g : Group). g.recs) asks.is) i, sym (ap (λ (g : Group). g.recs) p.group) i)) (filled_one p.w p.prev p.page.lsn);
+      child = child;
+      own = own_entries recs asked.said;
+      filled = filling;
+      is = is;
+      history = e.history;
+      counted = e.counted;
+      belongs = e.belongs;
       holders = record {
-        a = ap (λ (x : Claims). page_of x.a) rights ∙ sym (ap page_of asks.right);
-        b = ap (λ (x : Claims). page_of x.b) rights;
-        s = ap (λ (x : Claims). option_map (λ (s : SessionClaim). s.session) x.s) rights ∙ sym (ap (λ (o : Option SessionClaim). option_map (λ (s : SessionClaim). s.session) o) asks.session);
-        m = ap (λ (x : Claims). option_map (λ (m : MaintClaim). m.number) x.m) rights;
+        a = ap (λ (x : Claims). page_of x.a) rights ∙ pages_of now.lsn recs x.a;
+        b = ap (λ (x : Claims). page_of x.b) rights ∙ pages_of now.lsn recs x.b;
+        s = ap (λ (x : Claims). option_map (λ (s : SessionClaim). s.session) x.s) rights ∙ sessions_of (own_entries recs asked.said) x.s;
+        m = ap (λ (x : Claims). option_map (λ (m : MaintClaim). m.number) x.m) rights ∙ numbers_of now.lsn recs x.m;
       };
-      made = ap (λ (x : Claims). page_of x.c) rights ∙ sym (ap (λ (g : Group). new_place (made_by g.recs) 0 (page_of x0.c)) asks.is);
-      numbered = λ makes. absurd (subst (λ (g : Group). IsSome (made_by g.recs)) asks.is makes);
+      made = ap (λ (x : Claims). page_of x.c) rights ∙ place_of (made_by asked.recs) child now.lsn recs made x.c new;
+      numbered = numbered;
     }
+
+pub filled_in : (asked now : Group) (a a' : Account) (h1 h3 : List Entry) (x0 x1 x3 x4 : Claims) → EntersNow asked now x1 x3 a a' h1 h3 → x1 ≡ x0 → x4 ≡ x3 → IsFilledIn asked now x0 x4
+filled_in asked now a a' h1 h3 x0 x1 x3 x4 p first last = subst (λ (y : Claims × Claims). IsFilledIn asked now y.0 y.1) (λ i. (first i, sym last i)) (record {
+  child = p.child;
+  recs = p.filled;
+  holders = p.holders;
+  made = p.made;
+  numbered = p.numbered;
+})

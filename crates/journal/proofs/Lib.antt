@@ -5,6 +5,5 @@ pub mod Ending
 pub mod Entering
 pub mod Living
 pub mod Locking
-pub mod Sizes
 pub mod Starting
-pub mod Writing
+pub mod Grouping

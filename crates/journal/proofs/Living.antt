@@ -1,6 +1,7 @@
--- What each kind of step makes of what the journal keeps: an entry that is no record, a beginning, a write with its answer, a
--- commit, a flush.
-use Rattle.std.proofs.Common.{◌≡◌, ◌≢◌, ℕ, suc, eqb, cond, ◌+◌, ◌≤◌, ◌<◌, ◌^◌, List, [], ◌∷◌, ◌++◌, length, Option, Some, None, Bool, true, false, refl, sym, ap, ◌∙◌, subst, inl, inr, arith, append-nil, length-append}
+-- What each kind of step makes of what the journal keeps: an entry that is no record, a beginning, a group, a commit, a
+-- flush.
+use Rattle.std.proofs.Common.{◌≡◌, ◌≢◌, ℕ, eqb, cond, ◌+◌, ◌≤◌, ◌<◌, ◌^◌, List, [], ◌∷◌, ◌++◌, length, Option, None, Bool, true, false, refl, sym, ap, ◌∙◌, subst, inl, inr, arith, append-nil, length-append}
+use Rattle.std.specs.List.{list_all}
 use Rattle.std.specs.Prelude.{◌-◌, ◌⊎◌, ◌↔◌, Result, Ok, Err, OnOk, is_some}
 use Rattle.std.proofs.lemmas.Bool.{eqb-true}
 use Rattle.log_blocks.specs.LogState.{LogState, durable_lsn}
@@ -10,7 +11,7 @@ use Rattle.media.specs.Kept.{Kept}
 use Rattle.page_ops.specs.Outcomes.{begun}
 use Rattle.page_ops.specs.declared.group.Said.{Said}
 use Rattle.range_lock.specs.Held as table
-use Rattle.range_lock.specs.Lock.{Lock, IsAmong}
+use Rattle.range_lock.specs.Lock.{IsAmong}
 use Rattle.range_lock.specs.declared.range_locks.RangeLocks.{RangeLocks}
 use Rattle.store_model.specs.declared.fault.Fault.{Fault}
 use Rattle.wal_record.specs.History.{log_of, life_log, Phase, Live, Committed, Acknowledged, phase, phase_step, live_count}
@@ -21,14 +22,17 @@ use Rattle.wal_record.specs.declared.record.Record.TheVariants as kinds
 use Rattle.wal_record.specs.declared.entry.Entry.{Entry}
 use Rattle.wal_record.specs.declared.entry.Entry.TheVariants as entries
 use Rattle.wal_record.proofs.Pushes.{log_same, log_more, phase_push, taken_push}
-use Rattle.log_laws.proofs.Central.{differ, eqb_self}
-use Rattle.life_history.specs.Kept.{IsWriteBy, commit_entry, told_entries}
+use Rattle.log_laws.proofs.Central.{differ}
+use Rattle.life_history.specs.Groups.{is_still}
+use Rattle.life_history.specs.Kept.{commit_entry}
+use Rattle.life_history.proofs.Grouped.{log_group}
+use Rattle.page_ops.specs.Groups.{group_entries}
 use Rattle.listed_log.specs.Listed.{HoldsEnd, IsLogWith}
-use Rattle.journal.specs.Kept.{HasPlaces, IsOfLife, EndsByFault, IsKept}
+use Rattle.journal.specs.Kept.{IsOfLife, EndsByFault, IsKept}
 use Rattle.journal.specs.Locks.{AreHeld}
-use Rattle.journal.specs.Puts.{IsNext}
+use Rattle.journal.specs.Groups.{IsNext}
 use Rattle.journal.proofs.Locking.{held_same}
-use Rattle.journal.proofs.Writing.{log_told, locks_told, phases_told}
+use Rattle.journal.proofs.Grouping.{locks_group, phases_group}
 
 -- ---- no commit waits
 
@@ -117,15 +121,15 @@ module _ {D : Type 0} (opens : List Record → Type 0) (tells : Type 0) (told : 
         durable = roomy.durable;
       }
 
-  -- a write and its answer
-  pub life_write : (tx lsn : ℕ) (r : Record) (said : Said) → h' ≡ h ++ told_entries lsn r said → IsWriteBy tx r → m'.log.ended ≡ m.log.ended → m'.log.places ≡ m.log.places → m'.spare ≡ m.spare
+  -- a group by which no transaction ends
+  pub life_group : (lsn : ℕ) (recs : List Record) (said : Option Said) → h' ≡ h ++ group_entries lsn recs said → list_all is_still recs ≡ true → length recs ≤ 2 → m'.log.ended ≡ m.log.ended → m'.log.places ≡ m.log.places → m'.spare ≡ m.spare
       → (live_count h' ≡ live_count h) × (live_count h ≤ 64) → IsNext opens h lsn
-      → ((opening : List Record) → opens opening → IsLogWith tells told may_leave (life_log opening h ++ r ∷ []) m' s') → IsOfLife opens tells told may_leave h' m' s' t mark
-  life_write tx lsn r said now write ended places spare live next records =
-      let log : (opening : List Record) → life_log opening h' ≡ life_log opening h ++ r ∷ [] = λ opening. ap (life_log opening) now ∙ log_told h lsn r said opening in
+      → ((opening : List Record) → opens opening → IsLogWith tells told may_leave (life_log opening h ++ recs) m' s') → IsOfLife opens tells told may_leave h' m' s' t mark
+  life_group lsn recs said now still few ended places spare live next records =
+      let log : (opening : List Record) → life_log opening h' ≡ life_log opening h ++ recs = λ opening. ap (life_log opening) now ∙ log_group opening h lsn recs said in
       record {
         records = λ opening stands. subst (λ (l : List Record). IsLogWith tells told may_leave l m' s') (sym (log opening)) (records opening stands);
-        locks = λ l. subst (λ (ls : List Held). table.Holds t l ↔ IsAmong (held l.range l.mode) ls) (sym (ap (λ x. taken_locks x l.tx) now ∙ locks_told h lsn r said tx write l.tx)) (k.locks l);
+        locks = λ l. subst (λ (ls : List Held). table.Holds t l ↔ IsAmong (held l.range l.mode) ls) (sym (ap (λ x. taken_locks x l.tx) now ∙ locks_group h lsn recs said still l.tx)) (k.locks l);
         losers = k.losers;
         places = record {
           commits = let c = k.places.commits in let same = live.0 in omega (arith, c, spare, same);
@@ -134,7 +138,7 @@ module _ {D : Type 0} (opens : List Record → Type 0) (tells : Type 0) (told : 
               let low = (next opening stands).1 in
               let most = live.1 in
               let same = live.0 in
-              omega (arith, at, low, most, same, ap (λ (l : List Record). length l) (log opening), length-append (life_log opening h) (r ∷ []));
+              omega (arith, at, low, most, same, few, ap (λ (l : List Record). length l) (log opening), length-append (life_log opening h) recs);
         };
         durable = λ opening stands tell runs. subst (λ ps. mark ≤ durable_lsn ps) (sym places) (k.durable opening stands tell (sym ended ∙ runs));
       }
@@ -224,18 +228,35 @@ module _ {D : Type 0} (opens : List Record → Type 0) (tells : Type 0) (told : 
     ends = ends_entry m.log.ended h h' faults faults' e k.ends now same stays;
   }
 
-  -- a write and its answer
-  pub kept_write : (tx lsn : ℕ) (r : Record) (said : Said) → h' ≡ h ++ told_entries lsn r said → IsWriteBy tx r → m'.log.ended ≡ m.log.ended → m'.log.places ≡ m.log.places → m'.spare ≡ m.spare
+  -- a group by which no transaction ends
+  pub kept_group : (lsn : ℕ) (recs : List Record) (said : Option Said) → h' ≡ h ++ group_entries lsn recs said → list_all is_still recs ≡ true → length recs ≤ 2 → m'.log.ended ≡ m.log.ended → m'.log.places ≡ m.log.places → m'.spare ≡ m.spare
       → (live_count h' ≡ live_count h) × (live_count h ≤ 64) → IsNext opens h lsn
-      → ((opening : List Record) → opens opening → IsLogWith tells told may_leave (life_log opening h ++ r ∷ []) m' s') → IsKept opens tells told may_leave h' m' s' t mark faults'
-  kept_write tx lsn r said now write ended places spare live next records = record {
-    life = life_write opens tells told may_leave h h' m m' s s' t mark k.life tx lsn r said now write ended places spare live next records;
+      → ((opening : List Record) → opens opening → IsLogWith tells told may_leave (life_log opening h ++ recs) m' s') → IsKept opens tells told may_leave h' m' s' t mark faults'
+  kept_group lsn recs said now still few ended places spare live next records = record {
+    life = life_group opens tells told may_leave h h' m m' s s' t mark k.life lsn recs said now still few ended places spare live next records;
     ends = record {
-      acknowledged = λ runs u is. k.ends.acknowledged (sym ended ∙ runs) u (sym (ap (λ l. phase l u) now ∙ phases_told h lsn r said tx write u) ∙ is);
+      acknowledged = λ runs u is. k.ends.acknowledged (sym ended ∙ runs) u (sym (ap (λ l. phase l u) now ∙ phases_group h lsn recs said still u) ∙ is);
       none = λ runs. same ∙ k.ends.none (sym ended ∙ runs);
       one = λ over. subst (λ n. 0 < n) (sym same) (k.ends.one (ap is_some (sym ended) ∙ over));
     };
   }
+
+  -- the log went on by nothing, or its disk is as before
+  pub kept_refused : h' ≡ h → m'.spare ≡ m.spare → m'.log.places ≡ m.log.places → m'.log.ended ≡ m.log.ended → ((opening : List Record) → opens opening → IsLogWith tells told may_leave (life_log opening h) m' s') → IsKept opens tells told may_leave h' m' s' t mark faults'
+  kept_refused now spare places ended records = subst (λ (x : List Entry × ℕ). IsKept opens tells told may_leave x.0 m' s' t mark x.1) (λ i. (sym now i, sym same i)) (record {
+    life = record {
+      records = records;
+      locks = k.life.locks;
+      losers = k.life.losers;
+      places = record { commits = let c = k.life.places.commits in omega (arith, c, spare); numbers = k.life.places.numbers };
+      durable = λ opening stands tell runs. subst (λ ps. mark ≤ durable_lsn ps) (sym places) (k.life.durable opening stands tell (sym ended ∙ runs));
+    };
+    ends = record {
+      acknowledged = λ runs. k.ends.acknowledged (sym ended ∙ runs);
+      none = λ runs. k.ends.none (sym ended ∙ runs);
+      one = λ over. k.ends.one (ap is_some (sym ended) ∙ over);
+    };
+  })
 
   -- where nothing is entered, the locks may stand otherwise in their table
   pub kept_locks : h' ≡ h → table.HoldsTheSame t t' → IsKept opens tells told may_leave h' m s t' mark faults'

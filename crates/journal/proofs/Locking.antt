@@ -1,8 +1,8 @@
 -- A lock that is held, and one that is refused: what the lock table answers is what a legal history asks for, where the
 -- table holds exactly the locks that were taken.
 use Rattle.std.proofs.Common.{◌≡◌, ◌≢◌, ℕ, zero, suc, eqb, cond, ◌<◌, List, [], ◌∷◌, ◌++◌, length, get_or, Bool, true, false, Option, Some, None, refl, sym, ap, ◌∙◌, subst, inl, inr, arith, append-nil, Ordering, Less, Equal, Greater}
-use Rattle.std.specs.Prelude.{◌⊎◌, ◌↔◌, ◌&&◌, ◌||◌, not, IsTrue}
-use Rattle.std.specs.List.{list_any, All}
+use Rattle.std.specs.Prelude.{◌↔◌, ◌&&◌, ◌||◌, not, IsTrue}
+use Rattle.std.specs.List.{list_any}
 use Rattle.std.specs.Cmp.{nat_cmp_is}
 use Rattle.std.specs.Cmp.Lexicographic.{slice_cmp, nat_list_cmp_total}
 use Rattle.std.specs.Ordering.{nat_cmp, is_gt, is_lt, ordering_then, ordering_reverse}
@@ -12,8 +12,8 @@ use Rattle.store_model.specs.Range.{Interval, overlap, is_below}
 use Rattle.store_model.specs.declared.range.Mode.{Mode}
 use Rattle.store_model.specs.declared.range.Mode.TheVariants.{Shared, Exclusive}
 use Rattle.books.specs.Rights.{SessionClaim}
-use Rattle.wal_record.specs.History.{Live, Committed, phase, is_live, life_log}
-use Rattle.wal_record.specs.Legal.{held, IsLegal, MayLock, MayRefuse}
+use Rattle.wal_record.specs.History.{Live, phase, is_live, life_log}
+use Rattle.wal_record.specs.Legal.{held, IsLegal}
 use Rattle.wal_record.specs.Locks.{Held, locks_step, taken_locks, loser_locks, locks, is_exclusive, conflict, blocks}
 use Rattle.wal_record.specs.OpenWrites.{is_loser, open_writes}
 use Rattle.wal_record.specs.declared.record.Record.{Record}

@@ -1,6 +1,6 @@
 -- What is kept at the start: nobody holds a lock, and the log is the opening log.
-use Rattle.std.proofs.Common.{◌≡◌, ℕ, ◌+◌, ◌≤◌, ◌^◌, List, [], length, refl, sym, ap, subst, arith, append-nil}
-use Rattle.std.specs.Prelude.{None, is_some, ◌↔◌}
+use Rattle.std.proofs.Common.{◌≡◌, ℕ, ◌≤◌, ◌^◌, List, [], length, refl, sym, ap, subst, arith, append-nil}
+use Rattle.std.specs.Prelude.{None, is_some}
 use Rattle.listed_log.specs.Listed.{IsLogWith}
 use Rattle.log_index.specs.declared.listing.Listing.{Listing}
 use Rattle.log_manager.specs.Managed.{Managed}

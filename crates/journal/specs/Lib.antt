@@ -2,4 +2,4 @@ pub mod Declined
 pub mod Ends
 pub mod Kept
 pub mod Locks
-pub mod Puts
+pub mod Groups

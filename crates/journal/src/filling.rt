@@ -1,58 +1,60 @@
-//! What a group asks for, what the journal fills in, and copies of what it enters.
-ghost use Rattle.std.specs.Prelude.{◌≡◌, ◌<◌, ◌^◌, [], ◌∷◌, IfOk};
-ghost use Rattle.wal_record.specs.declared.record.Record.TheVariants as kinds;
-ghost use Rattle.journal.specs.Puts.{filled_write};
+//! Records added to the log, and small tests of numbers.
+ghost use Rattle.std.specs.Prelude.{◌≡◌, ◌+◌, ◌<◌, ◌≤◌, ◌^◌, ◌++◌, List, ℕ, length, false, IfOk, OnOk, OnErr, IfSome, IsTrue};
+ghost use Rattle.std.specs.List.{All};
+ghost use Rattle.log_index.specs.Listing.{IsListingOf};
+ghost use Rattle.listed_log.specs.Listed.{IsLogWith, Joins};
+ghost use Rattle.log_manager.specs.Payload.{bytes_of};
+ghost use Rattle.page_ops.specs.Asking.{IsTimely};
+ghost use Rattle.wal_record.specs.History.{life_log};
+ghost use Rattle.wal_record.specs.OpenWrites.{is_loser};
+ghost use Rattle.wal_record.specs.Rules.{HasSpelling};
+ghost use Rattle.wal_record.specs.Sound.{AreLawful};
+ghost use Rattle.wal_record.specs.declared.entry.Entry.{Entry};
+ghost use Rattle.wal_record.specs.declared.record.Record.{Record};
 
-use page_ops::Group;
-use store_model::{HIGHEST, KeyRange, Lsn, Memory, Request, Value};
-use wal_record::{Record, Write};
+use books::PageRight;
+use listed_log::ListedLog;
+use log_index::Listing;
+use media::Disk;
+use page_ops::Life;
+use std::alloc::Global;
+use store_model::{HIGHEST, Lsn, Memory, PageNo};
+use wal_record::Record;
 
-/// The write that the group asks for, where it asks for that alone.
-pub(crate) fn write_of(group: &Group) -> Result<&Write, Memory>
-    ensures { IfOk result (λ write. group.now.recs ≡ kinds.Write write.now ∷ []) }
+/// Adds the records of a group to the log, which may be none. Gives the LSN of the first, or the next one.
+pub(crate) fn append_all<L: Disk>(
+    log: &mut ListedLog<L>,
+    alloc: Global,
+    recs: &[Record],
+) -> Result<Lsn, Memory>
+    requires next { (2 ≤ log.old.log.log.next) × (log.old.log.log.next ≤ 2 ^ 62) }
+    requires joins { Joins recs.now }
+    requires spelled { All HasSpelling recs.now }
+    requires size { length (bytes_of recs.now) ≤ 4194304 }
+    ensures lsn { IfOk result (λ lsn. lsn ≡ log.old.log.log.next) }
+    ensures more { (rs : List Record) → IsLogWith L.tells L.told L.may_leave rs log.old.log log.old.listing → AreLawful (rs ++ recs.now) → length rs < 2 ^ 62
+        → OnOk result (IsLogWith L.tells L.told L.may_leave (rs ++ recs.now) log.new.log log.new.listing) }
+    ensures same { (rs : List Record) → IsLogWith L.tells L.told L.may_leave rs log.old.log log.old.listing → OnErr result (IsLogWith L.tells L.told L.may_leave rs log.new.log log.new.listing) }
+    ensures spare { log.new.log.spare ≡ log.old.log.spare }
+    ensures disk { (log.new.log.log.places ≡ log.old.log.log.places) × (log.new.log.log.ended ≡ log.old.log.log.ended) }
 {
-    match group.recs.as_slice() {
-        [Record::Write(write)] => Ok(write),
-        _ => Err(Memory),
+    if recs.is_empty() {
+        return Ok(log.last() + 1);
+    }
+    match log.append_group(alloc, recs) {
+        Ok(lsn) => Ok(lsn),
+        Err(_) => Err(Memory),
     }
 }
 
-/// The write, with the LSNs of the records before it.
-pub(crate) fn fill(write: &Write, prev: Lsn, page_prev: Lsn) -> Record
-    ensures { result ≡ filled_write write.now prev page_prev }
+/// The number of the page that a group makes, or that of any that isn't the root.
+pub(crate) fn child_of<N: Life>(new: &Option<PageRight<N>>) -> PageNo
+    ensures { IfSome new.now (λ p. result ≡ p.page) }
 {
-    Record::Write(Write {
-        tx: write.tx,
-        prev,
-        page: write.page,
-        page_prev,
-        key: write.key.copied(),
-        old: copy_of(&write.old),
-        new: copy_of(&write.new),
-    })
-}
-
-fn copy_of(value: &Option<Value>) -> Option<Value>
-    ensures { result ≡ value.now }
-{
-    match value {
-        Some(value) => Some(value.copied()),
-        None => None,
+    match new {
+        Some(right) => right.page(),
+        None => 2,
     }
-}
-
-/// The same range again.
-pub(crate) fn copy_of_range(range: &KeyRange) -> Result<KeyRange, Memory>
-    ensures { IfOk result (λ copy. copy ≡ range.now) }
-{
-    Ok(range.clone()?)
-}
-
-/// The same request again.
-pub(crate) fn copy_of_request(request: &Request) -> Result<Request, Memory>
-    ensures { IfOk result (λ copy. copy ≡ request.now) }
-{
-    Ok(request.clone()?)
 }
 
 /// The LSN, or the highest one where that is less: of a log that is told there is none above that.
@@ -61,4 +63,24 @@ pub(crate) fn in_range(lsn: Lsn) -> Lsn
     ensures same { lsn < 2 ^ 63 → result ≡ lsn }
 {
     if lsn < HIGHEST { lsn } else { HIGHEST }
+}
+
+/// Whether the record restores no segment, or one that is unrestored.
+pub(crate) fn is_still_open(listing: &Listing, rec: &Record) -> bool
+    ensures { IsTrue result → (opening : List Record) (h : List Entry) → ((t : ℕ) → is_loser opening t ≡ false) → IsListingOf (life_log opening h) listing.now → IsTimely opening h rec.now }
+{
+    match rec {
+        Record::Restored(restored) => listing.is_unrestored(restored.segment),
+        _ => true,
+    }
+}
+
+/// The number, or the highest one of its type where that is less: of a log that is told there is none above that.
+pub(crate) fn number_of(count: u64) -> u32
+    ensures { count < 2 ^ 32 → result ≡ count }
+{
+    match u32::try_from(count) {
+        Ok(number) => number,
+        Err(_) => u32::MAX,
+    }
 }

@@ -1,29 +1,37 @@
 //! The value behind the lock, and its calls.
-ghost use Rattle.std.specs.Prelude.{◌≡◌, ◌+◌, ◌<◌, ◌≤◌, ◌^◌, ℕ, List, [], ◌∷◌, ◌++◌, length, min, true, false, Some, None, IfSome, IfNone, IsSome, IfOk, IfErr, OnOk, OnErr, IsTrue};
-ghost use Rattle.life_history.specs.Kept.{IsOnPage, IsWriteBy, counted_more, told_entries};
+ghost use Rattle.std.specs.Prelude.{◌≡◌, ◌+◌, ◌<◌, ◌≤◌, ◌^◌, ℕ, suc, List, [], ◌∷◌, ◌++◌, length, min, true, false, Some, None, IfSome, IfNone, IsSome, IfOk, IfErr, OnOk, OnErr, IsTrue};
+ghost use Rattle.std.specs.List.{All, list_any};
+ghost use Rattle.group_filling.specs.Fitting.{AreInRange};
 ghost use Rattle.log_manager.specs.Payload.{bytes_of};
-ghost use Rattle.listed_log.specs.Listed.{IsLogWith};
-ghost use Rattle.page_ops.specs.Asking.{HasRoomFor, IsAskable, LacksRoomFor, MayBeDeclined};
+ghost use Rattle.listed_log.specs.Listed.{IsLogWith, Joins};
+ghost use Rattle.page_ops.specs.Asking.{HasNumbers, HasRoomFor, IsAskable, IsTimely, LacksRoomFor, MayBeDeclined, MayFollow, WasTimely};
 ghost use Rattle.page_ops.specs.Causes.{Ends, FailsToEnter, FailsToFlush, NoOther, OrConflict, OrFull, OrTooMany, with_one};
 ghost use Rattle.page_ops.specs.Claims.{Agree, SessionAgrees, session_alone};
-ghost use Rattle.page_ops.specs.Groups.{HasRights, HasSpeaker, IsGroup};
+ghost use Rattle.page_ops.specs.Groups as groups;
+ghost use Rattle.page_ops.specs.Groups.{Each, HasRights, HasSpeaker, IsGroup};
+ghost use Rattle.wal_record.specs.Checkpoints.{is_checkpoint};
 ghost use Rattle.page_ops.specs.Outcomes.{CommitsOr, EntersGroup, IsAnswer, IsConflict, IsCrowd, IsFilledIn, IsFull, IsGrant, KeepsGroup, KeepsRights, OnEntered, begun, locked, refused};
-ghost use Rattle.page_ops.specs.Seeing.{Enters, IsConsistent, IsMoment, Looks, known, of_sessions};
+ghost use Rattle.page_ops.specs.Seeing.{Enters, IsConsistent, IsMoment, Looks, known};
 ghost use Rattle.store_model.specs.declared.reply.Outcome.TheVariants as outcomes;
+ghost use Rattle.wal_record.specs.Books.{page_book};
+ghost use Rattle.wal_record.specs.Chains.{pages};
 ghost use Rattle.wal_record.specs.History.{life_log};
 ghost use Rattle.wal_record.specs.Legal.{MayDecline, held};
-ghost use Rattle.wal_record.specs.Rules.{HasSpelling, is_number};
+ghost use Rattle.wal_record.specs.OpenWrites.{pending};
+ghost use Rattle.wal_record.specs.Rules.{HasSpelling, is_number, is_page};
+ghost use Rattle.wal_record.specs.State.{is_child};
 ghost use Rattle.wal_record.specs.declared.entry.Entry.{Entry};
 ghost use Rattle.wal_record.specs.declared.record.Record.{Record};
 ghost use Rattle.journal.specs.Declined.{IsDeclined, IsTaken};
 ghost use Rattle.journal.specs.Locks.{HasNoLosers};
-ghost use Rattle.journal.specs.Puts.{EntersWrite, IsNext, WriteFollows};
+ghost use Rattle.journal.specs.Groups.{EntersFilled, EntersNow, GroupFollows, IsNext, IsNextPage};
 
 use crate::ends::{check_open, make_room, note_fault, tell_durable};
-use crate::filling::{copy_of_range, copy_of_request, fill, in_range, write_of};
+use crate::filling::{append_all, child_of, in_range, is_still_open, number_of};
 use crate::taken::Taken;
 use books::{PageRight, SessionRight};
 use front::{Mark, Pass};
+use group_filling::{can_fill, fill, have_numbers, is_fit, made_by, put_back};
 use life_history::{Counts, History};
 use listed_log::ListedLog;
 use media::Disk;
@@ -31,9 +39,11 @@ use page_ops::{Committed, Entered, Grant, Group, Life, LogFaults, Rights, Said};
 use range_lock::{LockRefused, RangeLocks};
 use std::alloc::Global;
 use std::cmp::min;
-use std::marker::Model;
+use std::marker::{Brand, Model};
 use std::sync::ledger::Book;
-use store_model::{Fault, KeyRange, Lsn, Memory, Mode, Outcome, Pos, Request, TxId};
+use store_model::{
+    Fault, KeyRange, Lsn, MOST_PAGES, Memory, Mode, Outcome, PageNo, Pos, Request, TxId,
+};
 use wal_record::{Entry, Record};
 
 /// The bound of the counters, from which on nothing is begun.
@@ -49,6 +59,8 @@ pub struct Journal<'a, L: Disk, N: Life> {
     // Up to which LSN passes were told that the log is durable.
     marked: Lsn,
     faults: Book<LogFaults<N>>,
+    // The right to the page that the next group makes which makes one, where it was opened already.
+    made: Option<PageRight<N>>,
 }
 
 impl<'a, L: Disk, N: Life> Model for Journal<'a, L, N> {
@@ -88,6 +100,7 @@ impl<'a, L: Disk, N: Life> Journal<'a, L, N> {
             mark,
             marked: 0,
             faults,
+            made: None,
         }
     }
 
@@ -170,16 +183,10 @@ impl<'a, L: Disk, N: Life> Journal<'a, L, N> {
         if self.history.length() >= MOST {
             return Err(Fault::Memory);
         }
-        let tx = s.tx();
-        let asked = copy_of_range(range)?;
-        match self.locks.acquire(tx, range, mode) {
+        match self.locks.acquire(s.tx(), range, mode) {
             Ok(()) => {
-                let entry = Entry::Lock {
-                    tx,
-                    range: asked,
-                    mode,
-                };
-                self.history.enter_own(&entry, s, pass, counts);
+                self.history
+                    .enter_lock::<Brand>(range, mode, s, pass, counts);
                 Ok(Grant::Held(self.history.length()))
             }
             Err(
@@ -188,13 +195,8 @@ impl<'a, L: Disk, N: Life> Journal<'a, L, N> {
                     range: first,
                 },
             ) => {
-                let entry = Entry::Refused {
-                    tx,
-                    range: asked,
-                    mode,
-                    holder,
-                };
-                self.history.enter_own(&entry, s, pass, counts);
+                self.history
+                    .enter_refused::<Brand>(range, mode, holder, s, pass, counts);
                 Err(Fault::Conflict {
                     holder,
                     range: first,
@@ -222,17 +224,12 @@ impl<'a, L: Disk, N: Life> Journal<'a, L, N> {
     {
         self.history.watch_session(s, pass, counts);
         check_open(&self.log, &mut self.faults, counts)?;
-        let (session, tx) = (s.session(), s.tx());
-        if self.history.length() >= MOST || tx == 0 {
+        if self.history.length() >= MOST || s.tx() == 0 {
             return Err(Fault::Memory);
         }
-        let entry = Entry::Declined {
-            session,
-            tx,
-            request,
-            why: Outcome::OpRefused,
-        };
-        self.history.enter_own(&entry, s, pass, counts);
+        let why = Outcome::OpRefused;
+        self.history
+            .enter_declined::<Brand>(&request, &why, s, pass, counts);
         Ok(self.history.length())
     }
 
@@ -330,6 +327,26 @@ impl<'a, L: Disk, N: Life> Journal<'a, L, N> {
         counts.ended()
     }
 
+    /// As `Entering::pages`.
+    pub fn pages(&mut self, pass: &mut Pass<Entry, N>, counts: &mut Counts<N>) -> u32
+        ensures counts { counts.new ≡ counts.old }
+        ensures seen { Looks N.opens N.entries N.session_entries counts.old pass.old counts.new pass.new }
+        ensures count { (opening : List Record) → N.opens opening → result ≡ pages (life_log opening pass.new.log) }
+    {
+        self.history.look(pass, counts);
+        number_of(self.log.listing().pages() as u64)
+    }
+
+    /// As `Entering::pending`.
+    pub fn pending(&mut self, pass: &mut Pass<Entry, N>, counts: &mut Counts<N>) -> u32
+        ensures counts { counts.new ≡ counts.old }
+        ensures seen { Looks N.opens N.entries N.session_entries counts.old pass.old counts.new pass.new }
+        ensures count { (opening : List Record) → N.opens opening → result ≡ pending (life_log opening pass.new.log) }
+    {
+        self.history.look(pass, counts);
+        number_of(self.log.listing().pending())
+    }
+
     /// How many pages and pending writes there are. It wants memory where these are more than a store can have.
     fn taken(&self) -> Result<Taken, Memory>
         ensures { IfOk result (IsTaken N.opens self.now) }
@@ -358,47 +375,127 @@ impl<'a, L: Disk, N: Life> Journal<'a, L, N> {
         !group.room || used + needed <= u64::from(self.log.listing().limit())
     }
 
-    /// Enters a write that is filled in, and its answer, in the log and in the history.
+    /// The number of the page that comes next.
+    fn next_page(&self) -> Result<PageNo, Memory>
+        ensures child { IfOk result (λ page. IsTrue (is_child page)) }
+        ensures next { IfOk result (λ page. (opening : List Record) → N.opens opening → page ≡ suc (pages (life_log opening self.now))) }
+    {
+        match u32::try_from(self.log.listing().pages()) {
+            Ok(count) if 0 < count && count < MOST_PAGES => Ok(count + 1),
+            _ => Err(Memory),
+        }
+    }
+
+    /// The right that was opened for a page to come, or one that is opened now.
+    fn take_right(&mut self, page: PageNo) -> Option<PageRight<N>>
+        requires number { IsTrue (is_page page) }
+        requires fresh { (opening : List Record) → N.opens opening → page_book opening self.old page ≡ 0 }
+        ensures same { self.new ≡ self.old }
+    {
+        match self.made.take() {
+            Some(right) => Some(right),
+            None => self.history.open_page(page),
+        }
+    }
+
+    /// The right to the page that comes next, where a group makes one.
+    fn new_right(&mut self, made: Option<PageNo>) -> Result<Option<PageRight<N>>, Memory>
+        requires consistent { IsConsistent N.opens self.old }
+        ensures same { self.new ≡ self.old }
+        ensures none { IfOk result (λ new. made ≡ None → new ≡ None) }
+        ensures some { IfOk result (λ new. IsSome made → IsSome new) }
+        ensures right { IfOk result (λ new. IfSome new (IsNextPage N.opens self.old)) }
+    {
+        if made.is_none() {
+            return Ok(None);
+        }
+        let page = self.next_page()?;
+        match self.take_right(page) {
+            Some(right) if right.page() == page && right.lsn() == 0 => Ok(Some(right)),
+            _ => Err(Memory),
+        }
+    }
+
+    /// Enters a group that is filled in, in the log and in the history. `new` is the right to the page that it makes, if it
+    /// makes one.
     fn enter_filled(
         &mut self,
         alloc: Global,
-        filled: &Record,
-        said: &Said,
-        page: &mut Option<PageRight<N>>,
-        s: &mut SessionRight<N>,
+        recs: &[Record],
+        said: &Option<Said>,
+        new: &mut Option<PageRight<N>>,
+        rights: &mut Rights<N>,
         counts: &mut Counts<N>,
     ) -> Result<Lsn, Memory>
-        requires spelled { HasSpelling filled.now }
-        requires size { length (bytes_of (filled.now ∷ [])) ≤ 4194304 }
-        requires write { IsWriteBy s.old.tx filled.now }
-        requires speaker { said.now.session ≡ s.old.session }
-        requires there { IsSome page.old }
-        requires page { IfSome page.old (λ p. IsOnPage p.page filled.now) }
-        requires active { 0 < s.old.tx }
-        requires agrees { SessionAgrees self.old s.old }
-        requires follows { (lsn : ℕ) → IsNext N.opens self.old lsn → WriteFollows N.opens self.old lsn filled.now said.now }
-        ensures none { OnErr result ((self.new ≡ self.old) × (page.new ≡ page.old) × (s.new ≡ s.old) × (counts.new ≡ counts.old)) }
-        ensures number { IfOk result (λ lsn. IsTrue (is_number lsn)) }
-        ensures history { IfOk result (λ lsn. self.new ≡ self.old ++ told_entries lsn filled.now said.now) }
-        ensures right { OnOk result (s.new ≡ record { session = s.old.session; entries = s.old.entries + 2; tx = s.old.tx }) }
-        ensures page { IfOk result (λ lsn. IfSome page.old (λ p. page.new ≡ Some (record { page = p.page; lsn = lsn }))) }
-        ensures counts { OnOk result (counts.new ≡ counted_more counts.old 2) }
-        ensures counted { OnOk result (of_sessions self.new ≡ of_sessions self.old + 2) }
+        requires few { length recs.now ≤ 2 }
+        requires joins { Joins recs.now }
+        requires spelled { Each AreInRange recs.now → All HasSpelling recs.now × (length (bytes_of recs.now) ≤ 4194304) }
+        requires speaker { HasSpeaker rights.old.s said.now }
+        requires agrees { Agree N.opens self.old rights.old }
+        requires consistent { IsConsistent N.opens self.old }
+        requires page { IfSome new.old (IsNextPage N.opens self.old) }
+        requires follows { (lsn : ℕ) → IsNext N.opens self.old lsn → GroupFollows N.opens self.old lsn recs.now said.now }
+        ensures none { OnErr result ((self.new ≡ self.old) × (rights.new ≡ rights.old) × (counts.new ≡ counts.old)) }
+        ensures entered { IfOk result (EntersFilled recs.now said.now new.old rights.old rights.new counts.old counts.new self.old self.new) }
     {
         let last = self.log.last();
         if last == 0 || last >= MOST || self.history.length() >= MOST {
             return Err(Memory);
         }
-        match self.log.append(alloc, filled) {
+        if !is_fit(rights, new, recs) || !have_numbers(recs) {
+            return Err(Memory);
+        }
+        let lsn = append_all(&mut self.log, alloc, recs)?;
+        self.history
+            .enter_group(lsn, recs, said, new.take(), rights, counts);
+        Ok(lsn)
+    }
+
+    /// Fills the group in and enters it. `new` is the right to the page that it makes, if it makes one.
+    fn fill_in(
+        &mut self,
+        alloc: Global,
+        group: &mut Group,
+        made: Option<PageNo>,
+        new: &mut Option<PageRight<N>>,
+        rights: &mut Rights<N>,
+        counts: &mut Counts<N>,
+    ) -> Result<(), Memory>
+        requires group { IsGroup group.old }
+        requires joins { Joins group.old.recs }
+        requires plain { list_any is_checkpoint group.old.recs ≡ false }
+        requires made { made ≡ groups.made_by group.old.recs }
+        requires none { made ≡ None → new.old ≡ None }
+        requires some { IsSome made → IsSome new.old }
+        requires page { IfSome new.old (IsNextPage N.opens self.old) }
+        requires speaker { HasSpeaker rights.old.s group.old.said }
+        requires agrees { Agree N.opens self.old rights.old }
+        requires consistent { IsConsistent N.opens self.old }
+        requires follows { (opening : List Record) → N.opens opening → HasNumbers opening self.old → MayFollow opening self.old group.old }
+        ensures none { OnErr result ((self.new ≡ self.old) × (rights.new ≡ rights.old) × (counts.new ≡ counts.old)) }
+        ensures group { OnErr result (group.new ≡ group.old) }
+        ensures entered { OnOk result (EntersNow group.old group.new rights.old rights.new counts.old counts.new self.old self.new) }
+    {
+        let last = self.log.last();
+        if last == 0 || last >= MOST {
+            return Err(Memory);
+        }
+        let child = child_of(new);
+        let before = fill(self.log.listing(), last + 1, made, child, &mut group.recs);
+        let recs = group.recs.as_slice();
+        match self.enter_filled(alloc, recs, &group.said, new, rights, counts) {
             Ok(lsn) => {
-                self.history.enter_write(lsn, filled, said, page, s, counts);
-                Ok(lsn)
+                group.lsn = lsn;
+                Ok(())
             }
-            Err(_) => Err(Memory),
+            Err(Memory) => {
+                put_back(&mut group.recs, &before);
+                Err(Memory)
+            }
         }
     }
 
-    /// Enters the group, where it asks for a write on the page of the first right, and tells its answer.
+    /// Enters the group, where it has a form that can be entered.
     fn write(
         &mut self,
         alloc: Global,
@@ -407,47 +504,26 @@ impl<'a, L: Disk, N: Life> Journal<'a, L, N> {
         counts: &mut Counts<N>,
     ) -> Result<(), Memory>
         requires group { IsGroup group.old }
+        requires speaker { HasSpeaker rights.old.s group.old.said }
         requires agrees { Agree N.opens self.old rights.old }
         requires consistent { IsConsistent N.opens self.old }
         requires askable { (opening : List Record) → N.opens opening → IsAskable opening self.old rights.old.a group.old }
+        requires timely { (opening : List Record) → N.opens opening → Each (IsTimely opening self.old) group.old.recs }
         requires room { (opening : List Record) → N.opens opening → HasRoomFor opening self.old group.old }
         ensures none { OnErr result ((self.new ≡ self.old) × (rights.new ≡ rights.old) × (counts.new ≡ counts.old)) }
         ensures group { OnErr result (group.new ≡ group.old) }
-        ensures entered { OnOk result (EntersWrite group.old group.new rights.old rights.new self.old self.new) }
-        ensures counts { OnOk result (counts.new ≡ counted_more counts.old 2) }
-        ensures counted { OnOk result (of_sessions self.new ≡ of_sessions self.old + 2) }
+        ensures entered { OnOk result (EntersNow group.old group.new rights.old rights.new counts.old counts.new self.old self.new) }
     {
-        let write = write_of(group)?;
-        let Some(said) = &group.said else {
-            return Err(Memory);
-        };
-        let Some(page) = &rights.a else {
-            return Err(Memory);
-        };
-        let Some(right) = &rights.s else {
-            return Err(Memory);
-        };
-        if page.page() != write.page
-            || right.tx() != write.tx
-            || write.tx == 0
-            || said.session != right.session()
-        {
+        if !can_fill(group.recs.as_slice()) {
             return Err(Memory);
         }
-        let prev = self.log.last_of(write.tx);
-        if prev >= MOST {
-            return Err(Memory);
+        let made = made_by(group.recs.as_slice());
+        let mut new = self.new_right(made)?;
+        let entered = self.fill_in(alloc, group, made, &mut new, rights, counts);
+        if new.is_some() {
+            self.made = new;
         }
-        let filled = fill(write, prev, page.lsn());
-        let Some(mut s) = rights.s.take() else {
-            unreachable!()
-        };
-        let entered = self.enter_filled(alloc, &filled, said, &mut rights.a, &mut s, counts);
-        rights.s = Some(s);
-        let lsn = entered?;
-        group.recs.replace(0, filled);
-        group.lsn = lsn;
-        Ok(())
+        entered
     }
 
     /// There is no room for the write of the group: enters that its request is declined, where it has one.
@@ -477,19 +553,15 @@ impl<'a, L: Disk, N: Life> Journal<'a, L, N> {
         if self.history.length() >= MOST || said.tx == 0 {
             return Err(Fault::Memory);
         }
-        let entry = Entry::Declined {
-            session: said.session,
-            tx: said.tx,
-            request: copy_of_request(&said.request)?,
-            why: Outcome::Full {
-                pages: taken.pages,
-                pending: taken.pending,
-            },
+        let why = Outcome::Full {
+            pages: taken.pages,
+            pending: taken.pending,
         };
         let Some(mut s) = rights.s.take() else {
             unreachable!()
         };
-        self.history.enter_own(&entry, &mut s, pass, counts);
+        self.history
+            .enter_declined::<Brand>(&said.request, &why, &mut s, pass, counts);
         rights.s = Some(s);
         Err(Fault::Full {
             pages: taken.pages,
@@ -498,8 +570,8 @@ impl<'a, L: Disk, N: Life> Journal<'a, L, N> {
         })
     }
 
-    /// As `Entering::enter`. It knows the group of a write that leaves its leaf whole, with its answer. At every other one
-    /// it says that it wants memory, or that there is no room, where that was asked for.
+    /// As `Entering::enter`. It says that it wants memory at a checkpoint, at an End, and at a group whose form it doesn't
+    /// know: of more than two records, or of two of which the first names a transaction.
     pub fn enter(
         &mut self,
         alloc: Global,
@@ -511,6 +583,7 @@ impl<'a, L: Disk, N: Life> Journal<'a, L, N> {
         requires group { IsGroup group.old }
         requires rights { HasRights pass.old.log rights.old group.old }
         requires askable { (opening : List Record) (h : List Entry) → N.opens opening → IsMoment N.opens pass.old.log rights.old h → IsAskable opening h rights.old.a group.old }
+        requires timely { (opening : List Record) → N.opens opening → Each (WasTimely opening pass.old.log) group.old.recs }
         ensures entered { EntersGroup N.opens N.entries N.session_entries group.old group.new result (known counts.old pass.old rights.old) (known counts.new pass.new rights.new) }
         ensures filled { OnEntered result (IsFilledIn group.old group.new rights.old rights.new) }
         ensures answer { IfOk result (IsAnswer N.opens pass.new.log group.old) }
@@ -528,12 +601,28 @@ impl<'a, L: Disk, N: Life> Journal<'a, L, N> {
             self.history.see(rights, pass, counts);
             return declined;
         }
+        if !self.is_timely(group) {
+            return Err(Fault::Memory);
+        }
         match self.write(alloc, group, rights, counts) {
             Ok(()) => {
                 self.history.see(rights, pass, counts);
                 Ok(Entered::At(self.history.length()))
             }
             Err(_) => Err(Fault::Memory),
+        }
+    }
+
+    /// Whether no segment that the group says to be restored was restored before.
+    fn is_timely(&self, group: &Group) -> bool
+        ensures { IsTrue result → (opening : List Record) → N.opens opening → Each (IsTimely opening self.now) group.now.recs }
+    {
+        let listing = self.log.listing();
+        match group.recs.as_slice() {
+            [] => true,
+            [one] => is_still_open(listing, one),
+            [one, two] => is_still_open(listing, one) && is_still_open(listing, two),
+            _ => false,
         }
     }
 }

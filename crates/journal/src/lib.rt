@@ -17,18 +17,20 @@
 //! 1. [`Journal::begin`] begins a transaction, and makes the room in the log that its commit needs.
 //! 2. [`Journal::lock`] locks a range exactly where no other transaction's lock conflicts. Else it enters the refusal, and
 //!    tells the least holder and the first of its conflicting ranges.
-//! 3. [`Journal::enter`] enters the group of a write that leaves its leaf whole, in any life, told or not: it fills in the
-//!    LSNs before it, adds it to the log and to the history in one step, and raises the rights. Where a group asks for room
-//!    in the store and there is none, its request is entered as declined, and the answer is `Full`; a group without a
-//!    request isn't entered.
+//! 3. [`Journal::enter`] enters a group in any life, told or not: an answer alone, a record of any kind but Checkpoint and
+//!    End, with its answer or without, or two records that may stand together, such as the split of a page and the write
+//!    that it was made for. It fills the group in by the listing (`group_filling`), adds it to the log in one block and to
+//!    the history in one step, and raises the rights; the right to a page that the group makes comes into its place. Where
+//!    a group asks for room in the store and there is none, its request is entered as declined, and the answer is `Full`; a
+//!    group without a request isn't entered.
 //! 4. [`Journal::commit`] takes no memory. It enters the Commit, gives the locks back, makes the log durable up to it, and
 //!    only then enters that it is acknowledged. [`Journal::flush`] makes the log durable alone.
 //! 5. [`Journal::refuse`] enters that a request is declined, since its operator gives no value.
 //! 6. A fault of the log disk ends the life. From then on each call that enters or flushes tells that, and enters
 //!    nothing; through one account it is always the same LSN.
 //!
-//! A group that isn't built yet is refused as one that wants memory, which the traits allow. Not built: groups of other
-//! kinds, answers `Late`, lives that begin with losers.
+//! A group that isn't built yet is refused as one that wants memory, which the traits allow; so is one that restores a
+//! segment that another thread has restored. Not built: checkpoints, Ends, answers `Late`, lives that begin with losers.
 #![tactic(auto)]
 
 mod ends;

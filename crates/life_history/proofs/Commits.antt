@@ -1,19 +1,18 @@
 -- What a commit and its acknowledgement make of what the history keeps, after the calls.
-use Rattle.std.proofs.Common.{◌≡◌, ℕ, ◌+◌, ◌*◌, ◌≤◌, ◌<◌, ◌^◌, List, [], ◌∷◌, ◌++◌, length, Some, refl, sym, ap, ◌∙◌, subst, arith}
+use Rattle.std.proofs.Common.{◌≡◌, ℕ, ◌+◌, ◌*◌, ◌<◌, ◌^◌, List, [], ◌∷◌, ◌++◌, length, Some, sym, ap, ◌∙◌, subst, arith}
 use Rattle.std.specs.Prelude.{◌-◌}
 use Rattle.books.specs.Booking.{entry, entry_of, replaced}
 use Rattle.books.specs.declared.entry.BookEntry.{BookEntry}
 use Rattle.books.specs.Rights.{SessionClaim, session_entry}
-use Rattle.wal_record.specs.Books.{session_entries}
 use Rattle.wal_record.specs.History.{Live, Committed, phase, live_count}
 use Rattle.wal_record.specs.declared.record.Record.{Record}
 use Rattle.wal_record.specs.declared.entry.Entry.{Entry}
 use Rattle.wal_record.specs.declared.entry.Entry.TheVariants as entries
 use Rattle.page_ops.specs.Claims.{SessionAgrees}
 use Rattle.page_ops.specs.Seeing.{IsConsistent, of_sessions}
-use Rattle.life_history.specs.Kept.{IsKept, commit_entry}
+use Rattle.life_history.specs.Kept.{IsKept, commit_entry, end_entry}
 use Rattle.life_history.proofs.Own.{session_within}
-use Rattle.life_history.proofs.Moving.{is_counted, commit_kept, commit_agrees, commit_counted, acked_consistent, acked_kept, acked_agrees, acked_counted}
+use Rattle.life_history.proofs.Moving.{is_counted, commit_kept, commit_agrees, commit_counted, end_kept, end_counted, acked_consistent, acked_kept, acked_agrees, acked_counted}
 
 -- there is room for an entry more of a session
 pub entry_fits : (h : List Entry) (count live : ℕ) (x : SessionClaim) → SessionAgrees h x → count ≡ length h → count + 2 * live < 2 ^ 63 → x.entries + 1 < 2 ^ 64
@@ -53,6 +52,30 @@ module _ (opens : List Record → Type 0) (h : List Entry) (count session tx liv
 
     pub committed_counted : of_sessions h' ≡ of_sessions h + 1
     committed_counted = ap of_sessions commit_is ∙ commit_counted opens h _ _ total of_session k x there some lsn prev
+
+  -- ---- an end
+
+  module _ (lsn prev : ℕ) (h' : List Entry) (now : h' ≡ h ++ end_entry lsn x.tx prev ∷ []) where
+    module _ (live_now : phase h x.tx ≡ Live) (consistent : IsConsistent opens (h ++ end_entry lsn x.tx prev ∷ [])) (left : ℕ) (less : left ≡ live - 1) where
+      over : IsKept opens (h ++ end_entry lsn x.tx prev ∷ []) (record { entries = count + 1; session = session; tx = tx; live = left })
+          (record { pages = ps; sessions = replaced (entry x.session (x.entries + 1) 0) ss; maint = ms }) (total + 1) (of_session + 1)
+      over = let some_live = is_counted opens h _ _ total of_session k x there some live_now in end_kept opens h _ _ total of_session k x there some lsn prev live_now consistent left (omega (arith, less, some_live))
+
+      pub ended_kept : (total' of_session' : ℕ) (ps' ss' ms' : List BookEntry) → ss' ≡ replaced (entry x.session (x.entries + 1) 0) ss → (ps' ≡ ps) × (ms' ≡ ms) → total' ≡ total + 1 → of_session' ≡ of_session + 1
+          → IsKept opens h' (record { entries = count + 1; session = session; tx = tx; live = left }) (record { pages = ps'; sessions = ss'; maint = ms' }) total' of_session'
+      ended_kept total' of_session' ps' ss' ms' book others sum sums =
+          subst (λ (y : List Entry × List BookEntry × List BookEntry × List BookEntry × ℕ × ℕ). IsKept opens y.0 (record { entries = count + 1; session = session; tx = tx; live = left }) (record { pages = y.1; sessions = y.2; maint = y.3 }) y.4 y.5)
+          (λ i. (sym now i, sym others.0 i, sym book i, sym others.1 i, sym sum i, sym sums i)) over
+
+      pub ended_live : live_count h' + 1 ≡ live_count h
+      ended_live =
+          let some_live = is_counted opens h _ _ total of_session k x there some live_now in
+          let before : live ≡ live_count h = k.begun.counted in
+          let after : left ≡ live_count h' = over.begun.counted ∙ ap live_count (sym now) in
+          omega (arith, some_live, before, after, less)
+
+    pub ended_counted : of_sessions h' ≡ of_sessions h + 1
+    ended_counted = ap of_sessions now ∙ end_counted opens h _ _ total of_session k x there some lsn prev
 
   -- ---- its acknowledgement
 

@@ -1,33 +1,25 @@
 -- What a session's entries make of what a caller knows, and of what the history keeps, after the calls.
-use Rattle.std.proofs.Common.{◌≡◌, ◌≢◌, ℕ, suc, eqb, cond, ◌+◌, ◌≤◌, ◌<◌, ◌^◌, List, [], ◌∷◌, ◌++◌, length, Some, None, Option, Bool, true, false, refl, sym, ap, ◌∙◌, subst, arith, length-append, append-nil, append_assoc}
-use Rattle.std.specs.Prelude.{IfSome, IsSome}
-use Rattle.std.proofs.lemmas.Bool.Decides.{nat_tests}
-use native.Mathlib.Decide.{ℕ_discrete}
-use mathlib.Core.Logic.{dite}
+use Rattle.std.proofs.Common.{◌≡◌, ◌≢◌, ℕ, suc, cond, ◌+◌, ◌≤◌, ◌<◌, ◌^◌, List, [], ◌∷◌, ◌++◌, length, Some, Bool, true, refl, sym, ap, ◌∙◌, subst, arith, length-append}
 use Rattle.front.proofs.Keeping.{prefix_trans}
 use Rattle.books.specs.Booking.{entry, entry_of, replaced}
 use Rattle.books.specs.declared.entry.BookEntry.{BookEntry}
-use Rattle.books.specs.Rights.{PageClaim, page_entry, SessionClaim, session_entry}
-use Rattle.books.proofs.Keeping.{entry_of-other, entry_of-replaced}
-use Rattle.wal_record.specs.Books.{page_book, session_entries}
-use Rattle.wal_record.specs.Chains.{head, names}
-use Rattle.wal_record.specs.History.{life_log, is_owner, live_count}
+use Rattle.books.specs.Rights.{SessionClaim, session_entry}
+use Rattle.wal_record.specs.Books.{maintenance_book}
+use Rattle.wal_record.specs.Chains.{head}
+use Rattle.wal_record.specs.History.{life_log, live_count}
 use Rattle.wal_record.specs.declared.record.Record.{Record}
-use Rattle.wal_record.specs.declared.record.Record.TheVariants as kinds
 use Rattle.wal_record.specs.declared.entry.Entry.{Entry}
 use Rattle.wal_record.specs.declared.entry.Entry.TheVariants.{Rec, Began}
 use Rattle.wal_record.specs.declared.entry.Entry.TheVariants as entries
-use Rattle.wal_record.proofs.Pushes.{head_push, log_same, log_more}
-use Rattle.log_laws.proofs.Central.{eqb_differ, eqb_self}
+use Rattle.wal_record.proofs.Pushes.{log_same, maintenance_push}
 use Rattle.front.specs.Seen.{PassSeen}
 use Rattle.page_ops.proofs.Gaining.{ended_self}
 use Rattle.page_ops.specs.Names.{LedgerName}
 use Rattle.page_ops.specs.Claims.{Agree, SessionAgrees, session_alone}
 use Rattle.page_ops.specs.Seeing.{Account, known, Keeps, Enters, IsMoment, IsConsistent, HasTotals, is_of_session, of_sessions}
-use Rattle.page_ops.specs.declared.group.Said.{Said}
-use Rattle.life_history.specs.Kept.{IsKept, IsWriteBy, IsOnPage, counted_more, told_entries, is_calm, is_of}
-use Rattle.life_history.proofs.Keeping.{of_sessions_push, some_is}
-use Rattle.life_history.proofs.Own.{IsCalmOf, Continues, continues_live, continues_one, continues_then, agreeing, owner, owned_by_none, begun_by, calm_of, kept_on, agrees_then, kept_began, began_consistent, began_entries, began_tx, session_within}
+use Rattle.life_history.specs.Kept.{IsKept, IsOneOf, counted_more, is_calm, is_of}
+use Rattle.life_history.proofs.Keeping.{of_sessions_push}
+use Rattle.life_history.proofs.Own.{Continues, continues_live, continues_one, calm_of, kept_then, agrees_then, sessions_then, fresh_then, kept_began, began_consistent, began_entries, began_tx, session_within}
 
 agree_alone : (opens : List Record → Type 0) (h : List Entry) (x : SessionClaim) → SessionAgrees h x → Agree opens h (session_alone x)
 agree_alone opens h x agrees = record { a = tt; b = tt; c = tt; s = agrees; m = tt }
@@ -115,7 +107,7 @@ module _ (opens : List Record → Type 0) (h : List Entry) (count session tx liv
 
   module _ (there : entry_of x.session ss ≡ Some (session_entry x)) (some : 0 < x.tx) where
     module _ (e : Entry) (calm : is_calm e ≡ true) (own : is_of x.session x.tx e ≡ true) where
-      continues : Continues h (h ++ e ∷ []) x.session 1
+      continues : Continues h (h ++ e ∷ []) x.session 1 1
       continues = continues_one h x.session e (calm_of opens h _ _ total of_session k x there some e calm own)
 
       same_log : (opening : List Record) → life_log opening (h ++ e ∷ []) ≡ life_log opening h
@@ -128,131 +120,64 @@ module _ (opens : List Record → Type 0) (h : List Entry) (count session tx liv
           by (entries.Declined s t request why) calm = log_same opening h (entries.Declined s t request why) refl
           by _ calm = absurd (cc calm)
 
+      same_maintenance : maintenance_book (h ++ e ∷ []) ≡ maintenance_book h
+      same_maintenance = maintenance_push h e ∙ (calm_of opens h _ _ total of_session k x there some e calm own).maint (maintenance_book h)
+
+      abbrev now_book : List BookEntry
+      now_book = replaced (entry x.session (x.entries + 1) x.tx) ss
+
+      kept_one : count < 2 ^ 62 → IsConsistent opens (h ++ e ∷ [])
+          → IsKept opens (h ++ e ∷ []) (record { entries = count + 1; session = session; tx = tx; live = live }) (record { pages = ps; sessions = now_book; maint = ms }) (total + 1) (of_session + 1)
+      kept_one short consistent = kept_then opens h (h ++ e ∷ []) _ _ (record { pages = ps; sessions = now_book; maint = ms }) total of_session x.session 1 1 k continues consistent short (omega arith)
+          (record {
+            pages = λ m y is opening stands. k.books.pages m y is opening stands ∙ ap (λ (l : List Record). head l m) (sym (same_log opening));
+            sessions = sessions_then opens h _ _ total of_session k x there (h ++ e ∷ []) 1 1 continues;
+            maint = λ m y is. k.books.maint m y is ∙ sym same_maintenance;
+          })
+          (fresh_then opens h _ _ total of_session k x there (h ++ e ∷ []) 1 1 continues)
+
+    module _ (es : List Entry) (one : IsOneOf x.session x.tx es) where
       pub own_kept : (h' : List Entry) (own : ℕ) (total' of_session' : ℕ) (ps' ss' ms' : List BookEntry) → ss' ≡ replaced (entry x.session (x.entries + 1) own) ss → own ≡ x.tx → (ps' ≡ ps) × (ms' ≡ ms)
-          → h' ≡ h ++ e ∷ [] → total' ≡ total + 1 → of_session' ≡ of_session + 1 → count < 2 ^ 62 → IsConsistent opens (h ++ e ∷ [])
+          → h' ≡ h ++ es → total' ≡ total + 1 → of_session' ≡ of_session + 1 → count < 2 ^ 62 → IsConsistent opens (h ++ es)
           → IsKept opens h' (record { entries = count + 1; session = session; tx = tx; live = live }) (record { pages = ps'; sessions = ss'; maint = ms' }) total' of_session'
-      own_kept h' own total' of_session' ps' ss' ms' book same others now sum sums short consistent =
-          let done = kept_on opens h _ _ total of_session k x there (h ++ e ∷ []) 1 continues ps consistent short (omega arith)
-          (λ m y is opening stands. k.books.pages m y is opening stands ∙ ap (λ (l : List Record). head l m) (sym (same_log opening))) in
-          let book : ss' ≡ replaced (entry x.session (x.entries + 1) x.tx) ss = book ∙ ap (λ m. replaced (entry x.session (x.entries + 1) m) ss) same in
-          subst (λ (y : List Entry × List BookEntry × List BookEntry × List BookEntry × ℕ × ℕ). IsKept opens y.0 (record { entries = count + 1; session = session; tx = tx; live = live }) (record { pages = y.1; sessions = y.2; maint = y.3 }) y.4 y.5)
-          (λ i. (sym now i, sym others.0 i, sym book i, sym others.1 i, sym sum i, sym sums i)) done
-
-      pub own_agrees : (h' : List Entry) (own : ℕ) (y : SessionClaim) → h' ≡ h ++ e ∷ [] → own ≡ x.tx → y ≡ record { session = x.session; entries = x.entries + 1; tx = own } → SessionAgrees h' y
-      own_agrees h' own y now same raised =
-          subst (λ (z : List Entry × SessionClaim). SessionAgrees z.0 z.1) (λ i. (sym now i, sym (raised ∙ ap (λ m. record { session = x.session; entries = x.entries + 1; tx = m }) same) i))
-          (agrees_then opens h _ _ total of_session k x there (h ++ e ∷ []) 1 continues)
-
-      pub own_counted : (h' : List Entry) → h' ≡ h ++ e ∷ [] → of_sessions h' ≡ of_sessions h + 1
-      own_counted h' now = ap of_sessions now ∙ continues.counted
-
-      pub own_live : (h' : List Entry) → h' ≡ h ++ e ∷ [] → (live_count h' ≡ live_count h) × (live_count h ≤ 64)
-      own_live h' now = (ap live_count now ∙ continues_live h (h ++ e ∷ []) x.session 1 continues, subst (λ m. m ≤ 64) k.begun.counted k.begun.most)
-
-    -- ---- a write and its answer
-
-    module _ (lsn : ℕ) (r : Record) (said : Said) (write : IsWriteBy x.tx r) (speaker : said.session ≡ x.session) where
-      abbrev written : Entry
-      written = Rec lsn r
-
-      abbrev told : Entry
-      told = entries.Said said.session said.tx said.request said.reply
-
-      abbrev between : List Entry
-      between = h ++ written ∷ []
-
-      first : IsCalmOf h x.session written
-      first = by r write
+      own_kept h' own total' of_session' ps' ss' ms' book same others now sum sums short consistent = by es one now consistent
         where
-          by : (r : Record) → IsWriteBy x.tx r → IsCalmOf h x.session (Rec lsn r)
-          by (kinds.Write w) is = record {
-            own = ap (is_owner h x.session) is ∙ owner opens h _ _ total of_session k x there some;
-            others = λ m apart. ap (is_owner h m) is ∙ owned_by_none opens h _ _ total of_session k x there some m apart;
-            counted = begun_by h x.session w.tx (ap (is_owner h x.session) is ∙ owner opens h _ _ total of_session k x there some);
-            phases = λ t p. refl;
-            begins = refl;
-            last = λ m t. refl;
-            greatest = λ n. refl;
-            maint = λ n. refl;
-          }
-          by (kinds.Apply w) is = record {
-            own = ap (is_owner h x.session) is ∙ owner opens h _ _ total of_session k x there some;
-            others = λ m apart. ap (is_owner h m) is ∙ owned_by_none opens h _ _ total of_session k x there some m apart;
-            counted = begun_by h x.session w.tx (ap (is_owner h x.session) is ∙ owner opens h _ _ total of_session k x there some);
-            phases = λ t p. refl;
-            begins = refl;
-            last = λ m t. refl;
-            greatest = λ n. refl;
-            maint = λ n. refl;
-          }
-          by _ is = absurd is
+          by : (es : List Entry) → IsOneOf x.session x.tx es → h' ≡ h ++ es → IsConsistent opens (h ++ es) → IsKept opens h' (record { entries = count + 1; session = session; tx = tx; live = live }) (record { pages = ps'; sessions = ss'; maint = ms' }) total' of_session'
+          by (e ∷ []) is now consistent =
+              let book : ss' ≡ replaced (entry x.session (x.entries + 1) x.tx) ss = book ∙ ap (λ m. replaced (entry x.session (x.entries + 1) m) ss) same in
+              subst (λ (y : List Entry × List BookEntry × List BookEntry × List BookEntry × ℕ × ℕ). IsKept opens y.0 (record { entries = count + 1; session = session; tx = tx; live = live }) (record { pages = y.1; sessions = y.2; maint = y.3 }) y.4 y.5)
+              (λ i. (sym now i, sym others.0 i, sym book i, sym others.1 i, sym sum i, sym sums i)) (kept_one e is.0 is.1 short consistent)
+          by [] is now consistent = absurd is
+          by (e ∷ f ∷ es) is now consistent = absurd is
 
-      second : IsCalmOf between x.session told
-      second = record {
-        own = ap (λ m. eqb m x.session) speaker ∙ eqb_self x.session;
-        others = λ m apart. ap (λ s. eqb s m) speaker ∙ eqb_differ x.session m (λ e. apart (sym e));
-        counted = refl;
-        phases = λ t p. refl;
-        begins = refl;
-        last = λ m t. refl;
-        greatest = λ n. refl;
-        maint = λ n. refl;
-      }
-
-      is_two : h ++ told_entries lsn r said ≡ between ++ told ∷ []
-      is_two = sym (append_assoc h (written ∷ []) (told ∷ []))
-
-      both : Continues h (h ++ told_entries lsn r said) x.session 2
-      both = subst (λ l. Continues h l x.session 2) (sym is_two)
-          (continues_then h between (between ++ told ∷ []) x.session 1 1 (continues_one h x.session written first) (continues_one between x.session told second))
-
-      log_is : (opening : List Record) → life_log opening (h ++ told_entries lsn r said) ≡ life_log opening h ++ r ∷ []
-      log_is opening = ap (life_log opening) is_two ∙ log_same opening between told refl ∙ log_more opening h lsn r
-
-      -- the write names its page alone
-      names_page : (page : ℕ) → IsOnPage page r → (m : ℕ) → names m r ≡ eqb m page
-      names_page page on m = by r on
+      pub own_agrees : (h' : List Entry) (own : ℕ) (y : SessionClaim) → h' ≡ h ++ es → own ≡ x.tx → y ≡ record { session = x.session; entries = x.entries + 1; tx = own } → SessionAgrees h' y
+      own_agrees h' own y now same raised = by es one now
         where
-          by : (r : Record) → IsOnPage page r → names m r ≡ eqb m page
-          by (kinds.Write w) is = ap (eqb m) is
-          by (kinds.Apply a) is = ap (eqb m) is
-          by _ is = absurd is
+          by : (es : List Entry) → IsOneOf x.session x.tx es → h' ≡ h ++ es → SessionAgrees h' y
+          by (e ∷ []) is now =
+              subst (λ (z : List Entry × SessionClaim). SessionAgrees z.0 z.1) (λ i. (sym now i, sym (raised ∙ ap (λ m. record { session = x.session; entries = x.entries + 1; tx = m }) same) i))
+              (agrees_then opens h _ _ total of_session k x there (h ++ e ∷ []) 1 1 (continues e is.0 is.1))
+          by [] is now = absurd is
+          by (e ∷ f ∷ es) is now = absurd is
 
-      pages_kept : (p : PageClaim) → IsOnPage p.page r → ((opening : List Record) → opens opening → lsn ≡ length (life_log opening h) + 1) → entry_of p.page ps ≡ Some (page_entry p)
-          → (m : ℕ) (y : BookEntry) → entry_of m (replaced (entry p.page lsn 0) ps) ≡ Some y → (opening : List Record) → opens opening → y.first ≡ page_book opening (h ++ told_entries lsn r said) m
-      pages_kept p on place here m y is opening stands =
-          let log = life_log opening h in
-          let at : page_book opening (h ++ told_entries lsn r said) m ≡ cond (eqb m p.page) (length log + 1) (head log m) =
-          ap (λ l. head l m) (log_is opening) ∙ head_push log r m ∙ ap (λ c. cond c (length log + 1) (head log m)) (names_page p.page on m) in
-          dite (ℕ_discrete m p.page)
-          (λ same.
-          let found = entry_of-replaced (entry p.page lsn 0) ps (page_entry p) here in
-          let equal : entry p.page lsn 0 ≡ y = some_is _ _ (sym found ∙ ap (λ q. entry_of q (replaced (entry p.page lsn 0) ps)) (sym same) ∙ is) in
-          let first : lsn ≡ y.first = ap (λ (e : BookEntry). e.first) equal in
-          grind (arith, nat_tests, same, first, at, place opening stands))
-          (λ apart.
-          let was = k.books.pages m y (sym (entry_of-other m (entry p.page lsn 0) ps apart) ∙ is) opening stands in
-          grind (arith, nat_tests, apart, at, was))
+      pub own_counted : (h' : List Entry) → h' ≡ h ++ es → of_sessions h' ≡ of_sessions h + 1
+      own_counted h' now = by es one now
+        where
+          by : (es : List Entry) → IsOneOf x.session x.tx es → h' ≡ h ++ es → of_sessions h' ≡ of_sessions h + 1
+          by (e ∷ []) is now = ap of_sessions now ∙ (continues e is.0 is.1).counted
+          by [] is now = absurd is
+          by (e ∷ f ∷ es) is now = absurd is
 
-      pub write_kept : (p : PageClaim) → IsOnPage p.page r → ((opening : List Record) → opens opening → lsn ≡ length (life_log opening h) + 1) → entry_of p.page ps ≡ Some (page_entry p)
-          → (h' : List Entry) (total' of_session' : ℕ) (ps' ss' ms' : List BookEntry) → ps' ≡ replaced (entry p.page lsn 0) ps → ss' ≡ replaced (entry x.session (x.entries + 2) x.tx) ss → ms' ≡ ms
-          → h' ≡ h ++ told_entries lsn r said → total' ≡ total + 2 → of_session' ≡ of_session + 2 → count < 2 ^ 62 → IsConsistent opens (h ++ told_entries lsn r said)
-          → IsKept opens h' (record { entries = count + 2; session = session; tx = tx; live = live }) (record { pages = ps'; sessions = ss'; maint = ms' }) total' of_session'
-      write_kept p on place here h' total' of_session' ps' ss' ms' pages book maint now sum sums short consistent =
-          let done = kept_on opens h _ _ total of_session k x there (h ++ told_entries lsn r said) 2 both (replaced (entry p.page lsn 0) ps) consistent short (omega arith) (pages_kept p on place here) in
-          subst (λ (y : List Entry × List BookEntry × List BookEntry × List BookEntry × ℕ × ℕ). IsKept opens y.0 (record { entries = count + 2; session = session; tx = tx; live = live }) (record { pages = y.1; sessions = y.2; maint = y.3 }) y.4 y.5)
-          (λ i. (sym now i, sym pages i, sym book i, sym maint i, sym sum i, sym sums i)) done
+      pub own_live : (h' : List Entry) → h' ≡ h ++ es → (live_count h' ≡ live_count h) × (live_count h ≤ 64)
+      own_live h' now = (by es one now, subst (λ m. m ≤ 64) k.begun.counted k.begun.most)
+        where
+          by : (es : List Entry) → IsOneOf x.session x.tx es → h' ≡ h ++ es → live_count h' ≡ live_count h
+          by (e ∷ []) is now = ap live_count now ∙ continues_live h (h ++ e ∷ []) x.session 1 1 (continues e is.0 is.1)
+          by [] is now = absurd is
+          by (e ∷ f ∷ es) is now = absurd is
 
-      -- the same, where the right is there
-      pub write_kept_by : (page : Option PageClaim) → IsSome page → IfSome page (λ p. IsOnPage p.page r) → ((opening : List Record) → opens opening → lsn ≡ length (life_log opening h) + 1) → IfSome page (λ p. entry_of p.page ps ≡ Some (page_entry p))
-          → (h' : List Entry) (total' of_session' : ℕ) (ps' ss' ms' : List BookEntry) → IfSome page (λ p. ps' ≡ replaced (entry p.page lsn 0) ps) → ss' ≡ replaced (entry x.session (x.entries + 2) x.tx) ss → ms' ≡ ms
-          → h' ≡ h ++ told_entries lsn r said → total' ≡ total + 2 → of_session' ≡ of_session + 2 → count < 2 ^ 62 → IsConsistent opens (h ++ told_entries lsn r said)
-          → IsKept opens h' (record { entries = count + 2; session = session; tx = tx; live = live }) (record { pages = ps'; sessions = ss'; maint = ms' }) total' of_session'
-      write_kept_by None is = absurd (cc is)
-      write_kept_by (Some p) is = write_kept p
-
-      pub write_counted : (h' : List Entry) → h' ≡ h ++ told_entries lsn r said → of_sessions h' ≡ of_sessions h + 2
-      write_counted h' now = ap of_sessions now ∙ both.counted
-
-      pub write_live : (h' : List Entry) → h' ≡ h ++ told_entries lsn r said → (live_count h' ≡ live_count h) × (live_count h ≤ 64)
-      write_live h' now = (ap live_count now ∙ continues_live h (h ++ told_entries lsn r said) x.session 2 both, subst (λ m. m ≤ 64) k.begun.counted k.begun.most)
+-- one entry
+pub one_long : (session tx : ℕ) (es : List Entry) → IsOneOf session tx es → length es ≡ 1
+one_long session tx (e ∷ []) is = refl
+one_long session tx [] is = absurd is
+one_long session tx (e ∷ f ∷ es) is = absurd is

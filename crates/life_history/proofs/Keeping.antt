@@ -1,29 +1,22 @@
 -- What the calls keep.
-use Rattle.std.proofs.Common.{◌≡◌, ◌≢◌, ℕ, suc, eqb, cond, ◌+◌, ◌≤◌, List, [], ◌∷◌, ◌++◌, length, Option, Some, None, refl, sym, ap, ◌∙◌, subst, arith, length-append, append-nil}
-use Rattle.std.specs.Prelude.{IfSome, max, ◌<◌, ◌^◌}
+use Rattle.std.proofs.Common.{◌≡◌, ◌≢◌, ℕ, suc, cond, ◌+◌, ◌≤◌, List, [], ◌∷◌, ◌++◌, length, Some, None, refl, sym, ap, ◌∙◌, subst, arith, length-append, append-nil}
 use Rattle.std.proofs.lemmas.Bool.Decides.{nat_tests}
 use native.Mathlib.Decide.{ℕ_discrete}
 use mathlib.Core.Logic.{dite}
 use Rattle.books.specs.Booking.{entry, entry_of, replaced}
 use Rattle.books.specs.declared.entry.BookEntry.{BookEntry}
-use Rattle.books.specs.Rights.{PageClaim, page_entry, SessionClaim, session_entry}
+use Rattle.books.specs.Rights.{SessionClaim, session_entry}
 use Rattle.books.proofs.Keeping.{entry_of-added, entry_of-other, entry_of-replaced}
-use Rattle.wal_record.specs.Books.{page_book, session_entries, unless_over, session_transaction}
-use Rattle.wal_record.specs.Chains.{head, pages, greatest}
-use Rattle.wal_record.specs.OpenWrites.{pending}
-use Rattle.wal_record.specs.History.{life_log, Phase, Idle, Live, phase, is_over, Beginning, beginnings, greatest_begun, last_begun}
-use Rattle.wal_record.specs.Legal.{IsLegal, split_leaf}
-use Rattle.wal_record.specs.Sound.{IsSound, AreLawful, used}
-use Rattle.wal_record.specs.Checkpoints.{commits, limit_of}
+use Rattle.wal_record.specs.Books.{session_entries, unless_over}
+use Rattle.wal_record.specs.History.{life_log, Idle, Live, phase, greatest_begun, last_begun}
+use Rattle.wal_record.specs.Legal.{split_leaf}
+use Rattle.wal_record.specs.Sound.{IsSound}
 use Rattle.wal_record.specs.declared.record.Record.{Record}
-use Rattle.wal_record.specs.declared.record.Record.TheVariants as kinds
 use Rattle.wal_record.specs.declared.entry.Entry.{Entry}
 use Rattle.wal_record.proofs.Along.{along_push}
-use Rattle.wal_record.proofs.Pushes.{head_push, pages_push, open_push, lawful_back, legal_front, log_more, beginnings_push, begun_push, untold_push, split_leaf_push, last_begun_push, phase_push, maintenance_push, session_entries_push}
 use Rattle.store_model.specs.Along as Along
-use Rattle.log_laws.proofs.Pending.{pending_change}
 use Rattle.life_laws.proofs.Start.{nothing_told, nothing_legal}
-use Rattle.page_ops.specs.Seeing.{IsConsistent, is_of_session, of_sessions}
+use Rattle.page_ops.specs.Seeing.{is_of_session, of_sessions}
 use Rattle.life_history.specs.Kept.{Numbers, BooksOf, AreKept, IsFresh, AreBegun, IsKept, Begins}
 use Rattle.life_history.proofs.Sessions.{fresh_after}
 
@@ -108,7 +101,7 @@ kept_watched opens h h' n ps ps' ss ss' ms ms' total total' of_session of_sessio
 
 -- ---- a session more
 
-entry_of-apart : (m : ℕ) (new : BookEntry) (es : List BookEntry) → m ≢ new.number → entry_of m (es ++ new ∷ []) ≡ entry_of m es
+pub entry_of-apart : (m : ℕ) (new : BookEntry) (es : List BookEntry) → m ≢ new.number → entry_of m (es ++ new ∷ []) ≡ entry_of m es
 entry_of-apart m new [] apart = grind (arith, nat_tests, apart)
 entry_of-apart m new (e ∷ es) apart = grind (arith, nat_tests, apart, entry_of-apart m new es apart)
 

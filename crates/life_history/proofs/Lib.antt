@@ -2,7 +2,9 @@ pub mod Beginnings
 pub mod Commits
 pub mod Entering
 pub mod Entries
+pub mod Grouped
 pub mod Keeping
 pub mod Moving
 pub mod Own
 pub mod Sessions
+pub mod Small

@@ -1,14 +1,12 @@
 -- An entry by which a session's transaction goes on to another phase: its commit, and that this is acknowledged.
-use Rattle.std.proofs.Common.{◌≡◌, ◌≢◌, ℕ, suc, eqb, cond, ◌+◌, ◌*◌, ◌≤◌, ◌<◌, ◌^◌, List, [], ◌∷◌, ◌++◌, length, Option, Some, None, Bool, true, false, refl, sym, ap, ◌∙◌, subst, arith, length-append, append-nil}
+use Rattle.std.proofs.Common.{◌≡◌, ◌≢◌, ℕ, suc, eqb, cond, ◌+◌, ◌*◌, ◌≤◌, ◌<◌, ◌^◌, List, [], ◌∷◌, ◌++◌, Option, Some, Bool, true, false, refl, sym, ap, ◌∙◌, subst, arith, length-append, append-nil}
 use Rattle.std.specs.Prelude.{max, nat_le}
 use Rattle.std.proofs.lemmas.Bool.Decides.{nat_tests}
-use Rattle.std.specs.List.{list_any}
 use Rattle.books.specs.Booking.{entry, entry_of, replaced}
-use Rattle.books.specs.declared.entry.BookEntry.{BookEntry}
 use Rattle.books.specs.Rights.{SessionClaim, session_entry}
-use Rattle.wal_record.specs.Books.{page_book, maintenance_step, maintenance_book, belongs, session_entries, unless_over, session_transaction}
+use Rattle.wal_record.specs.Books.{maintenance_step, maintenance_book, belongs, session_entries, unless_over, session_transaction}
 use Rattle.wal_record.specs.Chains.{head, greatest}
-use Rattle.wal_record.specs.History.{life_log, Phase, Live, Committed, Acknowledged, phase, phase_step, is_live, is_over, Beginning, beginnings, is_owner, begun_step, greatest_begun, session_step, last_begun}
+use Rattle.wal_record.specs.History.{life_log, Phase, Live, Committed, Acknowledged, Ended, phase, phase_step, is_live, is_over, Beginning, beginnings, is_owner, begun_step, greatest_begun, session_step, last_begun}
 use Rattle.wal_record.specs.declared.record.Record.{Record}
 use Rattle.wal_record.specs.declared.record.Record.TheVariants as kinds
 use Rattle.wal_record.specs.declared.entry.Entry.{Entry}
@@ -17,7 +15,7 @@ use Rattle.wal_record.proofs.Pushes.{head_push, log_same, log_more, beginnings_p
 use Rattle.log_laws.proofs.Central.{eqb_differ, eqb_self}
 use Rattle.page_ops.specs.Claims.{SessionAgrees}
 use Rattle.page_ops.specs.Seeing.{IsConsistent, is_of_session, of_sessions}
-use Rattle.life_history.specs.Kept.{Numbers, BooksOf, AreBegun, IsKept, commit_entry, is_started}
+use Rattle.life_history.specs.Kept.{Numbers, BooksOf, AreBegun, IsKept, commit_entry, end_entry}
 use Rattle.life_history.proofs.Beginnings.{one_owner, begun_over, begun_on, some_live}
 use Rattle.life_history.proofs.Keeping.{of_sessions_push}
 use Rattle.life_history.proofs.Own.{agreeing, begun_by, begun_once, consistent_entry, owner, owned_by_none, unless_live}
@@ -154,6 +152,38 @@ module _ (opens : List Record → Type 0) (h : List Entry) (n : Numbers) (b : Bo
 
     pub commit_counted : of_sessions (h ++ commit ∷ []) ≡ of_sessions h + 1
     commit_counted = moved_counted Committed commit commit_move
+
+  -- ---- an end
+
+  module _ (lsn prev : ℕ) where
+    abbrev ending : Entry
+    ending = end_entry lsn s.tx prev
+
+    end_move : IsMoveOf h s.session s.tx Ended ending
+    end_move = record {
+      own = its_own;
+      others = λ x apart. owned_by_none opens h n b total of_session k s there some x apart;
+      counted = begun_by h s.session s.tx its_own;
+      phases = λ t p. refl;
+      begins = refl;
+      last = λ x t. refl;
+      greatest = λ x. refl;
+      maint = λ x. refl;
+    }
+
+    end_heads : (opening : List Record) (p : ℕ) → head (life_log opening (h ++ ending ∷ [])) p ≡ head (life_log opening h) p
+    end_heads opening p =
+        let r : Record = kinds.End (record { tx = s.tx; prev = prev }) in
+        ap (λ l. head l p) (log_more opening h lsn r) ∙ head_push (life_log opening h) r p
+
+    pub end_kept : phase h s.tx ≡ Live → IsConsistent opens (h ++ ending ∷ []) → (left : ℕ) → left + 1 ≡ n.live
+        → IsKept opens (h ++ ending ∷ []) (record n { entries = n.entries + 1; live = left }) (record b { sessions = replaced (entry s.session (s.entries + 1) 0) b.sessions }) (total + 1) (of_session + 1)
+    end_kept live consistent left less = kept_moved Ended ending end_move left
+        (begun_over _ _ _ _ _ k.begun s.tx left Ended refl refl live (begun_once opens h n b total of_session k s there some) less)
+        consistent (let room = k.room in omega (arith, room, less)) end_heads
+
+    pub end_counted : of_sessions (h ++ ending ∷ []) ≡ of_sessions h + 1
+    end_counted = moved_counted Ended ending end_move
 
   -- ---- its acknowledgement
 

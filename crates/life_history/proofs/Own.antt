@@ -7,22 +7,22 @@ use Rattle.std.specs.List.{list_any}
 use Rattle.books.specs.Booking.{entry, entry_of, replaced}
 use Rattle.books.specs.declared.entry.BookEntry.{BookEntry}
 use Rattle.books.specs.Rights.{SessionClaim, session_entry}
-use Rattle.wal_record.specs.Books.{page_book, maintenance_step, maintenance_book, belongs, session_entries, unless_over, session_transaction}
+use Rattle.wal_record.specs.Books.{maintenance_step, belongs, session_entries, unless_over, session_transaction}
 use Rattle.wal_record.specs.Chains.{head, greatest}
-use Rattle.wal_record.specs.History.{log_of, life_log, Phase, Live, Acknowledged, Ended, phase, phase_step, is_live, is_over, live_count, Beginning, beginnings, is_owner, begun_step, greatest_begun, session_step, last_begun, IsFree}
+use Rattle.wal_record.specs.History.{log_of, life_log, Phase, Live, phase, phase_step, is_live, is_over, live_count, Beginning, beginnings, is_owner, begun_step, greatest_begun, session_step, last_begun, IsFree}
 use Rattle.wal_record.specs.Legal.{untold_step, split_leaf, split_step, FollowsSplit, EntryRule, IsAllowed, IsLegal}
 use Rattle.wal_record.specs.Sound.{IsSound}
 use Rattle.wal_record.specs.declared.page.PageState.{PageState}
 use Rattle.wal_record.specs.declared.record.Record.{Record}
 use Rattle.wal_record.specs.declared.entry.Entry.{Entry}
-use Rattle.wal_record.specs.declared.entry.Entry.TheVariants.{Rec, Lock, Refused, Said, Declined, Began}
+use Rattle.wal_record.specs.declared.entry.Entry.TheVariants.{Lock, Refused, Said, Declined, Began}
 use Rattle.wal_record.proofs.Along.{AllAlong_back, by_pushes}
-use Rattle.wal_record.proofs.Pushes.{head_push, log_same, beginnings_push, begun_push, untold_push, split_leaf_push, last_begun_push, phase_push, maintenance_push, session_entries_push}
+use Rattle.wal_record.proofs.Pushes.{log_same, beginnings_push, begun_push, untold_push, split_leaf_push, last_begun_push, phase_push, maintenance_push, session_entries_push}
 use Rattle.log_laws.proofs.Central.{eqb_differ, eqb_self}
 use Rattle.log_laws.proofs.Serial.{owner_new}
 use Rattle.page_ops.specs.Claims.{SessionAgrees}
 use Rattle.page_ops.specs.Seeing.{IsConsistent, is_begun, is_of_session, of_sessions}
-use Rattle.life_history.specs.Kept.{Numbers, BooksOf, AreBegun, IsKept, is_beginning, times, is_calm, is_of}
+use Rattle.life_history.specs.Kept.{Numbers, BooksOf, AreKept, IsFresh, AreBegun, IsKept, is_beginning, times, is_calm, is_of}
 use Rattle.life_history.proofs.Beginnings.{own_time, one_owner, not_next, begun_began}
 use Rattle.life_history.proofs.Sessions.{OthersStay, tx_same, sessions_after, fresh_after}
 use Rattle.life_history.proofs.Keeping.{of_sessions_push, no_session}
@@ -103,19 +103,19 @@ pub record IsCalmOf (h : List Entry) (session : ℕ) (e : Entry) : Type 0 where
   pub greatest : (n : ℕ) → begun_step n e ≡ n
   pub maint : (n : ℕ) → maintenance_step n e ≡ n
 
--- the history went on by so many such entries
-pub record Continues (h h' : List Entry) (session n : ℕ) : Type 0 where
+-- the history went on by so many entries, of which so many belong to this session and none to another one, and by which no
+-- transaction began or ended
+pub record Continues (h h' : List Entry) (session mine n : ℕ) : Type 0 where
   pub longer : length h' ≡ length h + n
   pub begins : beginnings h' ≡ beginnings h
   pub phases : (t : ℕ) → phase h' t ≡ phase h t
   pub last : (m : ℕ) → last_begun h' m ≡ last_begun h m
   pub greatest : greatest_begun h' ≡ greatest_begun h
-  pub own : session_entries h' session ≡ session_entries h session + n
+  pub own : session_entries h' session ≡ session_entries h session + mine
   pub others : (m : ℕ) → m ≢ session → session_entries h' m ≡ session_entries h m
-  pub maint : maintenance_book h' ≡ maintenance_book h
-  pub counted : of_sessions h' ≡ of_sessions h + n
+  pub counted : of_sessions h' ≡ of_sessions h + mine
 
-pub continues_one : (h : List Entry) (session : ℕ) (e : Entry) → IsCalmOf h session e → Continues h (h ++ e ∷ []) session 1
+pub continues_one : (h : List Entry) (session : ℕ) (e : Entry) → IsCalmOf h session e → Continues h (h ++ e ∷ []) session 1 1
 continues_one h session e c = record {
   longer = length-append h (e ∷ []);
   begins = beginnings_push h e ∙ ap (λ bs. beginnings h ++ bs) c.begins ∙ append-nil (beginnings h);
@@ -124,12 +124,23 @@ continues_one h session e c = record {
   greatest = begun_push h e ∙ c.greatest (greatest_begun h);
   own = let one = session_entries_push h e session ∙ ap (λ (b : Bool). cond b (suc (session_entries h session)) (session_entries h session)) c.own in omega (arith, one);
   others = λ m apart. session_entries_push h e m ∙ ap (λ (b : Bool). cond b (suc (session_entries h m)) (session_entries h m)) (c.others m apart);
-  maint = maintenance_push h e ∙ c.maint (maintenance_book h);
   counted = let one = of_sessions_push h e ∙ ap (λ (b : Bool). cond b (suc (of_sessions h)) (of_sessions h)) c.counted in omega (arith, one);
 }
 
-pub continues_then : (h h1 h2 : List Entry) (session n m : ℕ) → Continues h h1 session n → Continues h1 h2 session m → Continues h h2 session (n + m)
-continues_then h h1 h2 session n m a b = record {
+pub continues_none : (h : List Entry) (session : ℕ) → Continues h h session 0 0
+continues_none h session = record {
+  longer = omega arith;
+  begins = refl;
+  phases = λ t. refl;
+  last = λ m. refl;
+  greatest = refl;
+  own = omega arith;
+  others = λ m apart. refl;
+  counted = omega arith;
+}
+
+pub continues_then : (h h1 h2 : List Entry) (session own own' n m : ℕ) → Continues h h1 session own n → Continues h1 h2 session own' m → Continues h h2 session (own + own') (n + m)
+continues_then h h1 h2 session own own' n m a b = record {
   longer = let x = a.longer in let y = b.longer in omega (arith, x, y);
   begins = b.begins ∙ a.begins;
   phases = λ t. b.phases t ∙ a.phases t;
@@ -137,13 +148,35 @@ continues_then h h1 h2 session n m a b = record {
   greatest = b.greatest ∙ a.greatest;
   own = let x = a.own in let y = b.own in omega (arith, x, y);
   others = λ m apart. b.others m apart ∙ a.others m apart;
-  maint = b.maint ∙ a.maint;
   counted = let x = a.counted in let y = b.counted in omega (arith, x, y);
 }
 
 -- as many are live
-pub continues_live : (h h' : List Entry) (session n : ℕ) → Continues h h' session n → live_count h' ≡ live_count h
-continues_live h h' session n c i = length (filter (λ (b : Beginning). is_live (c.phases b.tx i)) (c.begins i))
+pub continues_live : (h h' : List Entry) (session own n : ℕ) → Continues h h' session own n → live_count h' ≡ live_count h
+continues_live h h' session own n c i = length (filter (λ (b : Beginning). is_live (c.phases b.tx i)) (c.begins i))
+
+pub continues_tx : (h h' : List Entry) (session own n : ℕ) → Continues h h' session own n → (m : ℕ) → session_transaction h' m ≡ session_transaction h m
+continues_tx h h' session own n c m = tx_same h h' m (c.last m) (λ t is. c.phases t)
+
+pub continues_others : (h h' : List Entry) (session own n : ℕ) → Continues h h' session own n → OthersStay h h' session
+continues_others h h' session own n c = record { entries = c.others; tx = λ m apart. continues_tx h h' session own n c m; begun = λ m apart. c.last m }
+
+-- what is kept then, where the books have the numbers of the longer history
+pub kept_then : (opens : List Record → Type 0) (h h' : List Entry) (n : Numbers) (b b' : BooksOf) (total of_session session own more : ℕ) → IsKept opens h n b total of_session → Continues h h' session own more → IsConsistent opens h'
+    → n.entries < 2 ^ 62 → more ≤ 3 → AreKept opens h' b' → ((m : ℕ) → n.session ≤ m → IsFresh h' b'.sessions m)
+    → IsKept opens h' (record n { entries = n.entries + more }) b' (total + more) (of_session + own)
+kept_then opens h h' n b b' total of_session session own more k c consistent low few books fresh = record {
+  consistent = consistent;
+  entries = let was = k.entries in let now = c.longer in omega (arith, was, now);
+  number = λ opening stands. k.number opening stands ∙ ap (λ (m : ℕ). suc (max (greatest opening) m)) (sym c.greatest);
+  least = k.least;
+  room = let most = k.begun.most in omega (arith, low, few, most);
+  begun = subst (λ (x : List Beginning × (ℕ → Phase) × (ℕ → Option ℕ)). AreBegun x.0 x.1 x.2 n.tx n.live) (λ i. (sym c.begins i, (λ t. sym (c.phases t) i), (λ m. sym (c.last m) i))) k.begun;
+  fresh = fresh;
+  books = books;
+  counted = let was = k.counted in let now = c.longer in omega (arith, was, now);
+  sessions_counted = let was = k.sessions_counted in let now = c.counted in omega (arith, was, now);
+}
 
 module _ (opens : List Record → Type 0) (h : List Entry) (n : Numbers) (b : BooksOf) (total of_session : ℕ) (k : IsKept opens h n b total of_session) (s : SessionClaim) where
   -- the book of sessions has the session's entry
@@ -223,36 +256,17 @@ module _ (opens : List Record → Type 0) (h : List Entry) (n : Numbers) (b : Bo
         }
     calm_of some _ calm own = absurd (cc calm)
 
-    module _ (h' : List Entry) (more : ℕ) (c : Continues h h' s.session more) where
-      tx_stays : (m : ℕ) → session_transaction h' m ≡ session_transaction h m
-      tx_stays m = tx_same h h' m (c.last m) (λ t is. c.phases t)
+    module _ (h' : List Entry) (own more : ℕ) (c : Continues h h' s.session own more) where
+      pub agrees_then : SessionAgrees h' (record { session = s.session; entries = s.entries + own; tx = s.tx })
+      agrees_then = record { entries = let was = agrees.entries in let now = c.own in omega (arith, was, now); tx = agrees.tx ∙ sym (continues_tx h h' s.session own more c s.session) }
 
-      stay : OthersStay h h' s.session
-      stay = record { entries = c.others; tx = λ m apart. tx_stays m; begun = λ m apart. c.last m }
+      -- the book of sessions, with the session's new numbers
+      pub sessions_then : (m : ℕ) (e : BookEntry) → entry_of m (replaced (entry s.session (s.entries + own) s.tx) b.sessions) ≡ Some e → (e.first ≡ session_entries h' m) × (e.second ≡ session_transaction h' m)
+      sessions_then = sessions_after h h' b.sessions (replaced (entry s.session (s.entries + own) s.tx) b.sessions) (session_entry s) (s.entries + own) s.tx k.books.sessions there refl (continues_others h h' s.session own more c)
+          agrees_then.entries agrees_then.tx
 
-      pub agrees_then : SessionAgrees h' (record { session = s.session; entries = s.entries + more; tx = s.tx })
-      agrees_then = record { entries = let was = agrees.entries in let now = c.own in omega (arith, was, now); tx = agrees.tx ∙ sym (tx_stays s.session) }
-
-      -- what is kept of such entries, where the books have the numbers of the longer history
-      pub kept_on : (ps : List BookEntry) → IsConsistent opens h' → n.entries < 2 ^ 62 → more ≤ 2
-          → ((m : ℕ) (e : BookEntry) → entry_of m ps ≡ Some e → (opening : List Record) → opens opening → e.first ≡ page_book opening h' m)
-          → IsKept opens h' (record n { entries = n.entries + more }) (record b { pages = ps; sessions = replaced (entry s.session (s.entries + more) s.tx) b.sessions }) (total + more) (of_session + more)
-      kept_on ps consistent low few pages = record {
-        consistent = consistent;
-        entries = let was = k.entries in let now = c.longer in omega (arith, was, now);
-        number = λ opening stands. k.number opening stands ∙ ap (λ (m : ℕ). suc (max (greatest opening) m)) (sym c.greatest);
-        least = k.least;
-        room = let most = k.begun.most in omega (arith, low, few, most);
-        begun = subst (λ (x : List Beginning × (ℕ → Phase) × (ℕ → Option ℕ)). AreBegun x.0 x.1 x.2 n.tx n.live) (λ i. (sym c.begins i, (λ t. sym (c.phases t) i), (λ m. sym (c.last m) i))) k.begun;
-        fresh = λ m high. fresh_after h h' b.sessions (replaced (entry s.session (s.entries + more) s.tx) b.sessions) (session_entry s) (s.entries + more) s.tx m (k.fresh m high) there refl stay;
-        books = record {
-          pages = pages;
-          sessions = sessions_after h h' b.sessions (replaced (entry s.session (s.entries + more) s.tx) b.sessions) (session_entry s) (s.entries + more) s.tx k.books.sessions there refl stay agrees_then.entries agrees_then.tx;
-          maint = λ m x is. k.books.maint m x is ∙ sym c.maint;
-        };
-        counted = let was = k.counted in let now = c.longer in omega (arith, was, now);
-        sessions_counted = let was = k.sessions_counted in let now = c.counted in omega (arith, was, now);
-      }
+      pub fresh_then : (m : ℕ) → n.session ≤ m → IsFresh h' (replaced (entry s.session (s.entries + own) s.tx) b.sessions) m
+      fresh_then m high = fresh_after h h' b.sessions (replaced (entry s.session (s.entries + own) s.tx) b.sessions) (session_entry s) (s.entries + own) s.tx m (k.fresh m high) there refl (continues_others h h' s.session own more c)
 
     -- ---- a beginning
 

@@ -1,5 +1,5 @@
 -- What a life's history keeps.
-use Rattle.std.specs.Prelude.{◌≡◌, ◌≢◌, ℕ, suc, max, ◌+◌, ◌*◌, ◌^◌, ◌<◌, ◌≤◌, List, [], ◌∷◌, ◌++◌, length, filter, Option, Some, None, is_some, Bool, true, false, ◌&&◌, ◌==◌, IsTrue}
+use Rattle.std.specs.Prelude.{◌≡◌, ◌≢◌, ℕ, suc, max, ◌+◌, ◌*◌, ◌^◌, ◌<◌, ◌≤◌, List, [], ◌∷◌, length, filter, Option, Some, None, is_some, Bool, true, false, ◌&&◌, ◌==◌, IsTrue}
 use Rattle.std.specs.List.{list_any}
 use Rattle.books.specs.Booking.{entry_of}
 use Rattle.books.specs.declared.entry.BookEntry.{BookEntry}
@@ -13,7 +13,6 @@ use Rattle.wal_record.specs.declared.entry.Entry.{Entry}
 use Rattle.wal_record.specs.declared.entry.Entry.TheVariants as entries
 use Rattle.page_ops.specs.Names.{LedgerName}
 use Rattle.page_ops.specs.Seeing.{Account, Counted, IsConsistent, of_sessions}
-use Rattle.page_ops.specs.declared.group.Said.{Said}
 
 -- the numbers that it counts: its entries, the next session, the next transaction, and how many transactions are live
 pub record Numbers : Type 0 where
@@ -33,6 +32,11 @@ pub record AreKept (opens : List Record → Type 0) (h : List Entry) (b : BooksO
   pub pages : (n : ℕ) (e : BookEntry) → entry_of n b.pages ≡ Some e → (opening : List Record) → opens opening → e.first ≡ page_book opening h n
   pub sessions : (n : ℕ) (e : BookEntry) → entry_of n b.sessions ≡ Some e → (e.first ≡ session_entries h n) × (e.second ≡ session_transaction h n)
   pub maint : (n : ℕ) (e : BookEntry) → entry_of n b.maint ≡ Some e → e.first ≡ maintenance_book h
+
+-- the book of pages has none from this number on, and that of maintenance has the number 0 at most
+pub record IsSmall (page : ℕ) (b : BooksOf) : Type 0 where
+  pub pages : (n : ℕ) → page ≤ n → entry_of n b.pages ≡ None
+  pub maint : (n : ℕ) (e : BookEntry) → entry_of n b.maint ≡ Some e → n ≡ 0
 
 -- no session has this number
 pub record IsFresh (h : List Entry) (sessions : List BookEntry) (session : ℕ) : Type 0 where
@@ -92,31 +96,24 @@ is_of session tx (entries.Said s t request reply) = s == session
 is_of session tx (entries.Declined s t request why) = s == session
 is_of session tx _ = false
 
--- a write and its answer
-abbrev pub told_entries : ℕ → Record → Said → List Entry
-told_entries lsn r said = entries.Rec lsn r ∷ entries.Said said.session said.tx said.request said.reply ∷ []
+-- one such entry, of this session
+abbrev pub IsOneOf : ℕ → ℕ → List Entry → Type 0
+IsOneOf session tx (e ∷ []) = (is_calm e ≡ true) × (is_of session tx e ≡ true)
+IsOneOf session tx es = ⊥
 
 -- the commit of a transaction
 abbrev pub commit_entry : ℕ → ℕ → ℕ → Entry
 commit_entry lsn tx prev = entries.Rec lsn (kinds.Commit (record { tx = tx; prev = prev }))
+
+-- the end of a transaction whose writes have all been undone
+abbrev pub end_entry : ℕ → ℕ → ℕ → Entry
+end_entry lsn tx prev = entries.Rec lsn (kinds.End (record { tx = tx; prev = prev }))
 
 -- a sound log that isn't empty, with this number above all its transactions
 pub record Begins (opening : List Record) (next : ℕ) : Type 0 where
   pub sound : IsSound opening
   pub some : opening ≢ []
   pub number : next ≡ suc (greatest opening)
-
--- a write of this transaction
-abbrev pub IsWriteBy : ℕ → Record → Type 0
-IsWriteBy tx (kinds.Write w) = w.tx ≡ tx
-IsWriteBy tx (kinds.Apply a) = a.tx ≡ tx
-IsWriteBy tx _ = ⊥
-
--- a write on this page
-abbrev pub IsOnPage : ℕ → Record → Type 0
-IsOnPage page (kinds.Write w) = w.page ≡ page
-IsOnPage page (kinds.Apply a) = a.page ≡ page
-IsOnPage page _ = ⊥
 
 -- whoever has all parts of the ledger of the log disk's faults has counted one
 abbrev pub HasCause : LedgerName → Counted → Type 0

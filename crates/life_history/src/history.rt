@@ -1,28 +1,33 @@
 //! The history, and what it keeps beside the entries.
-ghost use Rattle.std.specs.Prelude.{◌≡◌, ◌⊎◌, ◌+◌, ◌*◌, ◌<◌, ◌≤◌, ◌^◌, List, [], ◌∷◌, ◌++◌, length, true, Some, IfSome, IsSome, OnOk, OnErr, IfOk, IfErr, IsTrue};
+ghost use Rattle.std.specs.Prelude.{◌≡◌, ◌⊎◌, ◌+◌, ◌*◌, ◌<◌, ◌≤◌, ◌^◌, List, [], ◌∷◌, ◌++◌, length, true, Some, None, IfSome, IsSome, OnOk, OnErr, IfOk, IfErr, IsTrue};
+ghost use Rattle.std.specs.List.{list_all, list_any};
 ghost use mathlib.Core.List.{IsPrefix};
 ghost use Rattle.page_ops.specs.Causes.{with_one};
-ghost use Rattle.page_ops.specs.Claims.{MaintAgrees, PageAgrees, SessionAgrees, no_claims, session_alone};
+ghost use Rattle.page_ops.specs.Claims.{Agree, MaintAgrees, PageAgrees, SessionAgrees, no_claims, session_alone};
+ghost use Rattle.page_ops.specs.Groups.{Each, HasSpeaker, group_entries, needs_maintenance};
 ghost use Rattle.page_ops.specs.Outcomes.{IsCrowd, begun};
 ghost use Rattle.page_ops.specs.Seeing.{Enters, HasTotals, IsConsistent, Looks, known, of_sessions};
 ghost use Rattle.store_model.specs.declared.fault.Fault.TheVariants as faults;
+ghost use Rattle.wal_record.specs.Books.{page_book};
+ghost use Rattle.wal_record.specs.Chains.{link_of, names};
 ghost use Rattle.wal_record.specs.History.{Committed, Live, life_log, live_count, phase};
-ghost use Rattle.wal_record.specs.Rules.{is_number};
+ghost use Rattle.wal_record.specs.Rules.{is_number, is_page};
 ghost use Rattle.wal_record.specs.Sound.{IsSound};
 ghost use Rattle.wal_record.specs.declared.entry.Entry.{Entry};
 ghost use Rattle.wal_record.specs.declared.entry.Entry.TheVariants as entries;
 ghost use Rattle.wal_record.specs.declared.record.Record.{Record};
-ghost use Rattle.life_history.specs.Kept.{AreKept, Begins, IsOnPage, IsWriteBy, commit_entry, counted_more, is_calm, is_of, told_entries};
+ghost use Rattle.life_history.specs.Groups.{IsOwn, counted_group, is_covered, is_still, own_entries, raised};
+ghost use Rattle.life_history.specs.Kept.{AreKept, Begins, IsOneOf, IsSmall, commit_entry, counted_more, end_entry};
 
 use crate::counts::Counts;
 use crate::stand::Stand;
 use books::{Books, MaintRight, PageRight, SessionRight};
-use front::{Front, Pass};
+use front::{Added, Front, Pass};
 use page_ops::{Entries, Ground, Life, Made, Rights, Said, SessionEntries};
-use std::marker::Model;
+use std::marker::{Brand, Model};
 use std::sync::ledger;
-use store_model::{Fault, Lsn, Pos, TxId};
-use wal_record::{Commit, Entry, Record};
+use store_model::{Fault, KeyRange, Lsn, Mode, Outcome, PageNo, Pos, Request, TxId};
+use wal_record::{Entry, Record};
 
 /// The bound of the counters, from which on nothing is begun.
 const MOST: u64 = 1 << 62;
@@ -37,24 +42,25 @@ pub struct History<'a, N: Life> {
     next_session: u32,
     next_tx: TxId,
     live: u32,
+    next_page: PageNo,
     stand: Stand<'a, N>,
 }
 
 impl<'a, N: Life> Model for History<'a, N> {
     ghost use Rattle.std.specs.Prelude.{List, IsSome};
     ghost use Rattle.wal_record.specs.declared.entry.Entry.{Entry};
-    ghost use Rattle.life_history.specs.Kept.{IsKept};
+    ghost use Rattle.life_history.specs.Kept.{IsKept, IsSmall};
 
     ghost Value = { List Entry };
 
     ghost view = { λ h. h.stand.front };
 
-    ghost invariant = { λ h. IsSome h.stand.spare × IsKept N.opens h.stand.front (record { entries = h.count; session = h.next_session; tx = h.next_tx; live = h.live }) (record { pages = h.stand.books.pages; sessions = h.stand.books.sessions; maint = h.stand.books.maint }) h.stand.entries.total h.stand.session_entries.total };
+    ghost invariant = { λ h. IsSome h.stand.spare × IsKept N.opens h.stand.front (record { entries = h.count; session = h.next_session; tx = h.next_tx; live = h.live }) (record { pages = h.stand.books.pages; sessions = h.stand.books.sessions; maint = h.stand.books.maint }) h.stand.entries.total h.stand.session_entries.total × IsSmall h.next_page (record { pages = h.stand.books.pages; sessions = h.stand.books.sessions; maint = h.stand.books.maint }) };
 }
 
 impl<'a, N: Life> History<'a, N> {
     /// The empty history of a life that began with a log with this number above all its transactions. The books have the
-    /// rights to the pages, and no session.
+    /// rights to the pages, all of them below the next one, and no session; of maintenance they have the number 0 at most.
     pub fn new(
         ground: &'a Ground<N>,
         front: Front<Entry, N>,
@@ -63,10 +69,12 @@ impl<'a, N: Life> History<'a, N> {
         session_entries: ledger::Book<SessionEntries<N>>,
         made: ledger::Book<Made<N>>,
         next_tx: TxId,
+        next_page: PageNo,
     ) -> History<'a, N>
         requires empty { (front ≡ []) × (entries.total ≡ 0) × (session_entries.total ≡ 0) }
         requires books { AreKept N.opens [] (record { pages = books.pages; sessions = books.sessions; maint = books.maint }) }
         requires sessions { books.sessions ≡ [] }
+        requires small { IsSmall next_page (record { pages = books.pages; sessions = books.sessions; maint = books.maint }) }
         requires number { 1 ≤ next_tx }
         requires opening { (opening : List Record) → N.opens opening → Begins opening next_tx }
         ensures { result ≡ [] }
@@ -77,6 +85,7 @@ impl<'a, N: Life> History<'a, N> {
             next_session: 1,
             next_tx,
             live: 0,
+            next_page,
             stand: Stand {
                 ground,
                 front,
@@ -259,11 +268,7 @@ impl<'a, N: Life> History<'a, N> {
             return Err(Fault::Memory);
         }
         let (tx, ground) = (self.next_tx, self.stand.ground);
-        let entry = Entry::Began {
-            session: s.session(),
-            tx,
-        };
-        self.stand.enter(&entry, s, tx, counts);
+        self.stand.enter::<Brand>(s, tx, counts);
         self.count += 1;
         self.next_tx += 1;
         self.live += 1;
@@ -272,20 +277,18 @@ impl<'a, N: Life> History<'a, N> {
     }
 
     /// Enters an entry of the session that is no record, and by which no transaction begins or ends.
-    pub fn enter_own(
+    fn enter_one<A: Added<Entry>>(
         &mut self,
-        entry: &Entry,
         s: &mut SessionRight<N>,
         pass: &mut Pass<Entry, N>,
         counts: &mut Counts<N>,
     )
-        requires calm { is_calm entry.now ≡ true }
-        requires own { is_of s.old.session s.old.tx entry.now ≡ true }
+        requires own { IsOneOf s.old.session s.old.tx A.entries }
         requires active { 0 < s.old.tx }
         requires few { length self.old < 2 ^ 62 }
         requires agrees { SessionAgrees self.old s.old }
-        requires consistent { IsConsistent N.opens (self.old ++ entry.now ∷ []) }
-        ensures history { self.new ≡ self.old ++ entry.now ∷ [] }
+        requires consistent { IsConsistent N.opens (self.old ++ A.entries) }
+        ensures history { self.new ≡ self.old ++ A.entries }
         ensures live { (live_count self.new ≡ live_count self.old) × (live_count self.old ≤ 64) }
         ensures seen { pass.new.log ≡ self.new }
         ensures durable { pass.old.durable ≤ pass.new.durable }
@@ -295,40 +298,137 @@ impl<'a, N: Life> History<'a, N> {
         ensures counted { of_sessions self.new ≡ of_sessions self.old + 1 }
     {
         let (tx, ground) = (s.tx(), self.stand.ground);
-        self.stand.enter(entry, s, tx, counts);
+        self.stand.enter::<A>(s, tx, counts);
         self.count += 1;
         self.stand.front.meet(&ground.board, pass);
     }
 
-    /// Enters a write of the session's transaction, with its answer. The right to its page has then its LSN.
-    pub fn enter_write(
+    /// Enters that the session's transaction has locked the range. A has this entry.
+    pub fn enter_lock<A: Added<Entry>>(
         &mut self,
-        lsn: Lsn,
-        rec: &Record,
-        said: &Said,
-        page: &mut Option<PageRight<N>>,
+        range: &KeyRange,
+        mode: Mode,
         s: &mut SessionRight<N>,
+        pass: &mut Pass<Entry, N>,
         counts: &mut Counts<N>,
     )
-        requires write { IsWriteBy s.old.tx rec.now }
-        requires speaker { said.now.session ≡ s.old.session }
-        requires there { IsSome page.old }
-        requires page { IfSome page.old (λ p. IsOnPage p.page rec.now) }
-        requires lsn { (opening : List Record) → N.opens opening → lsn ≡ length (life_log opening self.old) + 1 }
-        requires number { IsTrue (is_number lsn) }
+        requires entry { A.entries ≡ entries.Lock s.old.tx range.now mode ∷ [] }
         requires active { 0 < s.old.tx }
         requires few { length self.old < 2 ^ 62 }
         requires agrees { SessionAgrees self.old s.old }
-        requires consistent { IsConsistent N.opens (self.old ++ told_entries lsn rec.now said.now) }
-        ensures history { self.new ≡ self.old ++ told_entries lsn rec.now said.now }
+        requires consistent { IsConsistent N.opens (self.old ++ entries.Lock s.old.tx range.now mode ∷ []) }
+        ensures history { self.new ≡ self.old ++ entries.Lock s.old.tx range.now mode ∷ [] }
         ensures live { (live_count self.new ≡ live_count self.old) × (live_count self.old ≤ 64) }
-        ensures right { s.new ≡ record { session = s.old.session; entries = s.old.entries + 2; tx = s.old.tx } }
-        ensures page { IfSome page.old (λ p. page.new ≡ Some (record { page = p.page; lsn = lsn })) }
-        ensures counts { counts.new ≡ counted_more counts.old 2 }
-        ensures counted { of_sessions self.new ≡ of_sessions self.old + 2 }
+        ensures seen { pass.new.log ≡ self.new }
+        ensures durable { pass.old.durable ≤ pass.new.durable }
+        ensures right { s.new ≡ record { session = s.old.session; entries = s.old.entries + 1; tx = s.old.tx } }
+        ensures agrees { SessionAgrees self.new s.new }
+        ensures counts { counts.new ≡ counted_more counts.old 1 }
+        ensures counted { of_sessions self.new ≡ of_sessions self.old + 1 }
     {
-        self.stand.enter_told(lsn, rec, said, page, s, counts);
-        self.count += 2;
+        self.enter_one::<A>(s, pass, counts);
+    }
+
+    /// Enters that the lock of the range was refused to the session's transaction, for this holder's. A has this entry.
+    pub fn enter_refused<A: Added<Entry>>(
+        &mut self,
+        range: &KeyRange,
+        mode: Mode,
+        holder: TxId,
+        s: &mut SessionRight<N>,
+        pass: &mut Pass<Entry, N>,
+        counts: &mut Counts<N>,
+    )
+        requires entry { A.entries ≡ entries.Refused s.old.tx range.now mode holder ∷ [] }
+        requires active { 0 < s.old.tx }
+        requires few { length self.old < 2 ^ 62 }
+        requires agrees { SessionAgrees self.old s.old }
+        requires consistent { IsConsistent N.opens (self.old ++ entries.Refused s.old.tx range.now mode holder ∷ []) }
+        ensures history { self.new ≡ self.old ++ entries.Refused s.old.tx range.now mode holder ∷ [] }
+        ensures live { (live_count self.new ≡ live_count self.old) × (live_count self.old ≤ 64) }
+        ensures seen { pass.new.log ≡ self.new }
+        ensures durable { pass.old.durable ≤ pass.new.durable }
+        ensures right { s.new ≡ record { session = s.old.session; entries = s.old.entries + 1; tx = s.old.tx } }
+        ensures agrees { SessionAgrees self.new s.new }
+        ensures counts { counts.new ≡ counted_more counts.old 1 }
+        ensures counted { of_sessions self.new ≡ of_sessions self.old + 1 }
+    {
+        self.enter_one::<A>(s, pass, counts);
+    }
+
+    /// Enters that a request of the session's transaction is declined. A has this entry.
+    pub fn enter_declined<A: Added<Entry>>(
+        &mut self,
+        request: &Request,
+        why: &Outcome,
+        s: &mut SessionRight<N>,
+        pass: &mut Pass<Entry, N>,
+        counts: &mut Counts<N>,
+    )
+        requires entry { A.entries ≡ entries.Declined s.old.session s.old.tx request.now why.now ∷ [] }
+        requires active { 0 < s.old.tx }
+        requires few { length self.old < 2 ^ 62 }
+        requires agrees { SessionAgrees self.old s.old }
+        requires consistent { IsConsistent N.opens (self.old ++ entries.Declined s.old.session s.old.tx request.now why.now ∷ []) }
+        ensures history { self.new ≡ self.old ++ entries.Declined s.old.session s.old.tx request.now why.now ∷ [] }
+        ensures live { (live_count self.new ≡ live_count self.old) × (live_count self.old ≤ 64) }
+        ensures seen { pass.new.log ≡ self.new }
+        ensures durable { pass.old.durable ≤ pass.new.durable }
+        ensures right { s.new ≡ record { session = s.old.session; entries = s.old.entries + 1; tx = s.old.tx } }
+        ensures agrees { SessionAgrees self.new s.new }
+        ensures counts { counts.new ≡ counted_more counts.old 1 }
+        ensures counted { of_sessions self.new ≡ of_sessions self.old + 1 }
+    {
+        self.enter_one::<A>(s, pass, counts);
+    }
+
+    /// The right to a page that has no entry in the book yet. None where it may have one.
+    pub fn open_page(&mut self, page: PageNo) -> Option<PageRight<N>>
+        requires number { IsTrue (is_page page) }
+        requires fresh { (opening : List Record) → N.opens opening → page_book opening self.old page ≡ 0 }
+        ensures same { self.new ≡ self.old }
+        ensures right { IfSome result (λ p. p ≡ record { page = page; lsn = 0 }) }
+    {
+        if page < self.next_page {
+            return None;
+        }
+        self.next_page = page + 1;
+        let table = &self.stand.ground.tables.pages;
+        Some(PageRight::of(self.stand.books.pages.open(table, page)))
+    }
+
+    /// Enters a group: records from this LSN on by which no transaction ends, and the answer of a request. `new` is the
+    /// right to the page that they make, where they make one. All rights are raised.
+    pub fn enter_group(
+        &mut self,
+        lsn: Lsn,
+        recs: &[Record],
+        said: &Option<Said>,
+        new: Option<PageRight<N>>,
+        rights: &mut Rights<N>,
+        counts: &mut Counts<N>,
+    )
+        requires few { length recs.now ≤ 2 }
+        requires still { IsTrue (list_all is_still recs.now) }
+        requires own { Each (λ r. IsOwn rights.old.s (link_of r)) recs.now }
+        requires speaker { HasSpeaker rights.old.s said.now }
+        requires covered { IsTrue (list_all (is_covered rights.old new) recs.now) }
+        requires maintained { list_any needs_maintenance recs.now ≡ true → IsSome rights.old.m }
+        requires place { IsSome new → rights.old.c ≡ None }
+        requires named { IfSome new (λ p. IsTrue (is_page p.page) × (list_any (names p.page) recs.now ≡ true)) }
+        requires lsn { (opening : List Record) → N.opens opening → lsn ≡ length (life_log opening self.old) + 1 }
+        requires numbers { (1 ≤ lsn) × (lsn ≤ 2 ^ 62) }
+        requires low { length self.old < 2 ^ 62 }
+        requires agrees { Agree N.opens self.old rights.old }
+        requires fresh { IfSome new (PageAgrees N.opens self.old) }
+        requires consistent { IsConsistent N.opens (self.old ++ group_entries lsn recs.now said.now) }
+        ensures history { self.new ≡ self.old ++ group_entries lsn recs.now said.now }
+        ensures live { (live_count self.new ≡ live_count self.old) × (live_count self.old ≤ 64) }
+        ensures rights { rights.new ≡ raised rights.old new lsn recs.now said.now }
+        ensures counts { counts.new ≡ counted_group counts.old (length (group_entries lsn recs.now said.now)) (own_entries recs.now said.now) }
+        ensures counted { of_sessions self.new ≡ of_sessions self.old + own_entries recs.now said.now }
+    {
+        self.count += self.stand.enter_group(lsn, recs, said, new, rights, counts);
     }
 
     /// Enters the commit of the session's transaction, as the record with this LSN.
@@ -352,11 +452,30 @@ impl<'a, N: Life> History<'a, N> {
         ensures counted { of_sessions self.new ≡ of_sessions self.old + 1 }
     {
         let tx = s.tx();
-        let entry = Entry::Rec {
-            lsn,
-            rec: Record::Commit(Commit { tx, prev }),
-        };
-        self.stand.enter(&entry, s, tx, counts);
+        self.stand.enter_record::<Brand>(lsn, prev, s, tx, counts);
+        self.count += 1;
+        self.live -= 1;
+    }
+
+    /// Enters the end of the session's transaction, as the record with this LSN. The session has then no transaction.
+    pub fn enter_end(
+        &mut self,
+        lsn: Lsn,
+        prev: Lsn,
+        s: &mut SessionRight<N>,
+        counts: &mut Counts<N>,
+    )
+        requires active { 0 < s.old.tx }
+        requires live { phase self.old s.old.tx ≡ Live }
+        requires agrees { SessionAgrees self.old s.old }
+        requires consistent { IsConsistent N.opens (self.old ++ end_entry lsn s.old.tx prev ∷ []) }
+        ensures history { self.new ≡ self.old ++ end_entry lsn s.old.tx prev ∷ [] }
+        ensures live { live_count self.new + 1 ≡ live_count self.old }
+        ensures right { s.new ≡ record { session = s.old.session; entries = s.old.entries + 1; tx = 0 } }
+        ensures counts { counts.new ≡ counted_more counts.old 1 }
+        ensures counted { of_sessions self.new ≡ of_sessions self.old + 1 }
+    {
+        self.stand.enter_record::<Brand>(lsn, prev, s, 0, counts);
         self.count += 1;
         self.live -= 1;
     }
@@ -375,9 +494,7 @@ impl<'a, N: Life> History<'a, N> {
         ensures counts { counts.new ≡ counted_more counts.old 1 }
         ensures counted { of_sessions self.new ≡ of_sessions self.old + 1 }
     {
-        let (session, tx) = (s.session(), s.tx());
-        self.stand
-            .enter(&Entry::Acked { session, tx }, s, 0, counts);
+        self.stand.enter::<Brand>(s, 0, counts);
         self.count += 1;
     }
 

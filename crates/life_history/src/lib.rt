@@ -10,8 +10,10 @@
 //!
 //! 1. [`History::see`] and its kin show a pass the whole history; the rights agree with it.
 //! 2. [`History::session`] gives a session that nobody has yet, and [`History::begin`] the next transaction.
-//! 3. [`History::enter_own`] adds an entry of a session that is no record and moves no transaction: a lock, a refusal, an
-//!    answer. [`History::enter_write`] adds a write and its answer, in one step.
+//! 3. [`History::enter_lock`], [`History::enter_refused`] and [`History::enter_declined`] add an entry of a session that is
+//!    no record and moves no transaction. [`History::enter_group`] adds the records of a group and its answer, in one
+//!    step: all rights are raised with them, and the right to a new page, which [`History::open_page`] gave, comes into its
+//!    place.
 //! 4. [`History::enter_commit`] adds a transaction's commit, and [`History::acknowledge`] that it is acknowledged, with
 //!    which its session has no transaction any more. The room for both was made as it began.
 //!
@@ -20,7 +22,9 @@
 
 mod counts;
 mod history;
+mod raising;
 mod stand;
 
 pub use counts::Counts;
 pub use history::History;
+pub use raising::{head_after, names};

@@ -1,6 +1,6 @@
 -- A record more, and a flush: the log and its listing are of the longer list, or of the same one.
-use Rattle.std.proofs.Common.{◌≡◌, ℕ, suc, ◌+◌, List, [], ◌∷◌, ◌++◌, length, Option, Some, None, Bool, true, false, refl, sym, ap, ◌∙◌, subst, arith, append_assoc, append-nil, length-append, inl, inr}
-use Rattle.std.specs.Prelude.{◌⊎◌, ◌||◌, Result, Ok, Err, OnOk, IfErr}
+use Rattle.std.proofs.Common.{◌≡◌, ℕ, ◌+◌, List, [], ◌∷◌, ◌++◌, length, None, Bool, true, false, refl, sym, ap, ◌∙◌, subst, arith, append_assoc, append-nil, length-append, inl, inr, get_or}
+use Rattle.std.specs.Prelude.{◌<◌, ◌≤◌, ◌^◌, ◌⊎◌, ◌||◌, Result, Ok, Err, OnOk, IfErr}
 use Rattle.std.specs.List.{list_any}
 use Rattle.std.proofs.lemmas.List.Folds.{list_any-append}
 use Rattle.media.specs.Kept.{Kept}
@@ -17,6 +17,7 @@ use Rattle.wal_record.specs.Chains.{finishes, last}
 use Rattle.wal_record.specs.Checkpoints.{last_checkpoint}
 use Rattle.wal_record.specs.Sound.{AreLawful}
 use Rattle.wal_record.specs.declared.record.Record.{Record}
+use Rattle.wal_record.proofs.Pushes.{lawful_front}
 use Rattle.listed_log.specs.Listed.{HoldsEnd, IsLogWith}
 
 neither : (a b : Bool) → (a || (b || false)) ≡ false → (a ≡ false) × (b ≡ false)
@@ -24,11 +25,40 @@ neither true b e = absurd (cc e)
 neither false true e = absurd (cc e)
 neither false false e = (refl, refl)
 
-noted_on : (rs : List Record) (r : Record) (lsn : ℕ) (s s' : Listing) → ((t : ℕ) → list_any (finishes t) rs ≡ false → noted s t ≡ last rs t) → ((q : ℕ) → noted s' q ≡ noted_step lsn q (noted s q) r) → lsn ≡ length rs + 1
+pub noted_on : (rs : List Record) (r : Record) (lsn : ℕ) (s s' : Listing) → ((t : ℕ) → list_any (finishes t) rs ≡ false → noted s t ≡ last rs t) → ((q : ℕ) → noted s' q ≡ noted_step lsn q (noted s q) r) → lsn ≡ length rs + 1
     → (t : ℕ) → list_any (finishes t) (rs ++ r ∷ []) ≡ false → noted s' t ≡ last (rs ++ r ∷ []) t
 noted_on rs r lsn s s' before step place t none =
     let both = neither (list_any (finishes t) rs) (finishes t r) (sym (list_any-append (finishes t) rs (r ∷ [])) ∙ none) in
     step t ∙ ap (λ (l : ℕ). noted_step l t (noted s t) r) place ∙ (noted_kept rs r t).kept both.1 (noted s t) (before t both.0)
+
+-- the items of a short list
+pub one_item : {A : Type 0} (xs : List A) (x : A) → 1 ≤ length xs → length xs < 2 → x ≡ get_or xs 0 x → xs ≡ x ∷ []
+one_item [] x least most is = absurd (omega (arith, least))
+one_item (a ∷ []) x least most is = ap (λ y. y ∷ []) (sym is)
+one_item (a ∷ b ∷ xs) x least most is = absurd (omega (arith, most))
+
+pub two_items : {A : Type 0} (xs : List A) (x y : A) → 2 ≤ length xs → length xs < 3 → x ≡ get_or xs 0 x → y ≡ get_or xs 1 y → xs ≡ x ∷ y ∷ []
+two_items [] x y least most is is2 = absurd (omega (arith, least))
+two_items (a ∷ []) x y least most is is2 = absurd (omega (arith, least))
+two_items (a ∷ b ∷ []) x y least most is is2 = λ i. sym is i ∷ sym is2 i ∷ []
+two_items (a ∷ b ∷ d ∷ xs) x y least most is is2 = absurd (omega (arith, most))
+
+-- two records, one behind the other
+pub noted_two : (rs : List Record) (r q : Record) (lsn next : ℕ) (s s1 s2 : Listing) → ((t : ℕ) → list_any (finishes t) rs ≡ false → noted s t ≡ last rs t) → ((n : ℕ) → noted s1 n ≡ noted_step lsn n (noted s n) r) → ((n : ℕ) → noted s2 n ≡ noted_step next n (noted s1 n) q)
+    → lsn ≡ length rs + 1 → next ≡ lsn + 1 → (t : ℕ) → list_any (finishes t) (rs ++ r ∷ q ∷ []) ≡ false → noted s2 t ≡ last (rs ++ r ∷ q ∷ []) t
+noted_two rs r q lsn next s s1 s2 before one two place above t none =
+    let both : rs ++ r ∷ q ∷ [] ≡ (rs ++ r ∷ []) ++ q ∷ [] = sym (append_assoc rs (r ∷ []) (q ∷ [])) in
+    noted_on (rs ++ r ∷ []) q next s1 s2 (noted_on rs r lsn s s1 before one place) two (omega (arith, place, above, length-append rs (r ∷ []))) t (ap (list_any (finishes t)) (sym both) ∙ none) ∙ ap (λ l. last l t) (sym both)
+
+pub listed_two : (rs : List Record) (r q : Record) (lsn next : ℕ) (s s1 s2 : Listing) → AreLawful (rs ++ r ∷ q ∷ []) → lsn ≡ length rs + 1 → next ≡ lsn + 1 → length rs < 2 ^ 62 → IsListingOf rs s
+    → (IsListingOf rs s → AreLawful (rs ++ r ∷ []) → lsn ≡ length rs + 1 → length rs < 2 ^ 63 → IsListingOf (rs ++ r ∷ []) s1)
+    → (IsListingOf (rs ++ r ∷ []) s1 → AreLawful ((rs ++ r ∷ []) ++ q ∷ []) → next ≡ length (rs ++ r ∷ []) + 1 → length (rs ++ r ∷ []) < 2 ^ 63 → IsListingOf ((rs ++ r ∷ []) ++ q ∷ []) s2) → IsListingOf (rs ++ r ∷ q ∷ []) s2
+listed_two rs r q lsn next s s1 s2 lawful place above low k one two =
+    let both : rs ++ r ∷ q ∷ [] ≡ (rs ++ r ∷ []) ++ q ∷ [] = sym (append_assoc rs (r ∷ []) (q ∷ [])) in
+    let whole = subst AreLawful both lawful in
+    let longer = length-append rs (r ∷ []) in
+    let first = one k (lawful_front (rs ++ r ∷ []) q whole).0 place (omega (arith, low)) in
+    subst (λ (l : List Record). IsListingOf l s2) (sym both) (two first whole (omega (arith, place, above, longer)) (omega (arith, low, longer)))
 
 module _ {D : Type 0} (tells : Type 0) (told : D → Kept) (may_leave : D → Kept → Type 0) (rs : List Record) (m : Managed D) where
   -- what is made ready changes neither
@@ -38,22 +68,22 @@ module _ {D : Type 0} (tells : Type 0) (told : D → Kept) (may_leave : D → Ke
   place_is : (s : Listing) (lsn : ℕ) → IsLogWith tells told may_leave rs m s → lsn ≡ m.log.next → lsn ≡ length rs + 1
   place_is s lsn k is = let n = k.next in omega (arith, is, n)
 
-  pub added : (r : Record) (recs : List Record) (lsn : ℕ) (m' : Managed D) (s s' : Listing) → recs ≡ r ∷ [] → IsLogWith tells told may_leave rs m s → AreLawful (rs ++ r ∷ []) → lsn ≡ m.log.next
-      → (lsn ≡ length rs + 1 → IsListingOf (rs ++ r ∷ []) s') → ((q : ℕ) → noted s' q ≡ noted_step lsn q (noted s q) r) → HasMore recs m.log m'.log
+  -- records more, which the listing has noted
+  pub added : (recs : List Record) (lsn : ℕ) (m' : Managed D) (s s' : Listing) → IsLogWith tells told may_leave rs m s → AreLawful (rs ++ recs) → lsn ≡ m.log.next
+      → (lsn ≡ length rs + 1 → IsListingOf (rs ++ recs) s') → (lsn ≡ length rs + 1 → (t : ℕ) → list_any (finishes t) (rs ++ recs) ≡ false → noted s' t ≡ last (rs ++ recs) t) → HasMore recs m.log m'.log
       → (tells → (before : ℕ) (stable waiting : List Record) → IsLogOf told may_leave m.log before stable waiting → IsLogOf told may_leave m'.log before stable (waiting ++ recs))
-      → IsLogWith tells told may_leave (rs ++ r ∷ []) m' s'
-  added r recs lsn m' s s' is k lawful at listing step more blocks =
+      → IsLogWith tells told may_leave (rs ++ recs) m' s'
+  added recs lsn m' s s' k lawful at listing step more blocks =
       let place = place_is s lsn k at in
       let same : m'.log.ended ≡ m.log.ended = ap (λ (l : LogState D). l.ended) more.is in
       record {
         lawful = lawful;
         listing = listing place;
-        noted = noted_on rs r lsn s s' k.noted step place;
+        noted = step place;
         next =
             let one : m'.log.next ≡ m.log.next + length recs = ap (λ (l : LogState D). l.next) more.is in
-            let few : length recs ≡ 1 = ap (λ (l : List Record). length l) is in
             let n = k.next in
-            omega (arith, one, few, n, length-append rs (r ∷ []));
+            omega (arith, one, n, length-append rs recs);
         records = λ t runs.
             let old = k.records t (sym same ∙ runs) in
             record {
@@ -61,12 +91,17 @@ module _ {D : Type 0} (tells : Type 0) (told : D → Kept) (may_leave : D → Ke
               stable = old.stable;
               waiting = old.waiting ++ recs;
               is =
-                  ap (λ (l : List Record). l ++ r ∷ []) old.is ∙ append_assoc old.forgotten (old.stable ++ old.waiting) (r ∷ [])
-                  ∙ ap (λ (l : List Record). old.forgotten ++ l) (append_assoc old.stable old.waiting (r ∷ []))
-                  ∙ ap (λ (l : List Record). old.forgotten ++ (old.stable ++ (old.waiting ++ l))) (sym is);
+                  ap (λ (l : List Record). l ++ recs) old.is ∙ append_assoc old.forgotten (old.stable ++ old.waiting) recs
+                  ∙ ap (λ (l : List Record). old.forgotten ++ l) (append_assoc old.stable old.waiting recs);
               blocks = blocks t (last_checkpoint old.forgotten) old.stable old.waiting old.blocks;
             };
       }
+
+  pub added_one : (r : Record) (lsn : ℕ) (m' : Managed D) (s s' : Listing) → IsLogWith tells told may_leave rs m s → AreLawful (rs ++ r ∷ []) → lsn ≡ m.log.next
+      → (lsn ≡ length rs + 1 → IsListingOf (rs ++ r ∷ []) s') → ((q : ℕ) → noted s' q ≡ noted_step lsn q (noted s q) r) → HasMore (r ∷ []) m.log m'.log
+      → (tells → (before : ℕ) (stable waiting : List Record) → IsLogOf told may_leave m.log before stable waiting → IsLogOf told may_leave m'.log before stable (waiting ++ r ∷ []))
+      → IsLogWith tells told may_leave (rs ++ r ∷ []) m' s'
+  added_one r lsn m' s s' k lawful at listing step more blocks = added (r ∷ []) lsn m' s s' k lawful at listing (λ place. noted_on rs r lsn s s' k.noted step place) more blocks
 
   kept_blocks : (m' : Managed D) → m' ≡ m → HoldsEnd told may_leave m.log rs → HoldsEnd told may_leave m'.log rs
   kept_blocks m' same old = subst (λ (x : Managed D). HoldsEnd told may_leave x.log rs) (sym same) old

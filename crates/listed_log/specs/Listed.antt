@@ -1,13 +1,14 @@
 -- A log and its listing, and of which records they are.
-use Rattle.std.specs.Prelude.{◌≡◌, ℕ, suc, List, ◌++◌, length, None, false}
+use Rattle.std.specs.Prelude.{◌≡◌, ℕ, suc, List, [], ◌∷◌, ◌++◌, length, None, false}
 use Rattle.std.specs.List.{list_any}
 use Rattle.media.specs.Kept.{Kept}
 use Rattle.log_blocks.specs.LogState.{LogState}
-use Rattle.log_index.specs.Listing.{IsListingOf, noted}
+use Rattle.log_index.specs.Listing.{IsListingOf, IsReady, noted}
+use Rattle.log_index.specs.Ready.{is_upkeep, makes_page}
 use Rattle.log_index.specs.declared.listing.Listing.{Listing}
 use Rattle.log_manager.specs.Managed.{Managed}
 use Rattle.log_manager.specs.Records.{IsLogOf}
-use Rattle.wal_record.specs.Chains.{finishes, last}
+use Rattle.wal_record.specs.Chains.{finishes, last, link_of}
 use Rattle.wal_record.specs.Checkpoints.{last_checkpoint}
 use Rattle.wal_record.specs.Sound.{AreLawful}
 use Rattle.wal_record.specs.declared.record.Record.{Record}
@@ -29,3 +30,17 @@ pub record IsLogWith {D : Type 0} (tells : Type 0) (told : D → Kept) (may_leav
   pub noted : (t : ℕ) → list_any (finishes t) rs ≡ false → noted s t ≡ last rs t
   pub next : m.log.next ≡ suc (length rs)
   pub records : tells → m.log.ended ≡ None → HoldsEnd told may_leave m.log rs
+
+-- two records may stand together: the first names no transaction, only it may make a page, and neither changes segments or
+-- runs as a whole. So what was made ready for the second stays so as the first is noted.
+abbrev pub Joins : List Record → Type 0
+Joins [] = Unit {0}
+Joins (r ∷ []) = Unit {0}
+Joins (r ∷ q ∷ []) = (link_of r ≡ None) × (is_upkeep r ≡ false) × (makes_page q ≡ false) × (is_upkeep q ≡ false)
+Joins _ = ⊥
+
+-- what they need stands ready
+abbrev pub AreReady : List Record → Listing → Type 0
+AreReady (r ∷ []) s = IsReady r s
+AreReady (r ∷ q ∷ []) s = IsReady r s × IsReady q s
+AreReady _ s = Unit {0}

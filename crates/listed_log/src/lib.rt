@@ -7,7 +7,7 @@
 //! Contracts see both side by side. `IsLogWith` of `specs/Listed` says of which records they are: the listing is
 //! theirs, and the blocks have the last of them, stable ones and waiting ones. What is promised:
 //!
-//! 1. [`ListedLog::append`] adds one record, or two that stand together, all in one block. Of a lawful log, it is then the
+//! 1. [`ListedLog::append_group`] adds one record, or two that stand together, all in one block. Of a lawful log, it is then the
 //!    longer log with its listing. After a refusal both are of the same records as before.
 //! 2. [`ListedLog::commit`] adds a Commit without memory, where [`ListedLog::reserve_commit`] made room.
 //! 3. [`ListedLog::flush_to`] makes the log durable up to an LSN. The records stay the same, also where it fails.
@@ -15,5 +15,6 @@
 #![tactic(auto)]
 
 mod listed_log;
+mod noting;
 
 pub use listed_log::ListedLog;

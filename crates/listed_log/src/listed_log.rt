@@ -11,14 +11,14 @@ ghost use Rattle.wal_record.specs.Rules.{HasSpelling};
 ghost use Rattle.wal_record.specs.Sound.{AreLawful};
 ghost use Rattle.wal_record.specs.declared.record.Record.{Record};
 ghost use Rattle.wal_record.specs.declared.record.Record.TheVariants as kinds;
-ghost use Rattle.listed_log.specs.Listed.{HoldsEnd, IsLogWith};
+ghost use Rattle.listed_log.specs.Listed.{HoldsEnd, IsLogWith, Joins};
 
+use crate::noting::{note_all, prepare_all};
 use log_blocks::MOST_BYTES;
 use log_index::Listing;
 use log_manager::LogManager;
 use media::Disk;
 use std::alloc::Global;
-use std::slice;
 use store_model::{Fault, Lsn, Memory, TxId};
 use wal_record::{Commit, Record};
 
@@ -82,13 +82,15 @@ impl<L: Disk> ListedLog<L> {
         self.log.spare()
     }
 
-    /// Adds a record at the end. Gives its LSN.
-    pub fn append(&mut self, alloc: Global, rec: &Record) -> Result<Lsn, Fault>
-        requires spelled { HasSpelling rec.now }
-        requires size { length (bytes_of (rec.now ∷ [])) ≤ MOST_BYTES }
+    /// Adds one record or two at the end, all in one block. Gives the LSN of the first.
+    pub fn append_group(&mut self, alloc: Global, recs: &[Record]) -> Result<Lsn, Fault>
+        requires few { 1 ≤ length recs.now }
+        requires joins { Joins recs.now }
+        requires spelled { All HasSpelling recs.now }
+        requires size { length (bytes_of recs.now) ≤ MOST_BYTES }
         ensures lsn { IfOk result (λ lsn. lsn ≡ self.old.log.log.next) }
-        ensures more { (rs : List Record) → IsLogWith L.tells L.told L.may_leave rs self.old.log self.old.listing → AreLawful (rs ++ rec.now ∷ []) → length rs < 2 ^ 63
-            → OnOk result (IsLogWith L.tells L.told L.may_leave (rs ++ rec.now ∷ []) self.new.log self.new.listing) }
+        ensures more { (rs : List Record) → IsLogWith L.tells L.told L.may_leave rs self.old.log self.old.listing → AreLawful (rs ++ recs.now) → length rs < 2 ^ 62
+            → OnOk result (IsLogWith L.tells L.told L.may_leave (rs ++ recs.now) self.new.log self.new.listing) }
         ensures same { (rs : List Record) → IsLogWith L.tells L.told L.may_leave rs self.old.log self.old.listing → OnErr result (IsLogWith L.tells L.told L.may_leave rs self.new.log self.new.listing) }
         ensures spare { self.new.log.spare ≡ self.old.log.spare }
         ensures disk { (self.new.log.log.device ≡ self.old.log.log.device) × (self.new.log.log.places ≡ self.old.log.log.places) × (self.new.log.log.ended ≡ self.old.log.log.ended) }
@@ -97,9 +99,9 @@ impl<L: Disk> ListedLog<L> {
         if let Some(at) = self.log.ended() {
             return Err(Fault::Ended { at });
         }
-        self.listing.prepare(rec)?;
-        let lsn = self.log.append_group(alloc, slice::from_ref(rec))?;
-        self.listing.note(lsn, rec);
+        prepare_all(&mut self.listing, recs)?;
+        let lsn = self.log.append_group(alloc, recs)?;
+        note_all(&mut self.listing, lsn, recs);
         Ok(lsn)
     }
 

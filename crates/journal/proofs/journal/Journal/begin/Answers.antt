@@ -1,4 +1,4 @@
-use Rattle.std.proofs.Common.{sym, ap, ◌∙◌, refl, subst}
+use Rattle.std.proofs.Common.{sym, ap, refl, subst}
 use Rattle.page_ops.specs.Seeing.{Account}
 use Rattle.journal.specs.Ends.{IsStopped}
 use Rattle.journal.proofs.Ending.{stopped_ends}

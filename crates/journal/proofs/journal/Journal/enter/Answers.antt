@@ -1,7 +1,5 @@
-use Rattle.std.proofs.Common.{refl, sym, ap, ◌∙◌}
+use Rattle.std.proofs.Common.{refl, sym, ◌∙◌}
 use Rattle.std.proofs.lemmas.Result.{err_from_is_err_and}
-use Rattle.life_history.specs.Kept.{counted_more}
-use Rattle.page_ops.specs.Seeing.{Account}
 use Rattle.journal.proofs.Declining.{declined_group, full_of}
 use Rattle.journal.proofs.Ending.{told_stops, stopped_ends}
 use Rattle.journal.proofs.Entering.{entered_group, filled_in}
@@ -30,10 +28,9 @@ returns-then-not-has_room-clause-full g c =
 pub returns-in-Ok-clause-entered : goal.returns-in-Ok-clause-entered
 returns-in-Ok-clause-entered g c =
     let see = c.see.ensures in
-    let done = c.in-Ok.ensures in
     let again = c.see-in-Ok.ensures in
-    entered_group _ _ _ _ _ _ _ _ _ _ _ _ _ _ _ _ _ _ _ see.seen see.counts see.rights (see.pass ∙ sym see.same) done.entered (done.counts ∙ ap (λ (a : Account). counted_more a 2) c.in_ok-check_open.ensures.open.1) done.counted again.seen again.counts (again.pass ∙ c.self-2.view_is)
+    entered_group _ _ _ _ _ _ _ _ _ _ _ _ _ _ _ _ _ _ _ _ see.seen see.counts c.in_ok-check_open.ensures.open.1 see.rights (see.pass ∙ sym see.same) c.in-Ok.ensures.entered again.seen again.counts (again.pass ∙ c.self-2.view_is)
     (c.if-not-has_room.ensures.room refl)
 
 pub returns-in-Ok-clause-filled : goal.returns-in-Ok-clause-filled
-returns-in-Ok-clause-filled g c = filled_in _ _ _ _ _ _ _ _ c.in-Ok.ensures.entered c.see.ensures.rights c.see-in-Ok.ensures.rights
+returns-in-Ok-clause-filled g c = filled_in _ _ _ _ _ _ _ _ _ _ c.in-Ok.ensures.entered c.see.ensures.rights c.see-in-Ok.ensures.rights

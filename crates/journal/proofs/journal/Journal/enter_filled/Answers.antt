@@ -1,22 +1,38 @@
-use Rattle.std.proofs.Common.{List, ◌++◌, ◌∷◌, [], refl, sym, subst, arith}
+use Rattle.std.proofs.Common.{List, Option, ◌++◌, refl, sym, subst, arith}
+use Rattle.std.specs.Prelude.{IfSome}
+use Rattle.books.specs.Rights.{PageClaim}
+use Rattle.page_ops.specs.Claims.{PageAgrees}
 use Rattle.wal_record.specs.History.{life_log}
 use Rattle.wal_record.specs.Sound.{AreLawful}
 use Rattle.wal_record.specs.declared.entry.Entry.{Entry}
-use Rattle.journal.specs.Puts.{IsNext}
-use Rattle.journal.proofs.Living.{kept_write}
-use Rattle.journal.proofs.Writing.{next_of}
+use Rattle.journal.specs.Groups.{IsNext}
+use Rattle.journal.proofs.Living.{kept_group, kept_refused}
+use Rattle.journal.proofs.Grouping.{next_of, page_agrees}
 use Rattle.journal.proofs.journal.Journal.enter_filled.Goals as goal
+
+pub enter_group-requires-clause-fresh : goal.enter_group-requires-clause-fresh
+enter_group-requires-clause-fresh g c =
+    subst (λ (z : List Entry × Option PageClaim). IfSome z.1 (PageAgrees g.N.Life.opens z.0)) (λ i. (sym c.self.view_is i, sym c.take.ensures.value i)) (page_agrees g.N.Life.opens c.args.self.now c.requires.consistent c.args.new.now c.requires.page)
 
 pub invariant_of-self : goal.invariant_of-self
 invariant_of-self g c =
-    let k = c.self.invariant.1 in
-    let done = c.in-Ok.ensures in
-    let next = next_of g.N.Life.opens g.L.Disk.tells g.L.Disk.told g.L.Disk.may_leave c.self.inside.history c.self.inside.log.log c.self.inside.log.listing _ _ k.life.records c.last-last.ensures.next (omega (arith, c.if-last-ge-MOST.false)) done.lsn in
-    let follows = c.requires.follows c.in-Ok.lsn (subst (λ (h : List Entry). IsNext g.N.Life.opens h c.in-Ok.lsn) c.self.view_is next) in (
+    let done = c.append_all.ensures in (
       c.self.invariant.0,
-      kept_write _ _ _ _ _ _ c.self.inside.log.log c.append.new.self.log c.self.inside.log.listing c.append.new.self.listing c.self.inside.locks c.self.inside.locks _ c.self.inside.faults.total c.self.inside.faults.total k refl c.args.s.now.tx c.in-Ok.lsn c.args.filled.now c.args.said.now c.enter_write.ensures.history c.requires.write done.disk.2 done.disk.1 done.spare c.enter_write.ensures.live next
+      kept_refused _ _ _ _ _ _ c.self.inside.log.log c.append_all.new.log.log c.self.inside.log.listing c.append_all.new.log.listing c.self.inside.locks c.self.inside.locks _ c.self.inside.faults.total c.self.inside.faults.total c.self.invariant.1 refl refl done.spare done.disk.0 done.disk.1
+          (λ opening stands. c.in_err-lsn.ensures.same _ (c.self.invariant.1.life.records opening stands)),
+    )
+
+pub invariant_of-self-2 : goal.invariant_of-self-2
+invariant_of-self-2 g c =
+    let k = c.self.invariant.1 in
+    let done = c.in_ok-lsn.ensures in
+    let lsn = c.in_ok-lsn.lsn in
+    let next = next_of g.N.Life.opens g.L.Disk.tells g.L.Disk.told g.L.Disk.may_leave c.self.inside.history c.self.inside.log.log c.self.inside.log.listing _ _ k.life.records c.last-last.ensures.next (omega (arith, c.if-last-ge-MOST.false)) done.lsn in
+    let follows = c.requires.follows lsn (subst (λ (h : List Entry). IsNext g.N.Life.opens h lsn) c.self.view_is next) in (
+      c.self.invariant.0,
+      kept_group _ _ _ _ _ _ c.self.inside.log.log _ c.self.inside.log.listing _ c.self.inside.locks c.self.inside.locks _ c.self.inside.faults.total c.self.inside.faults.total k refl lsn c.args.recs.now c.args.said.now c.enter_group.ensures.history (c.is_fit.ensures c.if-not-is_fit.false).still c.requires.few done.disk.1 done.disk.0 done.spare c.enter_group.ensures.live next
           (λ opening stands.
           let at = next opening stands in
           done.more (life_log opening c.self.inside.history) (k.life.records opening stands)
-          (subst (λ (h : List Entry). AreLawful (life_log opening h ++ c.args.filled.now ∷ [])) (sym c.self.view_is) (follows.lawful opening stands)) (omega (arith, at.0, at.1))),
+          (subst (λ (h : List Entry). AreLawful (life_log opening h ++ c.args.recs.now)) (sym c.self.view_is) (follows.lawful opening stands)) (omega (arith, at.0, at.1))),
     )

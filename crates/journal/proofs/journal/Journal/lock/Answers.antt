@@ -6,8 +6,7 @@ use Rattle.range_lock.specs.Held as table
 use Rattle.range_lock.specs.Lock.{Lock, conflict}
 use Rattle.range_lock.specs.Nearest.{IsFirstInConflict}
 use Rattle.range_lock.specs.declared.rival.Rival.{Rival}
-use Rattle.store_model.specs.Range.{Interval}
-use Rattle.wal_record.specs.History.{Live, phase, live_count}
+use Rattle.wal_record.specs.History.{live_count}
 use Rattle.wal_record.specs.Legal.{held}
 use Rattle.wal_record.specs.Locks.{locks}
 use Rattle.wal_record.specs.declared.entry.Entry.{Entry}
@@ -24,31 +23,29 @@ returns-in_err-check_open-clause-ends g c =
     let p = err_from_is_err_and c.from_residual.result c.from_residual.ensures.1 in
     rw (p.1, p.2) (stopped_ends _ g.N.Life.log_faults _ _ _ _ _ _ c.watch_session.ensures.counts (told_stops g.N.Life.log_faults _ _ _ c.in_err-check_open.ensures.ended))
 
-pub enter_own-requires-clause-consistent : goal.enter_own-requires-clause-consistent
-enter_own-requires-clause-consistent g c =
+pub enter_lock-requires-clause-consistent : goal.enter_lock-requires-clause-consistent
+enter_lock-requires-clause-consistent g c =
     let watch = c.watch_session.ensures in
     let h = c.watch_session.new.self in
     let t = c.self.inside.locks in
     let k = c.self.invariant.1 in
     let l = looked _ _ _ _ _ _ _ _ _ _ h watch.seen watch.pass watch.same (k.ends.acknowledged c.in_ok-check_open.ensures.open.0) watch.right c.requires.active in
-    let a : Lock = record { tx = c.args.s.now.tx; range = c.args.range.now; mode = c.args.mode } in
-    let tx : c.tx-tx.result ≡ c.args.s.now.tx = c.tx-tx.ensures ∙ ap (λ x. x.tx) watch.right in
-    let range : c.in_ok-asked.asked ≡ c.args.range.now = c.in_ok-asked.ensures in
+    let a : Lock = record { tx = c.watch_session.new.s.tx; range = c.args.range.now; mode = c.args.mode } in
+    let tx : c.tx.result ≡ a.tx = c.tx.ensures in
     let here = subst (λ (x : List Entry). AreHeld x t) (sym watch.same) k.life.locks in
-    let live : phase h c.args.s.now.tx ≡ Live = subst (λ (n : ℕ). phase h n ≡ Live) (ap (λ x. x.tx) watch.right) l.live in
-    subst (λ (x : ℕ × Interval). IsConsistent g.N.Life.opens (h ++ entries.Lock x.0 x.1 c.args.mode ∷ [])) (λ i. (sym tx i, sym range i))
-    (lock_consistent g.N.Life.opens h l.consistent t here k.life.losers a live (λ x has. subst (λ (n : ℕ). conflict (record { tx = n; range = c.args.range.now; mode = c.args.mode }) x ≡ false) tx (c.in-Ok.ensures.free x has)))
+    lock_consistent g.N.Life.opens h l.consistent t here k.life.losers a l.live (λ x has. subst (λ (n : ℕ). conflict (record { tx = n; range = c.args.range.now; mode = c.args.mode }) x ≡ false) tx (c.in-Ok.ensures.free x has))
 
-pub invariant_of-self-in-Ok-13 : goal.invariant_of-self-in-Ok-13
-invariant_of-self-in-Ok-13 g c =
+pub invariant_of-self-in-Ok : goal.invariant_of-self-in-Ok
+invariant_of-self-in-Ok g c =
     let watch = c.watch_session.ensures in
-    let own = c.enter_own.ensures in
+    let own = c.enter_lock.ensures in
     let k = c.self.invariant.1 in
-    let a : Lock = record { tx = c.tx-tx.result; range = c.args.range.now; mode = c.args.mode } in
-    let e : Entry = entries.Lock c.tx-tx.result c.args.range.now c.args.mode in (
+    let a : Lock = record { tx = c.watch_session.new.s.tx; range = c.args.range.now; mode = c.args.mode } in
+    let e : Entry = entries.Lock a.tx a.range a.mode in
+    let gains = subst (λ (n : ℕ). table.Gains c.self.inside.locks c.acquire.new.self (record { tx = n; range = c.args.range.now; mode = c.args.mode })) c.tx.ensures c.in-Ok.ensures.ok in (
       c.self.invariant.0,
       kept_entry _ _ _ _ _ _ c.self.inside.log.log c.self.inside.log.log c.self.inside.log.listing c.self.inside.log.listing c.self.inside.locks c.acquire.new.self _ _ _ k c.check_open.ensures.total e
-          (own.history ∙ (λ i. watch.same i ++ entries.Lock c.tx-tx.result (c.in_ok-asked.ensures i) c.args.mode ∷ [])) refl (held_more c.self.inside.history c.self.inside.locks k.life.locks c.acquire.new.self a c.in-Ok.ensures.ok) (own.live.0 ∙ ap live_count watch.same) (λ t p waits. waits),
+          (own.history ∙ ap (λ (l : List Entry). l ++ e ∷ []) watch.same) refl (held_more c.self.inside.history c.self.inside.locks k.life.locks c.acquire.new.self a gains) (own.live.0 ∙ ap live_count watch.same) (λ t p waits. waits),
     )
 
 pub returns-in-Ok-clause-entered : goal.returns-in-Ok-clause-entered
@@ -58,47 +55,43 @@ returns-in-Ok-clause-entered g c =
     let t = c.self.inside.locks in
     let k = c.self.invariant.1 in
     let l = looked _ _ _ _ _ _ _ _ _ _ h watch.seen watch.pass watch.same (k.ends.acknowledged c.in_ok-check_open.ensures.open.0) watch.right c.requires.active in
-    let a : Lock = record { tx = c.args.s.now.tx; range = c.args.range.now; mode = c.args.mode } in
-    let tx : c.tx-tx.result ≡ c.args.s.now.tx = c.tx-tx.ensures ∙ ap (λ x. x.tx) watch.right in
-    let range : c.in_ok-asked.asked ≡ c.args.range.now = c.in_ok-asked.ensures in
+    let a : Lock = record { tx = c.watch_session.new.s.tx; range = c.args.range.now; mode = c.args.mode } in
+    let tx : c.tx.result ≡ a.tx = c.tx.ensures in
     let here = subst (λ (x : List Entry). AreHeld x t) (sym watch.same) k.life.locks in
-    let live : phase h c.args.s.now.tx ≡ Live = subst (λ (n : ℕ). phase h n ≡ Live) (ap (λ x. x.tx) watch.right) l.live in
-    let own = c.enter_own.ensures in
+    let own = c.enter_lock.ensures in
+    let claim : a.tx ≡ c.args.s.now.tx = ap (λ x. x.tx) watch.right in
     entered_entry _ _ _ _ _ _ _ _ _ _ _ _ _ h _ (entries.Lock c.args.s.now.tx c.args.range.now c.args.mode) watch.seen watch.counts c.in_ok-check_open.ensures.open.1 watch.right (watch.pass ∙ sym watch.same)
-    (own.history ∙ (λ i. h ++ entries.Lock (tx i) (range i) c.args.mode ∷ [])) own.seen own.durable own.counts own.counted
-    (lock_consistent g.N.Life.opens h l.consistent t here k.life.losers a live (λ x has. subst (λ (n : ℕ). conflict (record { tx = n; range = c.args.range.now; mode = c.args.mode }) x ≡ false) tx (c.in-Ok.ensures.free x has)))
+    (own.history ∙ (λ i. h ++ entries.Lock (claim i) c.args.range.now c.args.mode ∷ [])) own.seen own.durable own.counts own.counted
+    (subst (λ (n : ℕ). IsConsistent g.N.Life.opens (h ++ entries.Lock n c.args.range.now c.args.mode ∷ [])) claim (lock_consistent g.N.Life.opens h l.consistent t here k.life.losers a l.live (λ x has. subst (λ (n : ℕ). conflict (record { tx = n; range = c.args.range.now; mode = c.args.mode }) x ≡ false) tx (c.in-Ok.ensures.free x has))))
     own.agrees
 
 -- ---- refused
 
-pub enter_own-requires-in-Err-Overlap-clause-consistent : goal.enter_own-requires-in-Err-Overlap-clause-consistent
-enter_own-requires-in-Err-Overlap-clause-consistent g c =
+pub enter_refused-requires-clause-consistent : goal.enter_refused-requires-clause-consistent
+enter_refused-requires-clause-consistent g c =
     let watch = c.watch_session.ensures in
     let h = c.watch_session.new.self in
     let t = c.self.inside.locks in
     let k = c.self.invariant.1 in
     let l = looked _ _ _ _ _ _ _ _ _ _ h watch.seen watch.pass watch.same (k.ends.acknowledged c.in_ok-check_open.ensures.open.0) watch.right c.requires.active in
-    let a : Lock = record { tx = c.args.s.now.tx; range = c.args.range.now; mode = c.args.mode } in
-    let tx : c.tx-tx.result ≡ c.args.s.now.tx = c.tx-tx.ensures ∙ ap (λ x. x.tx) watch.right in
-    let range : c.in_ok-asked.asked ≡ c.args.range.now = c.in_ok-asked.ensures in
+    let a : Lock = record { tx = c.watch_session.new.s.tx; range = c.args.range.now; mode = c.args.mode } in
+    let tx : c.tx.result ≡ a.tx = c.tx.ensures in
     let here = subst (λ (x : List Entry). AreHeld x t) (sym watch.same) k.life.locks in
-    let live : phase h c.args.s.now.tx ≡ Live = subst (λ (n : ℕ). phase h n ≡ Live) (ap (λ x. x.tx) watch.right) l.live in
     let r : Rival = record { holder = c.in-Err-Overlap.holder; range = c.in-Err-Overlap.first } in
     let first = rw c.in-Err-Overlap.field-0-is at c.in-Err-Overlap.ensures.refused in
     let f : IsFirstInConflict a (table.held t) r = subst (λ (n : ℕ). IsFirstInConflict (record { tx = n; range = c.args.range.now; mode = c.args.mode }) (table.held t) r) tx first in
-    subst (λ (x : ℕ × Interval). IsConsistent g.N.Life.opens (h ++ entries.Refused x.0 x.1 c.args.mode c.in-Err-Overlap.holder ∷ [])) (λ i. (sym tx i, sym range i))
-    (refused_consistent g.N.Life.opens h l.consistent t here k.life.losers a live r f)
+    refused_consistent g.N.Life.opens h l.consistent t here k.life.losers a l.live r f
 
-pub invariant_of-self-in-Err-Overlap-13 : goal.invariant_of-self-in-Err-Overlap-13
-invariant_of-self-in-Err-Overlap-13 g c =
+pub invariant_of-self-in-Err-Overlap : goal.invariant_of-self-in-Err-Overlap
+invariant_of-self-in-Err-Overlap g c =
     let watch = c.watch_session.ensures in
-    let own = c.enter_own-in-Err-Overlap.ensures in
+    let own = c.enter_refused.ensures in
     let k = c.self.invariant.1 in
-    let a : Lock = record { tx = c.tx-tx.result; range = c.args.range.now; mode = c.args.mode } in
-    let e : Entry = entries.Refused c.tx-tx.result c.args.range.now c.args.mode c.in-Err-Overlap.holder in (
+    let a : Lock = record { tx = c.watch_session.new.s.tx; range = c.args.range.now; mode = c.args.mode } in
+    let e : Entry = entries.Refused a.tx a.range a.mode c.in-Err-Overlap.holder in (
       c.self.invariant.0,
       kept_entry _ _ _ _ _ _ c.self.inside.log.log c.self.inside.log.log c.self.inside.log.listing c.self.inside.log.listing c.self.inside.locks c.acquire.new.self _ _ _ k c.check_open.ensures.total e
-          (own.history ∙ (λ i. watch.same i ++ entries.Refused c.tx-tx.result (c.in_ok-asked.ensures i) c.args.mode c.in-Err-Overlap.holder ∷ [])) refl (held_refused c.self.inside.history c.self.inside.locks k.life.locks c.acquire.new.self a c.in-Err-Overlap.holder c.in-Err-Overlap.ensures.err) (own.live.0 ∙ ap live_count watch.same) (λ t p waits. waits),
+          (own.history ∙ ap (λ (l : List Entry). l ++ e ∷ []) watch.same) refl (held_refused c.self.inside.history c.self.inside.locks k.life.locks c.acquire.new.self a c.in-Err-Overlap.holder c.in-Err-Overlap.ensures.err) (own.live.0 ∙ ap live_count watch.same) (λ t p waits. waits),
     )
 
 pub returns-in-Err-Overlap-clause-entered : goal.returns-in-Err-Overlap-clause-entered
@@ -108,18 +101,17 @@ returns-in-Err-Overlap-clause-entered g c =
     let t = c.self.inside.locks in
     let k = c.self.invariant.1 in
     let l = looked _ _ _ _ _ _ _ _ _ _ h watch.seen watch.pass watch.same (k.ends.acknowledged c.in_ok-check_open.ensures.open.0) watch.right c.requires.active in
-    let a : Lock = record { tx = c.args.s.now.tx; range = c.args.range.now; mode = c.args.mode } in
-    let tx : c.tx-tx.result ≡ c.args.s.now.tx = c.tx-tx.ensures ∙ ap (λ x. x.tx) watch.right in
-    let range : c.in_ok-asked.asked ≡ c.args.range.now = c.in_ok-asked.ensures in
+    let a : Lock = record { tx = c.watch_session.new.s.tx; range = c.args.range.now; mode = c.args.mode } in
+    let tx : c.tx.result ≡ a.tx = c.tx.ensures in
     let here = subst (λ (x : List Entry). AreHeld x t) (sym watch.same) k.life.locks in
-    let live : phase h c.args.s.now.tx ≡ Live = subst (λ (n : ℕ). phase h n ≡ Live) (ap (λ x. x.tx) watch.right) l.live in
     let r : Rival = record { holder = c.in-Err-Overlap.holder; range = c.in-Err-Overlap.first } in
     let first = rw c.in-Err-Overlap.field-0-is at c.in-Err-Overlap.ensures.refused in
     let f : IsFirstInConflict a (table.held t) r = subst (λ (n : ℕ). IsFirstInConflict (record { tx = n; range = c.args.range.now; mode = c.args.mode }) (table.held t) r) tx first in
-    let own = c.enter_own-in-Err-Overlap.ensures in
+    let own = c.enter_refused.ensures in
+    let claim : a.tx ≡ c.args.s.now.tx = ap (λ x. x.tx) watch.right in
     entered_entry _ _ _ _ _ _ _ _ _ _ _ _ _ h _ (entries.Refused c.args.s.now.tx c.args.range.now c.args.mode c.in-Err-Overlap.holder) watch.seen watch.counts c.in_ok-check_open.ensures.open.1 watch.right (watch.pass ∙ sym watch.same)
-    (own.history ∙ (λ i. h ++ entries.Refused (tx i) (range i) c.args.mode c.in-Err-Overlap.holder ∷ [])) own.seen own.durable own.counts own.counted
-    (refused_consistent g.N.Life.opens h l.consistent t here k.life.losers a live r f)
+    (own.history ∙ (λ i. h ++ entries.Refused (claim i) c.args.range.now c.args.mode c.in-Err-Overlap.holder ∷ [])) own.seen own.durable own.counts own.counted
+    (subst (λ (n : ℕ). IsConsistent g.N.Life.opens (h ++ entries.Refused n c.args.range.now c.args.mode c.in-Err-Overlap.holder ∷ [])) claim (refused_consistent g.N.Life.opens h l.consistent t here k.life.losers a l.live r f))
     own.agrees
 
 pub returns-in-Err-Overlap-clause-conflict : goal.returns-in-Err-Overlap-clause-conflict
@@ -129,19 +121,17 @@ returns-in-Err-Overlap-clause-conflict g c =
     let t = c.self.inside.locks in
     let k = c.self.invariant.1 in
     let l = looked _ _ _ _ _ _ _ _ _ _ h watch.seen watch.pass watch.same (k.ends.acknowledged c.in_ok-check_open.ensures.open.0) watch.right c.requires.active in
-    let a : Lock = record { tx = c.args.s.now.tx; range = c.args.range.now; mode = c.args.mode } in
-    let tx : c.tx-tx.result ≡ c.args.s.now.tx = c.tx-tx.ensures ∙ ap (λ x. x.tx) watch.right in
-    let range : c.in_ok-asked.asked ≡ c.args.range.now = c.in_ok-asked.ensures in
+    let a : Lock = record { tx = c.watch_session.new.s.tx; range = c.args.range.now; mode = c.args.mode } in
+    let tx : c.tx.result ≡ a.tx = c.tx.ensures in
     let here = subst (λ (x : List Entry). AreHeld x t) (sym watch.same) k.life.locks in
-    let live : phase h c.args.s.now.tx ≡ Live = subst (λ (n : ℕ). phase h n ≡ Live) (ap (λ x. x.tx) watch.right) l.live in
     let r : Rival = record { holder = c.in-Err-Overlap.holder; range = c.in-Err-Overlap.first } in
     let first = rw c.in-Err-Overlap.field-0-is at c.in-Err-Overlap.ensures.refused in
     let f : IsFirstInConflict a (table.held t) r = subst (λ (n : ℕ). IsFirstInConflict (record { tx = n; range = c.args.range.now; mode = c.args.mode }) (table.held t) r) tx first in
-    let own = c.enter_own-in-Err-Overlap.ensures in
-    let now = own.seen ∙ own.history ∙ (λ i. h ++ entries.Refused (tx i) (range i) c.args.mode c.in-Err-Overlap.holder ∷ []) in (
+    let own = c.enter_refused.ensures in
+    let now = own.seen ∙ own.history in (
       c.length-in-Err-Overlap.ensures ∙ ap (λ (l : List Entry). length l) (sym own.seen),
       λ opening stands. subst (λ (x : List Entry). IsFirstConflict (locks opening x c.in-Err-Overlap.holder) (held c.args.range.now c.args.mode) c.in-Err-Overlap.first) (sym now)
-          (conflict_told g.N.Life.opens h l.consistent t here k.life.losers a live r f opening stands),
+          (conflict_told g.N.Life.opens h l.consistent t here k.life.losers a l.live r f opening stands),
     )
 
 pub invariant_of-self-in-Err-Memory : goal.invariant_of-self-in-Err-Memory
