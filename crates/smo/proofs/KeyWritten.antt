@@ -1,12 +1,10 @@
 -- A write of a key: of its parts, and behind a purge.
-use Rattle.std.proofs.Common.{◌≡◌, ℕ, ◌<◌, ◌≤◌, List, [], ◌∷◌, ◌++◌, Option, Some, None, Result, Ok, Err, Bool, true, false, cond, leb, sym, ap, subst, ◌∙◌, refl, arith, inl, inr}
-use Rattle.std.specs.Prelude.{IfOk, IfSome, OnErr, not, ◌||◌, ◌&&◌}
+use Rattle.std.proofs.Common.{◌≡◌, ℕ, List, [], ◌∷◌, ◌++◌, Option, Some, None, Result, Ok, Err, Bool, true, false, cond, sym, ap, subst, ◌∙◌, refl, inr}
+use Rattle.std.specs.Prelude.{IfOk, IfSome, OnErr, not, ◌||◌}
 use Rattle.std.specs.List.{list_any}
-use Rattle.std.proofs.lemmas.Bool.Decides.{nat_tests}
 use mathlib.Core.List.{IsPrefix}
 use Rattle.books.specs.Rights.{SessionClaim}
 use Rattle.front.specs.Seen.{PassSeen}
-use Rattle.store_model.specs.Range.{Interval, has_key}
 use Rattle.store_model.specs.declared.fault.Fault.{Fault}
 use Rattle.wal_record.specs.State.{KeepsState, leaf_rows, live}
 use Rattle.wal_record.specs.Books.{session_entries}
@@ -22,6 +20,7 @@ use Rattle.foster_laws.specs.Purges.{has_tombstone}
 use Rattle.foster_laws.proofs.Purging.{purge}
 use Rattle.page_ops.specs.Causes.{Ends, MeetsNoFault}
 use Rattle.page_ops.specs.Claims.{Claims, SessionAgrees}
+use Rattle.page_ops.specs.Desks.{Desk}
 use Rattle.page_ops.specs.Gains.{Gains}
 use Rattle.page_ops.specs.Groups.{AreFilled}
 use Rattle.page_ops.specs.Hands.{Hand}
@@ -35,20 +34,12 @@ use Rattle.group_laws.specs.Stays.{StaysAs}
 use Rattle.group_laws.proofs.Owners.{transaction}
 use Rattle.group_laws.proofs.Quiet.{stays}
 use Rattle.smo.specs.Asked.{Asked}
-use Rattle.smo.specs.KeyWrites.{OnRefused, PurgeRefused, PurgedFirst, WritesAlone, WritesBy, WritesKey, group_on, has_room, needs_purge, state_on}
+use Rattle.smo.specs.KeyWrites.{OnRefused, PurgedFirst, WritesAlone, WritesBy, WritesKey, group_on, has_room, needs_purge, state_on, desk_on, found}
 use Rattle.smo.specs.Purges.{EntersPurge, purge_of}
 use Rattle.smo.specs.Settled.{IsSettled}
 use Rattle.smo.specs.SplitWrites.{OnDone, SplitsLeaf, lower_written, split_write_group}
 use Rattle.smo.specs.Writes.{IsWriter, placed_at, write_group}
 use Rattle.smo.proofs.WrittenLeaf.{above_none}
-
--- ---- room
-
-pub room_is : (n : ℕ) → leb n 4051 ≡ true → n ≤ 4051
-room_is n h = grind (arith, nat_tests)
-
-pub room_isn't : (n : ℕ) → leb n 4051 ≡ false → 4051 < n
-room_isn't n h = grind (arith, nat_tests)
 
 -- ---- one group
 
@@ -102,25 +93,10 @@ module _ (opens : List Record → Type 0) (ledger sessions : LedgerName) (key : 
       (subst (λ (t : PageState). OnDone result (IsSettled t seen leaf leaf_now)) (sym (ap (λ (b : Bool). cond b (with_value key value leaf.state) (lower_written splits.child key value leaf.state)) room)) splits.settled)
       (refused_of result (leaf_now ≡ leaf) same)
 
-  -- so the leaf needn't be purged
-  pub key_alone : (owner : Option SessionClaim) → needs_purge key value leaf.state ≡ false → IfSome owner Alone → IfSome owner (λ (s : SessionClaim). WritesKey opens ledger sessions s key was value seen leaf leaf_now result old new)
-  key_alone None none h = tt
-  key_alone (Some s) none h = subst (λ (b : Bool). WritesBy b opens ledger sessions s key was value seen leaf leaf_now result old new) (sym none) h
-
-  pub key_unpurged : (owner : Option SessionClaim) → needs_purge key value leaf.state ≡ true → PurgeRefused opens ledger sessions leaf leaf_now result old new → IfSome owner (λ (s : SessionClaim). WritesKey opens ledger sessions s key was value seen leaf leaf_now result old new)
-  key_unpurged None some h = tt
-  key_unpurged (Some s) some h = subst (λ (b : Bool). WritesBy b opens ledger sessions s key was value seen leaf leaf_now result old new) (sym some) (inl h)
-
   key_purged : (owner : Option SessionClaim) → needs_purge key value leaf.state ≡ true → IfSome owner (λ (s : SessionClaim). PurgedFirst opens ledger sessions s key was value seen leaf leaf_now result old new)
       → IfSome owner (λ (s : SessionClaim). WritesKey opens ledger sessions s key was value seen leaf leaf_now result old new)
   key_purged None some h = tt
   key_purged (Some s) some h = subst (λ (b : Bool). WritesBy b opens ledger sessions s key was value seen leaf leaf_now result old new) (sym some) (inr h)
-
--- the purge needs room or tombstones that aren't there
-pub no_purge : (a b : Bool) → (a || not b) ≡ true → (not a && b) ≡ false
-no_purge true b h = refl
-no_purge false true h = absurd (cc h)
-no_purge false false h = refl
 
 -- ---- behind a purge
 
@@ -144,12 +120,7 @@ still_writer opens seen h key (Some s) begins consistent agrees writer =
       locked = λ opening stands. ap (list_any (covers_write key)) (steady opening stands).0.locks ∙ writer.locked opening stands;
     }
 
--- the purged leaf is the leaf of the key, with the same value
-pub purged_leaf : (key : List ℕ) (s t : PageState) → KeepsState s → IsLeafOf key s → t ≡ purged s → IsLeafOf key t
-purged_leaf key s t keeps at is =
-    let made = (purge s).leaf keeps at.leaf in
-    subst (IsLeafOf key) (sym is) (record { leaf = made.leaf; own = ap (λ (part : Interval). has_key part key) made.own ∙ at.own })
-
+-- the purged leaf has the same value
 pub purged_value : (key : List ℕ) (was : Option (List ℕ)) (s t : PageState) → KeepsState s → IsLeafOf key s → was ≡ live (leaf_rows s.rows) key → t ≡ purged s → was ≡ live (leaf_rows t.rows) key
 purged_value key was s t keeps at is made = is ∙ sym (((purge s).leaf keeps at.leaf).values key) ∙ ap (λ (u : PageState). live (leaf_rows u.rows) key) (sym made)
 
@@ -211,3 +182,9 @@ pub ends_behind : (opens : List Record → Type 0) (log_faults made : LedgerName
 ends_behind opens log_faults made a a1 a2 a' h1 h pos result e1 k1 calm k2 e =
     let first = done_meets_none opens log_faults made a a1 h1 pos e1 in
     ends_then opens log_faults made a a2 a' h (record { ended = calm.end.ended ∙ first.ended; amount = calm.end.amount ∙ first.amount }) (keeps_then a a1 a2 k1 k2) result e
+
+-- ---- the reserved frame
+
+module _ (key : List ℕ) (value : Option (List ℕ)) (s : PageState) (d d' : Desk) (result : Result ℕ Fault) where
+  pub desk_purged : (t : PageState) → needs_purge key value s ≡ true → t ≡ purged s → d' ≡ desk_on (has_room key value t) d result → d' ≡ desk_on (has_room key value (found key value s)) d result
+  desk_purged t some is h = h ∙ ap (λ (u : PageState). desk_on (has_room key value u) d result) is ∙ ap (λ (b : Bool). desk_on (has_room key value (cond b (purged s) s)) d result) (sym some)

@@ -31,6 +31,10 @@ has_room key new at = fits (with_value key new at)
 abbrev pub needs_purge : List ℕ → Option (List ℕ) → PageState → Bool
 needs_purge key new s = not (has_room key new s) && has_tombstone s
 
+-- the leaf as the write finds it
+abbrev pub found : List ℕ → Option (List ℕ) → PageState → PageState
+found key new s = if needs_purge key new s then purged s else s
+
 -- the write with its answer on a leaf of this state, behind its split where it has no room for the value
 abbrev pub group_on : SessionClaim → ℕ → List ℕ → Option (List ℕ) → Option (List ℕ) → PageState → Group
 group_on s page key old new at = if has_room key new at then write_group s page key old new else split_write_group s page at key old new
@@ -39,6 +43,7 @@ group_on s page key old new at = if has_room key new at then write_group s page 
 abbrev pub state_on : ℕ → List ℕ → Option (List ℕ) → PageState → PageState
 state_on child key new at = if has_room key new at then with_value key new at else lower_written child key new at
 
+-- a reserved frame is used up where the leaf was split
 abbrev pub desk_on : Bool → Desk → Result ℕ Fault → Desk
 desk_on room d result = if room then d else desk_behind d result
 

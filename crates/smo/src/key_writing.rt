@@ -6,7 +6,7 @@ ghost use Rattle.page_ops.specs.Causes.{Ends, FailsToEnter, MeetsNoFault, OrFull
 ghost use Rattle.page_ops.specs.Claims.{Claims};
 ghost use Rattle.page_ops.specs.Outcomes.{IsFull};
 ghost use Rattle.page_ops.specs.Seeing.{Enters, known};
-ghost use Rattle.smo.specs.KeyWrites.{WritesAlone, WritesKey, desk_on, has_room, needs_purge};
+ghost use Rattle.smo.specs.KeyWrites.{WritesAlone, WritesKey, desk_on, found, has_room};
 ghost use Rattle.smo.specs.Settled.{claims_of};
 ghost use Rattle.smo.specs.Writes.{IsWriter, write_group};
 ghost use Rattle.wal_record.specs.Images.{IsLeafOf, purged};
@@ -52,6 +52,7 @@ pub fn write_key<N: Life, J: Entering<N>, P: Pages<N, J>, R: Wait>(
     ensures written { IfSome owner.old (λ s. WritesKey N.opens N.entries N.session_entries s key.now old.now new.now pass.new leaf.old leaf.new result (known (J.account journal.old) pass.old (claims_of leaf.old owner.old)) (known (J.account journal.new) pass.new (claims_of leaf.new owner.new))) }
     ensures last { IfOk result (λ pos. pos ≡ length pass.new.log) }
     ensures full { IfSome owner.old (λ s. IfErr result (IsFull N.opens pass.new.log (write_group s leaf.old.page key.now old.now new.now))) }
+    ensures desk { P.desk pages.new ≡ desk_on (has_room key.now new.now (found key.now new.now leaf.old.state)) (P.desk pages.old) result }
     ensures refused { IfErr result (FailsToEnter OrFull) }
     ensures ends { Ends N.opens N.log_faults N.made (J.account journal.old) (J.account journal.new) pass.new.log result }
 {

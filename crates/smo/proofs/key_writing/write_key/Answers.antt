@@ -7,7 +7,7 @@ use Rattle.foster_laws.specs.Purges.{has_tombstone}
 use Rattle.page_ops.specs.Hands.{Hand}
 use Rattle.smo.specs.KeyWrites.{has_room}
 use Rattle.smo.specs.Writes.{IsWriter}
-use Rattle.smo.proofs.KeyWritten.{still_writer, purged_value, purged_whole, key_behind, ends_behind}
+use Rattle.smo.proofs.KeyWritten.{still_writer, purged_value, purged_whole, key_behind, ends_behind, desk_purged}
 use Rattle.smo.proofs.key_writing.write_key.Goals as goal
 
 pub write_here-requires-2-clause-writer : goal.write_here-requires-2-clause-writer
@@ -33,3 +33,9 @@ returns-clause-written g c =
 pub returns-clause-ends : goal.returns-clause-ends
 returns-clause-ends g c =
     ends_behind g.N.Life.opens g.N.Life.log_faults g.N.Life.made _ _ _ _ c.purge.new.pass.log c.write_here-2.new.pass.log c.in_ok-purge.field-0 c.write_here-2.result c.in_ok-purge.ensures.ends c.in_ok-purge.ensures.entered.enters.keeps c.see_owner.ensures.calm c.see_owner.ensures.seen.keeps c.write_here-2.ensures.ends
+
+pub returns-clause-desk : goal.returns-clause-desk
+returns-clause-desk g c =
+    let room = ap (λ (h : Hand). has_room c.args.key.now c.args.new.now h.state) (sym c.leaf.view_is) ∙ sym c.fits_with.ensures ∙ c.if-fits_with.false in
+    let some = ap (λ (h : Hand). has_tombstone h.state) (sym c.leaf.view_is) ∙ sym c.has_tombstone.ensures ∙ c.if-not-has_tombstone.false in
+    desk_purged c.args.key.now c.args.new.now c.args.leaf.now.state _ _ c.write_here-2.result c.purge.new.leaf.state (λ i. not (room i) && some i) c.in_ok-purge.ensures.purged.state c.write_here-2.ensures.desk
