@@ -49,8 +49,8 @@ desk_on room d result = if room then d else desk_behind d result
 
 -- The group on a leaf of this state was handed in, behind these entries of the call's own; what it entered, and the leaf
 -- in hand, are as the answer says.
-pub record WritesOn (opens : List Record → Type 0) (ledger sessions : LedgerName) (s : SessionClaim) (at : PageState) (key : List ℕ) (was value : Option (List ℕ)) (first : List Entry) (seen : PassSeen Entry) (leaf leaf_now : Hand) (result : Result ℕ Fault)
-    (old new : Known) : Type 0 where
+pub record WritesOn (opens : List Record → Type 0) (ledger sessions : LedgerName) (s : SessionClaim) (at : PageState) (key : List ℕ) (was value : Option (List ℕ)) (first : List Entry)
+    (seen : PassSeen Entry) (leaf leaf_now : Hand) (result : Result ℕ Fault) (old new : Known) : Type 0 where
   pub now : Group
   pub child : ℕ
   pub gains : Gains opens ledger sessions (first ++ answered now.lsn now.recs (group_on s leaf.page key was value at).said (placed_at result)) old new
@@ -68,14 +68,16 @@ pub record PurgeRefused (opens : List Record → Type 0) (ledger sessions : Ledg
   pub gains : Gains opens ledger sessions [] old new
 
 -- the leaf was purged, and then the write was asked for; after its refusal the leaf is purged
-pub record PurgedFirst (opens : List Record → Type 0) (ledger sessions : LedgerName) (s : SessionClaim) (key : List ℕ) (was value : Option (List ℕ)) (seen : PassSeen Entry) (leaf leaf_now : Hand) (result : Result ℕ Fault) (old new : Known) : Type 0 where
+pub record PurgedFirst (opens : List Record → Type 0) (ledger sessions : LedgerName) (s : SessionClaim) (key : List ℕ) (was value : Option (List ℕ))
+    (seen : PassSeen Entry) (leaf leaf_now : Hand) (result : Result ℕ Fault) (old new : Known) : Type 0 where
   pub lsn : ℕ
   pub prev : ℕ
   pub writes : WritesOn opens ledger sessions s (purged leaf.state) key was value (entries.Rec lsn (purge_of leaf.page prev) ∷ []) seen leaf leaf_now result old new
   pub same : OnRefused result ((pass : PassSeen Entry) × IsSettled (purged leaf.state) pass leaf leaf_now)
 
 -- without a purge; after a refusal the leaf is as it was
-pub record WritesAlone (opens : List Record → Type 0) (ledger sessions : LedgerName) (s : SessionClaim) (key : List ℕ) (was value : Option (List ℕ)) (seen : PassSeen Entry) (leaf leaf_now : Hand) (result : Result ℕ Fault) (old new : Known) : Type 0 where
+pub record WritesAlone (opens : List Record → Type 0) (ledger sessions : LedgerName) (s : SessionClaim) (key : List ℕ) (was value : Option (List ℕ))
+    (seen : PassSeen Entry) (leaf leaf_now : Hand) (result : Result ℕ Fault) (old new : Known) : Type 0 where
   pub writes : WritesOn opens ledger sessions s leaf.state key was value [] seen leaf leaf_now result old new
   pub same : OnRefused result (leaf_now ≡ leaf)
 

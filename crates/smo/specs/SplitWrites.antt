@@ -60,7 +60,8 @@ desk_behind d (Err fault) = d
 
 -- The group was handed in, and the history and the rights are as the answer says. Where it was entered, the new page is
 -- no root, and the leaf in hand is the lower half.
-pub record SplitsLeaf (opens : List Record → Type 0) (ledger sessions : LedgerName) (g : Group) (key : List ℕ) (value : Option (List ℕ)) (seen : PassSeen Entry) (leaf leaf_now : Hand) (result : Result ℕ Fault) (old new : Known) : Type 0 where
+pub record SplitsLeaf (opens : List Record → Type 0) (ledger sessions : LedgerName) (g : Group) (key : List ℕ) (value : Option (List ℕ))
+    (seen : PassSeen Entry) (leaf leaf_now : Hand) (result : Result ℕ Fault) (old new : Known) : Type 0 where
   pub now : Group
   pub enters : EntersGroup opens ledger sessions g now (placed_at result) old new
   pub child : ℕ
