@@ -1,15 +1,17 @@
-//! The upper half of a page that is split.
-ghost use Rattle.std.specs.Prelude.{◌≡◌, ◌<◌, length, IfOk};
+//! The halves of a page that is split.
+ghost use Rattle.std.specs.Prelude.{◌≡◌, ◌<◌, ◌≤◌, length, take, IfOk};
 ghost use Rattle.wal_record.specs.State.{KeepsState, row_sizes, split_point};
 ghost use Rattle.wal_record.specs.Legal.{split_key};
+ghost use Rattle.page_rows.specs.Redo.{first_rows};
 ghost use Rattle.page_rows.specs.Rows.{row_count};
 ghost use Rattle.foster_laws.specs.Splits.{upper_half};
-ghost use Rattle.page_halves.specs.Parts.{rows_from};
+ghost use Rattle.page_halves.specs.Parts.{lower_with, rows_from};
 
 use page_rows::{copied_bound, copied_branch_rows, copied_foster, copied_leaf_rows, split_point};
 use std::alloc::Global;
-use store_model::{Bound, Memory};
-use wal_record::{PageState, Rows};
+use std::mem;
+use store_model::{Bound, Key, List, Memory, PageNo};
+use wal_record::{Foster, PageState, Rows};
 
 /// The new page of a split: the rows from the split point on, with the page's level, high fence and foster child.
 pub fn upper_half(alloc: Global, state: &PageState) -> Result<PageState, Memory>
@@ -57,4 +59,38 @@ fn rows_from(alloc: Global, rows: &Rows, place: usize) -> Result<Rows, Memory>
             Ok(Rows::Branch(rows))
         }
     }
+}
+
+/// Leaves the page its rows below the split point, and makes the new page its foster child. It takes no memory.
+pub fn keep_lower(alloc: Global, state: &mut PageState, child: PageNo)
+    requires keeps { KeepsState state.old }
+    requires stays { 1 ≤ split_point (row_sizes state.old.rows) }
+    requires goes { split_point (row_sizes state.old.rows) < length (row_sizes state.old.rows) }
+    ensures { state.new ≡ lower_with child state.old }
+{
+    let kept = split_point(state);
+    let low = first_key(&state.rows, kept);
+    let Some(key) = Key::new(low.text()) else {
+        unreachable!()
+    };
+    state.foster = Some(Foster { key, child });
+    keep_first(alloc, &mut state.rows, kept);
+}
+
+/// Drops all rows but the first ones.
+fn keep_first(alloc: Global, rows: &mut Rows, kept: usize)
+    ensures { rows.new ≡ first_rows kept rows.old }
+{
+    match rows {
+        Rows::Leaf(rows) => keep_first_items(alloc, rows, kept),
+        Rows::Branch(rows) => keep_first_items(alloc, rows, kept),
+    }
+}
+
+fn keep_first_items<X: Drop>(alloc: Global, items: &mut List<X>, kept: usize)
+    ensures { items.new ≡ take kept items.old }
+{
+    let mut all = mem::replace(items, List::new(alloc)).into_vec();
+    all.truncate(kept);
+    *items = List::from_vec(all);
 }

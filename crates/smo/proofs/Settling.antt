@@ -34,11 +34,11 @@ filled_one made new r [] f = absurd f
 filled_one made new r (x ∷ []) f = (f.0.0, ap (λ (y : Record). y ∷ []) f.0.2)
 filled_one made new r (x ∷ y ∷ ys) f = absurd f.1
 
-no_record : (said : Option Said) → log_of (said_entries said) ≡ []
+pub no_record : (said : Option Said) → log_of (said_entries said) ≡ []
 no_record None = refl
 no_record (Some s) = refl
 
-page_same : (z : Option PageClaim) (c p : PageClaim) → z ≡ Some c → page_of z ≡ page_of (Some p) → c.page ≡ p.page
+pub page_same : (z : Option PageClaim) (c p : PageClaim) → z ≡ Some c → page_of z ≡ page_of (Some p) → c.page ≡ p.page
 page_same z c p is same = inside_some c.page p.page (sym (ap page_of is) ∙ same)
 
 module _ (opens : List Record → Type 0) (ledger sessions : LedgerName) (hand : Hand) (owner : Option SessionClaim) (there : IsInHand opens hand) (seen seen' : PassSeen Entry) (a a' : Account) (z : Claims)

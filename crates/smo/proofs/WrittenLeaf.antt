@@ -13,7 +13,7 @@ use Rattle.store_model.specs.declared.fault.Fault.{Fault}
 use Rattle.store_model.specs.declared.fault.Fault.TheVariants as faults
 use Rattle.store_model.specs.declared.fault.Memory.{Memory}
 use Rattle.store_model.specs.declared.reply.Reply.TheVariants as replies
-use Rattle.wal_record.specs.State.{leaf_rows, live, row_of, is_key, state_size, page_room}
+use Rattle.wal_record.specs.State.{KeepsState, leaf_rows, live, row_of, is_key, state_size, page_room}
 use Rattle.wal_record.specs.Chains.{head, last}
 use Rattle.wal_record.specs.Contents.{current}
 use Rattle.wal_record.specs.Images.{applied, with_value, IsLeafOf}
@@ -59,7 +59,7 @@ use Rattle.smo.proofs.Settling.{in_hand}
 
 -- ---- the condition of asking
 
-told_as : (page tx : ℕ) (key : List ℕ) (old new : Option (List ℕ)) (prev page_prev : ℕ)
+pub told_as : (page tx : ℕ) (key : List ℕ) (old new : Option (List ℕ)) (prev page_prev : ℕ)
     → IsToldAs (kinds.Write (record { tx = tx; prev = prev; page = page; page_prev = page_prev; key = key; old = old; new = new })) (request_of key new) (replies.Was old)
 told_as page tx key old None prev page_prev = (refl, refl, refl)
 told_as page tx key old (Some v) prev page_prev = (refl, refl, refl)
@@ -76,45 +76,45 @@ would_as : (m : _) (key : List ℕ) (old new : Option (List ℕ)) → old ≡ ge
 would_as m key old None is change = ap is_some (sym is) ∙ or_left (is_some old) change
 would_as m key old (Some v) is change = tt
 
-above_none : (n : ℕ) → is_number n ≡ true → 0 < n
+pub above_none : (n : ℕ) → is_number n ≡ true → 0 < n
 above_none n h = grind (arith, nat_tests, h)
 
-module _ (opens : List Record → Type 0) (seen : List Entry) (hand : Hand) (s : SessionClaim) (there : IsInHand opens hand) (begins : IsPrefix hand.pass.log seen) (key : List ℕ) (new : Option (List ℕ)) (writer : IsWriter seen key s) (at : IsLeafOf key hand.state)
-    (spelled : KeepsWrite (write_of s.tx hand.page key (live (leaf_rows hand.state.rows) key) new)) (fits : state_size (with_value key new hand.state) ≤ page_room) where
+module _ (opens : List Record → Type 0) (seen : List Entry) (hand : Hand) (s : SessionClaim) (there : IsInHand opens hand) (begins : IsPrefix hand.pass.log seen) (key : List ℕ) (new : Option (List ℕ)) (writer : IsWriter opens seen key s) (at : IsLeafOf key hand.state)
+    (spelled : KeepsWrite (write_of s.tx hand.page key (live (leaf_rows hand.state.rows) key) new)) where
   abbrev was : Option (List ℕ)
   was = live (leaf_rows hand.state.rows) key
 
   abbrev said : Said
   said = record { session = s.session; tx = s.tx; request = request_of key new; reply = replies.Was was }
 
-  ready : Ready opens seen hand s
+  pub ready : Ready opens seen hand s
   ready = record { there = there; begins = begins; agrees = writer.agrees; active = above_none s.tx writer.number }
 
   module _ (opening : List Record) (stands : opens opening) (h : List Entry) (moment : IsMoment opens seen (claims_of hand (Some s)) h) where
-    mine : IsMoment opens seen (page_and_session hand s) h
+    pub mine : IsMoment opens seen (page_and_session hand s) h
     mine = subst (λ (z : Claims). IsMoment opens seen z h) (λ i. record { a = there.right i; b = None; c = None; s = Some s; m = None }) moment
 
-    locked : list_any (covers_write key) (locks opening h s.tx) ≡ true
-    locked = lock_stays opens seen hand s ready opening stands h mine (covers_write key) writer.locked
+    pub locked : list_any (covers_write key) (locks opening h s.tx) ≡ true
+    locked = lock_stays opens seen hand s ready opening stands h mine (covers_write key) (writer.locked opening stands)
 
-    would : WouldWrite opening h s.session s.tx (request_of key new)
+    pub would : WouldWrite opening h s.session s.tx (request_of key new)
     would =
         let steady = stay opens seen hand s ready opening stands h mine in
         record {
           owner = steady.1;
-          live = steady.0.phase ∙ writer.live;
+          live = steady.0.phase ∙ writer.live opening stands;
           locked = locked_as new opening h s.tx key locked;
           writes = would_as (current (life_log opening h)) key was new (value_is opens seen hand s ready opening stands h mine key at) spelled.change;
         }
 
-    follows : (a : Option PageClaim) → IsAskable opening h a (write_group s hand.page key was new)
-    follows a = elim (cases_lt (length (life_log opening h) + 3) (2 ^ 63)) [
+    follows : state_size (with_value key new hand.state) ≤ page_room → (a : Option PageClaim) → IsAskable opening h a (write_group s hand.page key was new)
+    follows fits a = elim (cases_lt (length (life_log opening h) + 3) (2 ^ 63)) [
       | inl few ↦
           let seen_now = is_seen opens seen hand (Some s) there begins opening stands h moment in
           let steady = stay opens seen hand s ready opening stands h mine in
           let log = life_log opening h in
           let r = write_on log (head log hand.page) s.tx hand.page hand.state key new in
-          let may : MayWrite opening h s.tx key = record { live = steady.0.phase ∙ writer.live; locked = locked; number = writer.number; spelled = spelled.key } in
+          let may : MayWrite opening h s.tx key = record { live = steady.0.phase ∙ writer.live opening stands; locked = locked; number = writer.number; spelled = spelled.key } in
           let suits = (hand_law opening h).write seen_now (omega (arith, few)) hand.page hand.state key (record { image = is_image opens seen hand (Some s) there begins opening stands h moment; at = at }) s.tx may new spelled.new spelled.change fits in
           let asks = (asks_law opening h []).told seen_now.lawful (subst (IsAtRest opening) (sym (append-nil h)) seen_now.rest) a r said (told_as hand.page s.tx key was new (last log s.tx) (head log hand.page)) refl steady.1
           (refl, ap (λ (l : List Entry). head (life_log opening l) hand.page) (append-nil h)) suits in
@@ -127,8 +127,8 @@ module _ (opens : List Record → Type 0) (seen : List Entry) (hand : Hand) (s :
           (λ room numbers. let n = subst (λ (l : List Entry). length (life_log opening l) + 3 < 2 ^ 63) (append-nil h) numbers in absurd (omega (arith, n, many))))
     ]
 
-  may_ask : MayAsk opens seen (claims_of hand (Some s)) (write_group s hand.page key was new)
-  may_ask = record {
+  may_ask : state_size (with_value key new hand.state) ≤ page_room → MayAsk opens seen (claims_of hand (Some s)) (write_group s hand.page key was new)
+  may_ask fits = record {
     group = record { few = omega arith; kinds = refl; spelled = (spelled, tt); told = refl; alone = λ n. absurd (cc n) };
     rights = record {
       pages = subst (λ (o : Option PageClaim). IsTrue (list_all (has_rights None (record { a = o; b = None; c = None; s = Some s; m = None })) (kinds.Write (write_of s.tx hand.page key was new) ∷ []))) (sym there.right) (own hand.page);
@@ -137,7 +137,7 @@ module _ (opens : List Record → Type 0) (seen : List Entry) (hand : Hand) (s :
       speaker = (refl, refl);
       maintenance = λ n. absurd (cc n);
     };
-    askable = λ opening h stands moment. follows opening stands h moment hand.right;
+    askable = λ opening h stands moment. follows opening stands h moment fits hand.right;
     timely = λ opening stands. ((seen, prefix_self seen, tt), tt);
   }
     where
@@ -145,7 +145,7 @@ module _ (opens : List Record → Type 0) (seen : List Entry) (hand : Hand) (s :
       own p = ap (λ b. (((b || false) || false) && true) && true) (eqb_self p)
 
 pub may_write : (opens : List Record → Type 0) (seen : List Entry) (hand inside : Hand) (made : Result Group Memory) (right : Option PageClaim) (owner owned : Option SessionClaim) (x y : Claims) (key : List ℕ) (old new : Option (List ℕ))
-    → inside ≡ hand → IsInHand opens inside → IsPrefix hand.pass.log seen → IsSome owner → IfSome owner (IsWriter seen key) → IsLeafOf key hand.state → old ≡ live (leaf_rows hand.state.rows) key
+    → inside ≡ hand → IsInHand opens inside → IsPrefix hand.pass.log seen → IsSome owner → IfSome owner (IsWriter opens seen key) → IsLeafOf key hand.state → old ≡ live (leaf_rows hand.state.rows) key
     → state_size (with_value key new hand.state) ≤ page_room → right ≡ inside.right → owned ≡ owner → x ≡ no_claims → y ≡ record x { a = right; s = owned }
     → IfSome owner (λ (s : SessionClaim). KeepsWrite (write_of s.tx inside.page key old new))
     → IfOk made (λ (g : Group). IfSome owner (λ (s : SessionClaim). g ≡ write_group s inside.page key old new)) → IfOk made (MayAsk opens seen y)
@@ -160,11 +160,11 @@ may_write opens seen hand inside (Ok g) right (Some s) owned x y key old new vie
 
 -- ---- what was asked
 
-none_of : (o : Option PageClaim) → page_of o ≡ None → o ≡ None
+pub none_of : (o : Option PageClaim) → page_of o ≡ None → o ≡ None
 none_of None e = refl
 none_of (Some p) e = absurd (cc e)
 
-none_to : (o : Option MaintClaim) → option_map (λ (m : MaintClaim). m.number) o ≡ None → o ≡ None
+pub none_to : (o : Option MaintClaim) → option_map (λ (m : MaintClaim). m.number) o ≡ None → o ≡ None
 none_to None e = refl
 none_to (Some p) e = absurd (cc e)
 
@@ -206,7 +206,7 @@ group_here : (owner : SessionClaim) (made : Result Group Memory) (g : Group) (ha
 group_here owner (Ok x) g hand inside key old new view is = is ∙ ap (λ (h : Hand). write_group owner h.page key old new) view
 group_here owner (Err m) g hand inside key old new view is = tt
 
-ok_of : (made : Result Group Memory) (s : SessionClaim) (P : SessionClaim → Group → Type 0) → IfOk made (λ (x : Group). IfSome (Some s) (λ (t : SessionClaim). P t x)) → IfOk made (P s)
+pub ok_of : (made : Result Group Memory) (s : SessionClaim) (P : SessionClaim → Group → Type 0) → IfOk made (λ (x : Group). IfSome (Some s) (λ (t : SessionClaim). P t x)) → IfOk made (P s)
 ok_of (Ok x) s P h = h
 ok_of (Err m) s P h = tt
 
@@ -230,6 +230,9 @@ unfolding applied
 written_is n tx page key old new s = refl
 
 -- the rows with the key's row at its spot
+pub row_in : (key : List ℕ) (new : Option (List ℕ)) (s : PageState) (spot : Spot) (rows : List LeafRow) → KeepsState s → IsLeafOf key s → IsSpot key s.rows spot → rows ≡ placed (row_of key new) spot (leaf_rows s.rows) → ◌≡◌ {A = PageState} (record s { rows = Leaf rows }) (with_value key new s)
+row_in key new s spot rows keeps at found is = ap (λ (rs : List LeafRow). record s { rows = Leaf rs }) is ∙ placed_is key s at keeps new spot found
+
 pub row_put : (opens : List Record → Type 0) (hand inside : Hand) (key : List ℕ) (new : Option (List ℕ)) (spot : Spot) (rows : List LeafRow) → inside ≡ hand → IsInHand opens inside → IsLeafOf key hand.state → IsSpot key inside.state.rows spot
     → rows ≡ placed (row_of key new) spot (leaf_rows inside.state.rows) → with_value key new hand.state ≡ record inside.state { rows = Leaf rows }
 row_put opens hand inside key new spot rows view there at found is =

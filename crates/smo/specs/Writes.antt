@@ -10,6 +10,7 @@ use Rattle.wal_record.specs.History.{Live, phase}
 use Rattle.wal_record.specs.Locks.{covers_write, taken_locks}
 use Rattle.wal_record.specs.Rules.{is_number}
 use Rattle.wal_record.specs.declared.record.Write.{Write}
+use Rattle.wal_record.specs.declared.record.Record.{Record}
 use Rattle.wal_record.specs.declared.record.Record.TheVariants as kinds
 use Rattle.wal_record.specs.declared.entry.Entry.{Entry}
 use Rattle.page_ops.specs.Claims.{SessionAgrees}
@@ -18,11 +19,11 @@ use Rattle.page_ops.specs.declared.outcome.Entered.{Entered}
 use Rattle.page_ops.specs.declared.outcome.Entered.TheVariants.{At}
 
 -- the right to the session agrees, and its transaction is live and has locked the key for writing
-pub record IsWriter (seen : List Entry) (key : List ℕ) (s : SessionClaim) : Type 0 where
+pub record IsWriter (opens : List Record → Type 0) (seen : List Entry) (key : List ℕ) (s : SessionClaim) : Type 0 where
   pub agrees : SessionAgrees seen s
   pub number : IsTrue (is_number s.tx)
-  pub live : phase seen s.tx ≡ Live
-  pub locked : IsTrue (list_any (covers_write key) (taken_locks seen s.tx))
+  pub live : (opening : List Record) → opens opening → phase seen s.tx ≡ Live
+  pub locked : (opening : List Record) → opens opening → IsTrue (list_any (covers_write key) (taken_locks seen s.tx))
 
 -- a put of the new value, or a del where there is none
 abbrev pub request_of : List ℕ → Option (List ℕ) → Request

@@ -39,7 +39,7 @@ pub fn write_leaf<N: Life, J: Entering<N>, R: Wait>(
 ) -> Result<Pos, Fault>
     requires begins { IsPrefix leaf.old.pass.log pass.old.log }
     requires owner { IsSome owner.old }
-    requires writer { IfSome owner.old (IsWriter pass.old.log key.now) }
+    requires writer { IfSome owner.old (IsWriter N.opens pass.old.log key.now) }
     requires leaf { IsLeafOf key.now leaf.old.state }
     requires old { old.now ≡ live (leaf_rows leaf.old.state.rows) key.now }
     requires change { IsTrue (is_change old.now new.now) }
@@ -130,7 +130,7 @@ fn make_write<N: Life>(
 }
 
 /// A put of the new value, or a del where there is none.
-fn request_of(key: &Key, new: &Option<Value>) -> Request
+pub(crate) fn request_of(key: &Key, new: &Option<Value>) -> Request
     ensures { result ≡ request_of key.now new.now }
 {
     match new {
@@ -139,7 +139,7 @@ fn request_of(key: &Key, new: &Option<Value>) -> Request
     }
 }
 
-fn copy_of(value: &Option<Value>) -> Option<Value>
+pub(crate) fn copy_of(value: &Option<Value>) -> Option<Value>
     ensures { result ≡ value.now }
 {
     match value {
