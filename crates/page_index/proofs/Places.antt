@@ -1,15 +1,15 @@
 -- What a change of one page leaves.
-use Rattle.std.proofs.Common.{◌≡◌, ◌≢◌, ℕ, zero, suc, ◌<◌, ◌≤◌, List, [], ◌∷◌, ◌++◌, length, get_or, Option, None, refl, sym, ap, ◌∙◌, subst, arith}
+use Rattle.std.proofs.Common.{◌≡◌, ◌≢◌, ℕ, zero, suc, ◌^◌, ◌<◌, ◌≤◌, List, [], ◌∷◌, ◌++◌, length, get_or, Option, None, refl, sym, ap, ◌∙◌, subst, arith}
 use Rattle.std.specs.Prelude.{IfSome, slice_index_or, slice_set}
 use Rattle.std.proofs.lemmas.List.{get_or-set_same, get_or-set_other, length-set}
 use Rattle.books.specs.Rights.{PageClaim}
 use Rattle.page_index.specs.Index.{Index, for_page, limit_of, IsKept, Rehomes, Notes}
 
 module _ {A : Type 0} where
-  for_page-set_same : (d : A) (xs : List A) (n : ℕ) (x : A) → n < length xs → for_page d (slice_set xs n x) (suc n) ≡ x
+  pub for_page-set_same : (d : A) (xs : List A) (n : ℕ) (x : A) → n < length xs → for_page d (slice_set xs n x) (suc n) ≡ x
   for_page-set_same d xs n x inside = get_or-set_same xs n x d inside
 
-  for_page-set_other : (d : A) (xs : List A) (n : ℕ) (x : A) (q : ℕ) → q ≢ suc n → for_page d (slice_set xs n x) q ≡ for_page d xs q
+  pub for_page-set_other : (d : A) (xs : List A) (n : ℕ) (x : A) (q : ℕ) → q ≢ suc n → for_page d (slice_set xs n x) q ≡ for_page d xs q
   for_page-set_other d xs n x zero apart = refl
   for_page-set_other d xs n x (suc m) apart = get_or-set_other xs n m x d (λ same. apart (ap suc same))
 
@@ -58,7 +58,7 @@ rehomes index page n right is inside =
     })
 
 -- a fact of each element and its place stays so where one element changes
-set-all : {A : Type 0} (P : ℕ → A → Type 0) (d : A) (xs : List A) (n : ℕ) (x : A) → ((i : ℕ) → P i (slice_index_or xs i d)) → P n x → (i : ℕ) → P i (slice_index_or (slice_set xs n x) i d)
+pub set-all : {A : Type 0} (P : ℕ → A → Type 0) (d : A) (xs : List A) (n : ℕ) (x : A) → ((i : ℕ) → P i (slice_index_or xs i d)) → P n x → (i : ℕ) → P i (slice_index_or (slice_set xs n x) i d)
 set-all P d [] n x all here i = all i
 set-all P d (y ∷ ys) zero x all here zero = here
 set-all P d (y ∷ ys) zero x all here (suc i) = all (suc i)
@@ -75,6 +75,7 @@ pub kept-rehomed : (index : Index) (page n : ℕ) (right : Option PageClaim) →
     → IsKept (record { homes = slice_set index.homes n right; written = index.written })
 kept-rehomed index page n right is kept names =
     record {
+      few = let l = length-set index.homes n right in let f = kept.few in omega (arith, l, f);
       pages = kept.pages ∙ sym (length-set index.homes n right);
       homes = homes-set index.homes n right kept.homes (subst (λ (p : ℕ). IfSome right (λ r. r.page ≡ p)) is names);
     }
@@ -94,8 +95,16 @@ notes index page n lsn is inside pages =
     })
 
 pub kept-noted : (index : Index) (n lsn : ℕ) → IsKept index → IsKept (record { homes = index.homes; written = slice_set index.written n lsn })
-kept-noted index n lsn kept = record { pages = length-set index.written n lsn ∙ kept.pages; homes = kept.homes }
+kept-noted index n lsn kept = record { few = kept.few; pages = length-set index.written n lsn ∙ kept.pages; homes = kept.homes }
 
 -- an index whose rights are all out
-pub kept-new : (homes : List (Option PageClaim)) (written : List ℕ) → length written ≡ length homes → ((i : ℕ) → slice_index_or homes i None ≡ None) → IsKept (record { homes = homes; written = written })
-kept-new homes written same out = record { pages = same; homes = λ q. subst (λ (o : Option PageClaim). IfSome o (λ r. r.page ≡ q)) (sym (all-pages None homes out q)) tt }
+pub kept-new : (homes : List (Option PageClaim)) (written : List ℕ) → length homes < 2 ^ 32 → length written ≡ length homes → ((i : ℕ) → slice_index_or homes i None ≡ None) → IsKept (record { homes = homes; written = written })
+kept-new homes written few same out = record { few = few; pages = same; homes = λ q. subst (λ (o : Option PageClaim). IfSome o (λ r. r.page ≡ q)) (sym (all-pages None homes out q)) tt }
+
+-- a list of which each element is the default has it for each page
+pub all-within : {A : Type 0} (d : A) (xs : List A) → ((i : ℕ) → i < length xs → slice_index_or xs i d ≡ d) → (q : ℕ) → for_page d xs q ≡ d
+all-within d [] all zero = refl
+all-within d [] all (suc n) = refl
+all-within d (x ∷ xs) all zero = refl
+all-within d (x ∷ xs) all (suc zero) = all 0 (omega arith)
+all-within d (x ∷ xs) all (suc (suc n)) = all-within d xs (λ i inside. all (suc i) (omega (arith, inside))) (suc n)

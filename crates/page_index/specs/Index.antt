@@ -1,5 +1,5 @@
 -- What an index has for each page.
-use Rattle.std.specs.Prelude.{◌≡◌, ◌≢◌, ℕ, zero, suc, ◌≤◌, List, length, Option, None, IfSome, slice_index_or}
+use Rattle.std.specs.Prelude.{◌≡◌, ◌≢◌, ℕ, zero, suc, ◌^◌, ◌<◌, ◌≤◌, List, length, Option, None, IfSome, slice_index_or}
 use Rattle.books.specs.Rights.{PageClaim}
 
 -- for each page, from 1 on: the right to it, if it is at home, and the LSN as which it was last written, 0 before
@@ -27,8 +27,9 @@ limit_of index = length index.homes
 abbrev pub IsIn : Index → ℕ → Type 0
 IsIn index page = (1 ≤ page) × (page ≤ limit_of index)
 
--- a right at home is that of the page that has it, and both lists have the same pages
+-- A right at home is that of the page that has it, and both lists have the same pages, whose numbers have 32 bits.
 pub record IsKept (index : Index) : Type 0 where
+  pub few : limit_of index < 2 ^ 32
   pub pages : length index.written ≡ limit_of index
   pub homes : (page : ℕ) → IfSome (home_of index page) (λ right. right.page ≡ page)
 
@@ -45,3 +46,8 @@ pub record Notes (old new : Index) (page lsn : ℕ) : Type 0 where
   pub written : written_of new page ≡ lsn
   pub others : (q : ℕ) → q ≢ page → written_of new q ≡ written_of old q
   pub homes : (q : ℕ) → home_of new q ≡ home_of old q
+
+-- no page is written, and all else is as before
+pub record Forgets (old new : Index) : Type 0 where
+  pub homes : new.homes ≡ old.homes
+  pub written : (page : ℕ) → written_of new page ≡ 0

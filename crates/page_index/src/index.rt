@@ -1,6 +1,6 @@
 //! Where each page's right is, and what was written of the page last.
 ghost use Rattle.std.specs.Prelude.{◌≡◌, ℕ, suc, ◌<◌, ◌≤◌, IfOk, IfSome, IfNone, Some, None};
-ghost use Rattle.page_index.specs.Index.{home_of, written_of, limit_of, IsIn, Rehomes, Notes};
+ghost use Rattle.page_index.specs.Index.{home_of, written_of, limit_of, Forgets, IsIn, Rehomes, Notes};
 
 use books::{BookNames, PageRight};
 use std::alloc::Global;
@@ -40,6 +40,13 @@ impl<N: BookNames> PageIndex<N> {
         Ok(PageIndex { homes, written })
     }
 
+    /// How many pages it has.
+    pub fn limit(&self) -> u32
+        ensures { result ≡ limit_of self.now }
+    {
+        self.homes.len() as u32
+    }
+
     /// The right to the page, if it is at home. It is then out.
     pub fn take_right(&mut self, page: PageNo) -> Option<PageRight<N>>
         ensures right { result ≡ home_of self.old page }
@@ -76,6 +83,15 @@ impl<N: BookNames> PageIndex<N> {
         match self.place_of(page) {
             Some(place) => self.written[place],
             None => 0,
+        }
+    }
+
+    /// No page is written, as behind the loss of the device.
+    pub fn forget_written(&mut self)
+        ensures { Forgets self.old self.new }
+    {
+        for written in self.written.iter_mut() {
+            *written = 0;
         }
     }
 

@@ -1,5 +1,5 @@
 -- What a supply of pages makes ready and rebuilds.
-use Rattle.std.specs.Prelude.{◌≡◌, ◌≢◌, ◌⊎◌, ℕ, ◌≤◌, List, length, take, Option, Some, Bool, true, false, ◌==◌, IsTrue}
+use Rattle.std.specs.Prelude.{◌≡◌, ℕ, ◌≤◌, List, length, take, Some, Bool, true, false, ◌==◌, IsTrue}
 use Rattle.std.specs.List.{list_any}
 use Rattle.wal_record.specs.State.{KeepsState}
 use Rattle.wal_record.specs.Chains.{head, names_at}
@@ -22,15 +22,6 @@ pub record IsSealed (log : List Record) (page : ℕ) (bytes : List ℕ) : Type 0
   pub state : PageState
   pub image : image (take upto log) page ≡ Some state
   pub sealed : bytes ≡ image_bytes page (head (take upto log) page) state
-
--- A device has new images of this page's segment alone, each sealed by the log after this history.
-pub record Restores {D : Type 0} (opens : List Record → Type 0) (told : D → ℕ → List ℕ → Type 0) (newest : D → ℕ → Option (List ℕ)) (h : List Entry) (page : ℕ) (old new : D) : Type 0 where
-  pub images : (p : ℕ) (bytes : List ℕ) → told new p bytes → told old p bytes ⊎ ((segment_of p ≡ segment_of page) × ((opening : List Record) → opens opening → IsSealed (life_log opening h) p bytes))
-  pub others : (p : ℕ) → segment_of p ≢ segment_of page → newest new p ≡ newest old p
-
--- pages of other segments stay spoiled
-abbrev pub KeepsSpoiled : {D : Type 0} → (D → ℕ → Type 0) → ℕ → D → D → Type 0
-KeepsSpoiled {D} spoiled page old new = (p : ℕ) → segment_of p ≢ segment_of page → spoiled old p → spoiled new p
 
 -- the page's segment needs no restore
 abbrev pub IsReady : (List Record → Type 0) → List Entry → ℕ → Type 0

@@ -41,4 +41,8 @@ pub trait Images<N: Life> {
         requires written { IsWritten N.opens pass.old page bytes.now }
         ensures seen { IsPrefix pass.old.log pass.new.log × (pass.old.durable ≤ pass.new.durable) }
         ensures cause { HasCause faults self.old self.new result };
+
+    /// An empty device takes its place. After `Failed` the old images may stay.
+    fn replace<R: Wait>(&mut self, rt: &R) -> Result<(), Failed>
+        ensures cause { HasCause faults self.old self.new result };
 }

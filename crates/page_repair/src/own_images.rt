@@ -46,6 +46,14 @@ impl<'a, D: PageDevice, N: Life> OwnImages<'a, D, N> {
             pass,
         }
     }
+
+    /// The device.
+    pub fn into_device(self) -> D
+        ensures { result ≡ self.entry }
+    {
+        let OwnImages { device, .. } = self;
+        device
+    }
 }
 
 impl<'a, D: PageDevice, N: Life> Images<N> for OwnImages<'a, D, N> {
@@ -73,5 +81,9 @@ impl<'a, D: PageDevice, N: Life> Images<N> for OwnImages<'a, D, N> {
         let known = pass.copy(&self.ground.board);
         self.pass.meet(&self.ground.board, known);
         self.device.write(page, bytes)
+    }
+
+    fn replace<R: Wait>(&mut self, _rt: &R) -> Result<(), Failed> {
+        self.device.replace()
     }
 }

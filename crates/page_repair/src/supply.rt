@@ -4,19 +4,19 @@ ghost use Rattle.page_ops.specs.Causes.{FailsToBring, MeetsNoEnd};
 ghost use Rattle.page_ops.specs.Claims.{no_claims};
 ghost use Rattle.page_ops.specs.Desks.{Faults, IsMade, KeepsFaults};
 ghost use Rattle.page_ops.specs.Seeing.{Upholds, is_none, known};
-ghost use Rattle.page_repair.specs.Supplies.{IsBase, IsHead, IsReady, IsRebuilt, KeepsSpoiled, Restores, is_restored};
+ghost use Rattle.page_repair.specs.Supplies.{IsBase, IsHead, IsReady, IsRebuilt, is_restored};
 
+use crate::images::Images;
 use front::Pass;
-use media::PageDevice;
 use page_image::Sealed;
-use page_ops::{Journaling, Life};
+use page_ops::{Entering, Life};
 use std::alloc::Global;
 use std::sync::Wait;
 use store_model::{Fault, Lsn, PageNo};
 use wal_record::Entry;
 
 /// What a pool needs beside its data device.
-pub trait Supply<N: Life, J: Journaling<N>> {
+pub trait Supply<N: Life, J: Entering<N>> {
     /// How many faults of the log disk and of the vault came at device calls made through it.
     ghost faults: { Self → Faults };
 
@@ -28,22 +28,20 @@ pub trait Supply<N: Life, J: Journaling<N>> {
     fn vault_faults(&self) -> u64
         ensures { result ≡ min (faults self.now).vault (2 ^ 64 - 1) };
 
-    /// Restores the page's segment onto the device, if it is unrestored, and enters that. It writes images of that segment
-    /// alone, each as the log has it.
-    fn ready<D: PageDevice, R: Wait>(
+    /// Restores the page's segment onto the data device, if it is unrestored, and enters that. Each image that it writes is
+    /// one of the log.
+    fn ready<I: Images<N>, R: Wait>(
         &mut self,
         rt: &R,
         alloc: Global,
         journal: &mut J,
-        device: &mut D,
+        images: &mut I,
         page: PageNo,
         pass: &mut Pass<Entry, N>,
     ) -> Result<(), Fault>
         requires made { IsMade N.opens pass.old.log page }
         ensures ready { OnOk result (IsReady N.opens pass.new.log page) }
-        ensures images { D.tells → Restores N.opens D.told D.newest pass.new.log page device.old device.new }
-        ensures spoiled { D.tells → KeepsSpoiled D.spoiled page device.old device.new }
-        ensures device { D.faults device.old ≤ D.faults device.new }
+        ensures images { I.faults images.old ≤ I.faults images.new }
         ensures faults { KeepsFaults (faults self.old) (faults self.new) }
         ensures entered { Upholds N.opens N.entries N.session_entries is_restored (known (J.account journal.old) pass.old no_claims) (known (J.account journal.new) pass.new no_claims) }
         ensures open { OnOk result (MeetsNoEnd (J.account journal.old) (J.account journal.new)) }

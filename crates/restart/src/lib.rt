@@ -10,6 +10,7 @@
 //! - [`choose`] names the step of maintenance that goes first, exactly (`specs/Steps`).
 #![tactic(auto)]
 
+mod flags;
 mod plan;
 mod step;
 

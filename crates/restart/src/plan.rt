@@ -1,24 +1,29 @@
 //! Which pages await redo.
-ghost use Rattle.std.specs.Prelude.{◌≡◌, ◌<◌, suc, false, length, map, IfOk, IfSome, IfNone};
+ghost use Rattle.std.specs.Prelude.{◌≡◌, ◌<◌, ◌≤◌, suc, length, map, IfOk, IfSome, IfNone};
 ghost use Rattle.restart.specs.Plans.{awaits, is_behind, Comes};
 
+use crate::flags::{clear_flag, flag, no_flags, set_flag};
 use std::alloc::Global;
 use std::marker::Model;
 use store_model::{Memory, PageNo};
 use wal_record::Analysis;
 
-/// The pages that await redo. It has a place for each page that the log had made, at most 16,384.
+/// The pages that await redo, a bit for each page that the log had made.
 #[derive(Drop)]
 pub struct RestartPlan {
-    awaits: Vec<bool>,
+    words: Vec<u64>,
+    pages: usize,
 }
 
 impl Model for RestartPlan {
-    ghost use Rattle.std.specs.Prelude.{List, Bool};
+    ghost use Rattle.std.specs.Prelude.{◌*◌, ◌≤◌, length, List, Bool};
+    ghost use Rattle.restart.specs.Plans.{flags};
 
     ghost Value = { List Bool };
 
-    ghost view = { λ p. p.awaits.items };
+    ghost view = { λ p. flags p.pages p.words.items };
+
+    ghost invariant = { λ p. p.pages ≤ 64 * length p.words.items };
 }
 
 impl RestartPlan {
@@ -26,11 +31,17 @@ impl RestartPlan {
     pub fn new(alloc: Global, analysis: &Analysis) -> Result<RestartPlan, Memory>
         ensures { IfOk result (λ p. p ≡ map is_behind analysis.now.heads) }
     {
-        let mut awaits = Vec::new(alloc);
-        for head in analysis.heads.as_slice() {
-            awaits.push(head.written < head.head)?;
+        let heads = analysis.heads.as_slice();
+        let mut words = no_flags(alloc, heads.len())?;
+        for (place, head) in heads.iter().enumerate() {
+            if head.written < head.head {
+                set_flag(words.as_mut_slice(), place);
+            }
         }
-        Ok(RestartPlan { awaits })
+        Ok(RestartPlan {
+            words,
+            pages: heads.len(),
+        })
     }
 
     /// Whether the page awaits redo. A page that the log hadn't made doesn't.
@@ -38,7 +49,7 @@ impl RestartPlan {
         ensures { result ≡ awaits self.now page }
     {
         match self.place_of(page) {
-            Some(place) => self.awaits[place],
+            Some(place) => flag(self.words.as_slice(), place),
             None => false,
         }
     }
@@ -48,17 +59,18 @@ impl RestartPlan {
         ensures { Comes page self.old self.new }
     {
         if let Some(place) = self.place_of(page) {
-            self.awaits[place] = false;
+            clear_flag(self.words.as_mut_slice(), place);
         }
     }
 
     /// Where the plan has the page, if it has it.
     fn place_of(&self, page: PageNo) -> Option<usize>
-        ensures inside { IfSome result (λ place. (page ≡ suc place) × (place < length self.now)) }
-        ensures outside { IfNone result (awaits self.now page ≡ false) }
+        ensures page { IfSome result (λ place. page ≡ suc place) }
+        ensures inside { IfSome result (λ place. place < length self.now) }
+        ensures outside { IfNone result (1 ≤ page → length self.now < page) }
     {
         let place = (page as usize).checked_sub(1)?;
-        if place < self.awaits.len() {
+        if place < self.pages {
             Some(place)
         } else {
             None

@@ -1,0 +1,4 @@
+pub mod Changes
+pub mod Serving
+pub mod Entering
+pub mod Storing

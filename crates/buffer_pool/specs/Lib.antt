@@ -1,0 +1,5 @@
+pub mod Tables
+pub mod Bases
+pub mod Hands
+pub mod Repairs
+pub mod Writes

@@ -1,0 +1,40 @@
+-- What a page that is written to the data device enters, and what becomes of it.
+use Rattle.std.specs.Prelude.{◌≡◌, ◌⊎◌, ℕ, List, [], ◌∷◌, Bool, true, false, Result, Ok, Err, None}
+use Rattle.store_model.specs.declared.fault.Fault.{Fault}
+use Rattle.wal_record.specs.declared.record.Record.{Record}
+use Rattle.wal_record.specs.declared.record.Record.TheVariants as kinds
+use Rattle.wal_record.specs.declared.entry.Entry.{Entry}
+use Rattle.wal_record.specs.declared.entry.Entry.TheVariants as entries
+use Rattle.page_ops.specs.Desks.{Faults}
+use Rattle.page_ops.specs.Hands.{Hand}
+use Rattle.page_ops.specs.Names.{LedgerName}
+use Rattle.page_ops.specs.Gains.{Gains}
+use Rattle.page_ops.specs.Seeing.{Known}
+use Rattle.page_ops.specs.declared.group.Group.{Group}
+
+-- of a call that makes no device calls of its own but on the data device
+abbrev pub no_faults : Faults
+no_faults = record { log = 0; vault = 0 }
+
+abbrev pub written_of : ℕ → ℕ → Record
+written_of page lsn = kinds.Written (record { page = page; lsn = lsn })
+
+abbrev pub written_group : ℕ → ℕ → Group
+written_group page lsn = record { recs = written_of page lsn ∷ []; said = None; room = false; lsn = 0 }
+
+-- that the page was written as this LSN, where it was
+abbrev pub written_entries : ℕ → ℕ → Result Bool Fault → ℕ → List Entry
+written_entries page lsn (Ok true) at = entries.Rec at (written_of page lsn) ∷ []
+written_entries page lsn (Ok false) at = []
+written_entries page lsn (Err fault) at = []
+
+-- that, and nothing else, was entered by this call
+pub record EntersWritten (opens : List Record → Type 0) (ledger sessions : LedgerName) (page lsn : ℕ) (result : Result Bool Fault) (old new : Known) : Type 0 where
+  pub at : ℕ
+  pub gains : Gains opens ledger sessions (written_entries page lsn result at) old new
+
+-- a page that was written is clean; else it is as before
+abbrev pub IsWrittenAs : Result Bool Fault → Hand → Hand → Type 0
+IsWrittenAs (Ok true) old new = new ≡ record old { dirty = false }
+IsWrittenAs (Ok false) old new = new ≡ old
+IsWrittenAs (Err fault) old new = new ≡ old

@@ -1,0 +1,163 @@
+//! Pages into their frames, and out to the data device.
+ghost use Rattle.std.specs.Prelude.{◌≡◌, true, false, IfErr, OnErr, OnOk};
+ghost use Rattle.page_ops.specs.Causes.{FailsToBring, FailsToReserve, MeetsNoEnd};
+ghost use Rattle.page_ops.specs.Claims.{IsInRange, no_claims};
+ghost use Rattle.page_ops.specs.Desks.{KeepsFaults};
+ghost use Rattle.page_ops.specs.Seeing.{Upholds, is_upkeep, known};
+ghost use Rattle.buffer_pool.specs.Tables.{HasFrame, SendsHome, Stays, Stores, frame_of, is_dirty, is_full};
+ghost use Rattle.buffer_pool.specs.Writes.{no_faults};
+
+use crate::bringing::{anew, brought};
+use crate::frames::Frames;
+use crate::writing::write_page;
+use books::PageRight;
+use front::Pass;
+use page_ops::{Entering, Held, Life, Rights, Taken};
+use page_repair::{Images, Supply};
+use std::alloc::Global;
+use std::sync::Wait;
+use store_model::{Fault, PageNo};
+use wal_record::Entry;
+
+/// Brings the page into its frame, where it isn't there. After a refusal each frame is as before and each right where it was.
+/// A page whose right is neither at home nor with a page in its frame can't be brought.
+pub(crate) fn fetch<N: Life, J: Entering<N>, I: Images<N>, S: Supply<N, J>, R: Wait>(
+    rt: &R,
+    alloc: Global,
+    journal: &mut J,
+    images: &mut I,
+    supply: &mut S,
+    frames: &mut Frames<N>,
+    page: PageNo,
+    pass: &mut Pass<Entry, N>,
+) -> Result<(), Fault>
+    ensures framed { OnOk result (is_full (frame_of frames.new page) ≡ true) }
+    ensures same { OnErr result (Stays frames.old frames.new) }
+    ensures entered { Upholds N.opens N.entries N.session_entries is_upkeep (known (J.account journal.old) pass.old no_claims) (known (J.account journal.new) pass.new no_claims) }
+    ensures faults { KeepsFaults (S.faults supply.old) (S.faults supply.new) }
+    ensures open { OnOk result (MeetsNoEnd (J.account journal.old) (J.account journal.new)) }
+    ensures refused { IfErr result (FailsToBring N.opens N.log_faults N.made (S.faults supply.old) (S.faults supply.new) (J.account journal.old) (J.account journal.new) pass.new.log) }
+{
+    let Some(right) = frames.call_out(page) else {
+        journal.see(rt, &mut Rights::none(), pass);
+        return if frames.is_full(page) {
+            Ok(())
+        } else {
+            Err(Fault::Memory)
+        };
+    };
+    let lsn = right.lsn();
+    let mut rights = Rights::none();
+    rights.a = Some(right);
+    match brought(
+        rt,
+        alloc,
+        journal,
+        images,
+        supply,
+        &mut rights,
+        page,
+        lsn,
+        pass,
+    ) {
+        Ok(held) => {
+            frames.put(held);
+            Ok(())
+        }
+        Err(fault) => {
+            let Some(right) = rights.a.take() else {
+                unreachable!()
+            };
+            frames.send_home(right);
+            Err(fault)
+        }
+    }
+}
+
+/// Brings the page in hand anew, without a look at the data device. After a refusal its right is at home.
+pub(crate) fn fetch_anew<N: Life, J: Entering<N>, S: Supply<N, J>, R: Wait>(
+    rt: &R,
+    alloc: Global,
+    journal: &mut J,
+    supply: &mut S,
+    frames: &mut Frames<N>,
+    held: Held<N>,
+    pass: &mut Pass<Entry, N>,
+) -> Result<(), Fault>
+    ensures framed { OnOk result (HasFrame frames.old held.page → is_full (frame_of frames.new held.page) ≡ true) }
+    ensures home { OnErr result (SendsHome (record { page = held.page; lsn = held.lsn }) frames.old frames.new) }
+    ensures entered { Upholds N.opens N.entries N.session_entries is_upkeep (known (J.account journal.old) pass.old no_claims) (known (J.account journal.new) pass.new no_claims) }
+    ensures faults { KeepsFaults (S.faults supply.old) (S.faults supply.new) }
+    ensures open { OnOk result (MeetsNoEnd (J.account journal.old) (J.account journal.new)) }
+    ensures refused { IfErr result (FailsToBring N.opens N.log_faults N.made (S.faults supply.old) (S.faults supply.new) (J.account journal.old) (J.account journal.new) pass.new.log) }
+{
+    let page = held.page;
+    let lsn = held.lsn;
+    let mut rights = Rights::none();
+    rights.a = Some(into_right(held));
+    match anew(rt, alloc, journal, supply, &mut rights, page, lsn, pass) {
+        Ok(held) => {
+            frames.put(held);
+            Ok(())
+        }
+        Err(fault) => {
+            let Some(right) = rights.a.take() else {
+                unreachable!()
+            };
+            frames.send_home(right);
+            Err(fault)
+        }
+    }
+}
+
+/// The right to the page in hand, which is dropped.
+fn into_right<N: Life>(held: Held<N>) -> PageRight<N>
+    ensures right { result ≡ record { page = held.page; lsn = held.lsn } }
+    ensures range { IsInRange result }
+{
+    let Held { right, .. } = held;
+    let Some(right) = right else { unreachable!() };
+    right
+}
+
+/// Writes the page to the data device, if it is in its frame and dirty. Where the device fails the page is dropped, and no
+/// answer tells of it. After a refusal each frame is as before.
+pub(crate) fn store<N: Life, J: Entering<N>, I: Images<N>, R: Wait>(
+    rt: &R,
+    alloc: Global,
+    journal: &mut J,
+    images: &mut I,
+    frames: &mut Frames<N>,
+    page: PageNo,
+    pass: &mut Pass<Entry, N>,
+) -> Result<(), Fault>
+    ensures clean { OnOk result (is_dirty (frame_of frames.new page) ≡ false) }
+    ensures stored { OnOk result (Stores page frames.old frames.new) }
+    ensures same { OnErr result (Stays frames.old frames.new) }
+    ensures entered { Upholds N.opens N.entries N.session_entries is_upkeep (known (J.account journal.old) pass.old no_claims) (known (J.account journal.new) pass.new no_claims) }
+    ensures open { OnOk result (MeetsNoEnd (J.account journal.old) (J.account journal.new)) }
+    ensures refused { IfErr result (FailsToReserve N.opens N.log_faults N.made no_faults no_faults (J.account journal.old) (J.account journal.new) pass.new.log) }
+{
+    if !frames.is_dirty(page) {
+        journal.see(rt, &mut Rights::none(), pass);
+        return Ok(());
+    }
+    let Taken::Page(mut held) = frames.try_take(page) else {
+        unreachable!()
+    };
+    match write_page(rt, alloc, journal, images, &mut held, pass) {
+        Ok(true) => {
+            frames.note_written(page, held.lsn);
+            frames.put(held);
+            Ok(())
+        }
+        Ok(false) => {
+            frames.send_home(into_right(held));
+            Ok(())
+        }
+        Err(fault) => {
+            frames.put(held);
+            Err(fault)
+        }
+    }
+}

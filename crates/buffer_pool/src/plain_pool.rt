@@ -1,0 +1,214 @@
+//! The pool of one thread.
+ghost use Rattle.std.specs.Prelude.{◌≡◌, false, ℕ, IfErr, IfOk, IfSome, OnErr, OnOk};
+ghost use Rattle.page_index.specs.Index.{home_of};
+ghost use Rattle.page_ops.specs.Causes.{FailsToReserve, MeetsNoEnd};
+ghost use Rattle.page_ops.specs.Claims.{IsInRange, no_claims};
+ghost use Rattle.page_ops.specs.Seeing.{Upholds, is_upkeep, known};
+ghost use Rattle.buffer_pool.specs.Tables.{IsNextDirty, Stays, Stores, frame_of, is_dirty};
+ghost use Rattle.buffer_pool.specs.Writes.{no_faults};
+ghost use Rattle.buffer_pool.specs.declared.frame.Frame.TheVariants.{Empty};
+
+use crate::frames::Frames;
+use crate::moving::{fetch, fetch_anew, store};
+use front::Pass;
+use page_index::PageIndex;
+use page_ops::{Entering, Held, Life, Pages, Rights, Taken};
+use page_repair::{Images, Supply};
+use std::alloc::Global;
+use std::sync::Wait;
+use store_model::{Fault, PageNo};
+use wal_record::Entry;
+
+/// A pool that one thread owns, over a data device and a supply of pages. It has a frame for each page, and one more for a
+/// page to be made, so that nobody waits for a frame.
+#[derive(Drop)]
+pub struct PlainPool<I, S, N: Life> {
+    images: I,
+    supply: S,
+    frames: Frames<N>,
+    out: u32,
+    reserves: bool,
+}
+
+/// There was no memory for a pool. Here are its parts.
+#[derive(Drop)]
+pub struct PoolRefused<I, S> {
+    pub images: I,
+    pub supply: S,
+}
+
+impl<I, S, N: Life> PlainPool<I, S, N> {
+    /// No page is in its frame.
+    pub fn new(
+        alloc: Global,
+        images: I,
+        supply: S,
+        index: PageIndex<N>,
+    ) -> Result<PlainPool<I, S, N>, PoolRefused<I, S>>
+        requires rights { (page : ℕ) → IfSome (home_of index page) IsInRange }
+        ensures none { IfOk result (λ pool. (pool.out ≡ 0) × (pool.reserves ≡ false)) }
+        ensures empty { IfOk result (λ pool. (page : ℕ) → frame_of pool.frames page ≡ Empty) }
+        ensures index { IfOk result (λ pool. pool.frames.index ≡ index) }
+        ensures parts { IfOk result (λ pool. (pool.images ≡ images) × (pool.supply ≡ supply)) }
+        ensures refused { IfErr result (λ parts. (parts.images ≡ images) × (parts.supply ≡ supply)) }
+    {
+        match Frames::new(alloc, index) {
+            Ok(frames) => Ok(PlainPool {
+                images,
+                supply,
+                frames,
+                out: 0,
+                reserves: false,
+            }),
+            Err(_) => Err(PoolRefused { images, supply }),
+        }
+    }
+
+    /// The data device and the supply.
+    pub fn into_parts(self) -> (I, S)
+        ensures { (result.0 ≡ self.images) × (result.1 ≡ self.supply) }
+    {
+        let PlainPool { images, supply, .. } = self;
+        (images, supply)
+    }
+
+    /// The least page above this one that is dirty in its frame.
+    pub fn next_dirty(&self, after: PageNo) -> Option<PageNo>
+        ensures { IsNextDirty self.now.frames after result }
+    {
+        self.frames.next_dirty(after)
+    }
+}
+
+impl<I: Images<N>, S, N: Life> PlainPool<I, S, N> {
+    /// Writes the page to the data device, if it is in its frame and dirty, once the log is durable up to its LSN. Where the
+    /// device fails the page is dropped, and no answer tells of it.
+    pub fn write_out<J: Entering<N>, R: Wait>(
+        &mut self,
+        rt: &R,
+        alloc: Global,
+        journal: &mut J,
+        page: PageNo,
+        pass: &mut Pass<Entry, N>,
+    ) -> Result<(), Fault>
+        ensures clean { OnOk result (is_dirty (frame_of self.new.frames page) ≡ false) }
+        ensures stored { OnOk result (Stores page self.old.frames self.new.frames) }
+        ensures same { OnErr result (Stays self.old.frames self.new.frames) }
+        ensures others { (self.new.out ≡ self.old.out) × (self.new.reserves ≡ self.old.reserves) × (self.new.supply ≡ self.old.supply) }
+        ensures entered { Upholds N.opens N.entries N.session_entries is_upkeep (known (J.account journal.old) pass.old no_claims) (known (J.account journal.new) pass.new no_claims) }
+        ensures open { OnOk result (MeetsNoEnd (J.account journal.old) (J.account journal.new)) }
+        ensures refused { IfErr result (FailsToReserve N.opens N.log_faults N.made no_faults no_faults (J.account journal.old) (J.account journal.new) pass.new.log) }
+    {
+        store(
+            rt,
+            alloc,
+            journal,
+            &mut self.images,
+            &mut self.frames,
+            page,
+            pass,
+        )
+    }
+}
+
+impl<N: Life, J: Entering<N>, I: Images<N>, S: Supply<N, J>> Pages<N, J> for PlainPool<I, S, N> {
+    ghost desk = { λ p. record { out = p.out; reserves = p.reserves; faults = S.faults p.supply } };
+
+    fn out(&self) -> u32 {
+        self.out
+    }
+
+    fn log_faults(&self) -> u64 {
+        self.supply.log_faults()
+    }
+
+    fn vault_faults(&self) -> u64 {
+        self.supply.vault_faults()
+    }
+
+    fn try_take<R: Wait>(&mut self, _rt: &R, page: PageNo) -> Taken<Held<N>> {
+        let taken = self.frames.try_take(page);
+        if let Taken::Page(_) = &taken {
+            self.out += 1;
+        }
+        taken
+    }
+
+    fn wait_for<R: Wait>(&mut self, _rt: &R, _page: PageNo) {}
+
+    fn bring<R: Wait>(
+        &mut self,
+        rt: &R,
+        alloc: Global,
+        journal: &mut J,
+        page: PageNo,
+        pass: &mut Pass<Entry, N>,
+    ) -> Result<(), Fault> {
+        fetch(
+            rt,
+            alloc,
+            journal,
+            &mut self.images,
+            &mut self.supply,
+            &mut self.frames,
+            page,
+            pass,
+        )
+    }
+
+    fn renew<R: Wait>(
+        &mut self,
+        rt: &R,
+        alloc: Global,
+        journal: &mut J,
+        held: &mut Option<Held<N>>,
+        pass: &mut Pass<Entry, N>,
+    ) -> Result<(), Fault> {
+        let Some(held) = held.take() else {
+            unreachable!()
+        };
+        self.out -= 1;
+        fetch_anew(
+            rt,
+            alloc,
+            journal,
+            &mut self.supply,
+            &mut self.frames,
+            held,
+            pass,
+        )
+    }
+
+    fn put_back<R: Wait>(&mut self, _rt: &R, held: &mut Option<Held<N>>) {
+        let Some(held) = held.take() else {
+            unreachable!()
+        };
+        self.frames.put(held);
+        self.out -= 1;
+    }
+
+    #[tactic(auto, using(page_ops::proofs::Gaining::upheld, page_ops::proofs::Gaining::looked))]
+    fn reserve_new<R: Wait>(
+        &mut self,
+        rt: &R,
+        _alloc: Global,
+        journal: &mut J,
+        pass: &mut Pass<Entry, N>,
+    ) -> Result<(), Fault> {
+        journal.see(rt, &mut Rights::none(), pass);
+        self.reserves = true;
+        Ok(())
+    }
+
+    fn put_new<R: Wait>(&mut self, _rt: &R, held: &mut Option<Held<N>>) {
+        let Some(held) = held.take() else {
+            unreachable!()
+        };
+        self.frames.put(held);
+        self.reserves = false;
+    }
+
+    fn drop_new<R: Wait>(&mut self, _rt: &R) {
+        self.reserves = false;
+    }
+}
