@@ -324,7 +324,7 @@ no_entry_none page at (c ∷ cs) none =
     ap (λ (b : Bool). cond b c.items (items_on page cs)) (not_eq c.page page (none 0 e (omega arith))) ∙ no_entry_none page next cs (λ k d lt. none (suc k) d (omega arith))
 
 module _ (run first last : ℕ) (chunks : List Chunk) (bytes : List ℕ) (is : IsRun run first last chunks bytes) (r : run < 2 ^ 64) (o : Outline) (reads : run_at run bytes ≡ Ok o) where
-  outline_is : o ≡ record { head = record { first = first; last = last; pages = length chunks }; entries = directory (32 + 16 * length chunks) chunks }
+  pub outline_is : o ≡ record { head = record { first = first; last = last; pages = length chunks }; entries = directory (32 + 16 * length chunks) chunks }
   outline_is = ok_is _ _ (sym reads ∙ run_again run first last chunks bytes is r)
 
   pub pages_are : o.head.pages ≡ length chunks

@@ -5,3 +5,4 @@ pub mod Gathering
 pub mod Judging
 pub mod Loops
 pub mod Made
+pub mod Merged

@@ -1,14 +1,17 @@
 -- A run that is made of records: it keeps its form, and has of each page exactly the records that name it.
-use Rattle.std.proofs.Common.{◌≡◌, ◌≢◌, inl, inr, ℕ, zero, suc, ◌+◌, ◌-◌, ◌^◌, ◌<◌, ◌≤◌, Bool, true, false, cond, List, [], ◌∷◌, ◌++◌, length, refl, ap, ◌∙◌, arith}
+use Rattle.std.proofs.Common.{◌≡◌, ◌≢◌, inl, inr, ℕ, zero, suc, ◌+◌, ◌-◌, ◌^◌, ◌<◌, ◌≤◌, Bool, true, false, cond, List, [], ◌∷◌, ◌++◌, length, refl, sym, ap, ◌∙◌, arith}
 use Rattle.std.specs.Prelude.{IsTrue, flat_map}
 use Rattle.std.specs.List.{All, range_with_len}
 use Rattle.std.proofs.lemmas.Bool.{cases_lt}
 use Rattle.std.proofs.lemmas.Bool.Decides.{nat_tests}
+use Rattle.std.proofs.lemmas.List.{append-nil}
+use Rattle.std.proofs.lemmas.List.Elements.{filter-append}
 use Rattle.vault_objects.proofs.Numbers.{is_eq}
 use Rattle.wal_record.specs.Chains.{names}
 use Rattle.wal_record.specs.Rules.{HasSpelling, is_number, is_page}
 use Rattle.wal_record.specs.declared.record.Record.{Record}
 use Rattle.log_archive.specs.Items.{Chunk, chunk, chunks_by, chunks_of, chunks_upto, items_on, numbered, on_page}
+use Rattle.log_archive.specs.Merging.{items_in}
 use Rattle.log_archive.specs.Run.{AreChunks, AreItems, IsRun, run_bytes}
 use Rattle.log_archive.specs.declared.item.Numbered.{Numbered}
 use Rattle.log_archive.proofs.Loops.{not_eq}
@@ -88,3 +91,29 @@ made_is_run run first last rs f l le count spelled short = record {
   spelled = refl;
   short = short;
 }
+
+-- ---- merges
+
+numbered_append : (first : ℕ) (rs more : List Record) → numbered first (rs ++ more) ≡ numbered first rs ++ numbered (first + length rs) more
+numbered_append first [] more = let e : first ≡ first + 0 = omega arith in ap (λ (n : ℕ). numbered n more) e
+numbered_append first (r ∷ rs) more =
+    let e : suc first + length rs ≡ first + suc (length rs) = omega arith in
+    ap (λ (l : List Numbered). record { lsn = first; rec = r } ∷ l) (numbered_append (suc first) rs more ∙ ap (λ (n : ℕ). numbered (suc first) rs ++ numbered n more) e)
+
+module _ (f g : ℕ → List Numbered) (same : (p : ℕ) → IsTrue (is_page p) → f p ≡ g p) where
+  same_range : (a n : ℕ) → 1 ≤ a → a + n ≤ 16385 → flat_map (λ p. chunk p (f p)) (range_with_len a n) ≡ flat_map (λ p. chunk p (g p)) (range_with_len a n)
+  same_range a zero one le = refl
+  same_range a (suc n) one le =
+      ap (λ (l : List Numbered). chunk a l ++ flat_map (λ p. chunk p (f p)) (range_with_len (a + 1) n)) (same a (page_is a one (omega arith)))
+      ∙ ap (λ (l : List Chunk). chunk a (g a) ++ l) (same_range (a + 1) n (omega arith) (omega arith))
+
+  pub same_chunks : chunks_by f ≡ chunks_by g
+  unfolding chunks_by chunks_upto
+  same_chunks = same_range 1 16384 (omega arith) (omega arith)
+
+pub merged_is : (first : ℕ) (rs more : List Record) → chunks_by (items_in (chunks_of (numbered first rs) ∷ chunks_of (numbered (first + length rs) more) ∷ [])) ≡ chunks_of (numbered first (rs ++ more))
+merged_is first rs more = same_chunks _ _ (λ p is.
+    let one = on_all (λ q. on_page q (numbered first rs)) p is in
+    let two = on_all (λ q. on_page q (numbered (first + length rs) more)) p is in
+    (λ i. one i ++ (two i ++ [])) ∙ ap (λ (l : List Numbered). on_page p (numbered first rs) ++ l) (append-nil (on_page p (numbered (first + length rs) more)))
+    ∙ sym (filter-append (λ (x : Numbered). names p x.rec) (numbered first rs) (numbered (first + length rs) more)) ∙ ap (on_page p) (sym (numbered_append first rs more)))

@@ -4,3 +4,4 @@ pub mod Reading
 pub mod Shelves
 pub mod Reads
 pub mod Answers
+pub mod Merging

@@ -10,8 +10,9 @@
 //! exactly the records of its range that name a page. [`records_of`] and [`items_of`] give of an object in its form the
 //! records of a page from an LSN on, and the number of bytes of its items. An object that isn't in its form is named with
 //! the start of its first faulty field, and one without the records that are asked for with its number of pages.
-//! [`runs_law`] ties the two: what is made keeps the form, and has of each page the records that name it. [`Reads`] is the
-//! log that an archive reads.
+//! [`merge_runs`] leaves the synced run of the joined range, page by page. [`runs_law`] ties them: what is made keeps the form, and has
+//! of each page the records that name it; by [`merging_law`] a merge of two neighbours is the run of both ranges. [`Reads`]
+//! is the log that an archive reads.
 #![tactic(auto)]
 
 mod directory;
@@ -21,6 +22,7 @@ mod items;
 mod laws;
 mod layout;
 mod making;
+mod merging;
 mod name;
 mod object;
 mod outline;
@@ -30,7 +32,8 @@ mod shelf;
 
 pub use directory::{Entry, Head, Outline};
 pub use item::Numbered;
-pub use laws::runs_law;
+pub use laws::{merging_law, runs_law};
 pub use making::make_run;
+pub use merging::merge_runs;
 pub use reads::Reads;
 pub use records::{items_of, records_of};

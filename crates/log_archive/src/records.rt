@@ -63,7 +63,7 @@ fn append(out: &mut Vec<Numbered>, found: Vec<Numbered>) -> Result<(), Fault>
 }
 
 /// The head and the directory of the run with these bytes.
-fn outline_of(alloc: Global, run: u64, bytes: &[u8]) -> Result<Outline, Fault>
+pub fn outline_of(alloc: Global, run: u64, bytes: &[u8]) -> Result<Outline, Fault>
     ensures outline { IfOk result (λ o. run_at run bytes.now ≡ Ok o) }
     ensures refused { IfErr result (FailsToFind (λ object byte. (object ≡ run_name run) × IsFirstFault run bytes.now byte)) }
 {

@@ -3,12 +3,13 @@ ghost use Rattle.std.specs.Prelude.{◌≤◌};
 
 use crate::records::Three;
 use crate::tables::{CHANGED, CUT, PARTS, Wanted};
-use log_archive::{items_of, make_run, records_of};
+use log_archive::{items_of, make_run, merge_runs, records_of};
 use media::{Fuse, Vault};
 use media_mem::MemVault;
 use std::alloc::{AllocError, Global};
 use std::test::Fail;
 use store_model::{Fault, Lsn, ObjectKind, ObjectName, PageNo};
+use wal_record::Run;
 
 /// What a read answers: how many records it found, the byte of a bad object, or a fault of the vault.
 #[derive(Clone, Copy, Debug, PartialEq, Eq)]
@@ -157,5 +158,25 @@ fn a_run_is_one_put_and_one_sync(rt: HostRuntime) -> Result<(), Fail> {
         vault.arm(0);
         assert_eq!(rt; read(rt.alloc(), &mut vault, 1, 1), Answer::VaultFault);
     }
+    Ok(())
+}
+
+/// The run of this number and range.
+fn run_of(run: u64, first: Lsn, last: Lsn) -> Run {
+    Run { run, first, last }
+}
+
+#[test]
+fn a_merge_of_neighbours_is_the_run_of_both(rt: HostRuntime) -> Result<(), Fail> {
+    let mut vault = MemVault::new(rt.alloc());
+    assert!(rt; make_run(&rt, rt.alloc(), &mut Three, &mut vault, 1, 1, 2).is_ok());
+    assert!(rt; make_run(&rt, rt.alloc(), &mut Three, &mut vault, 2, 3, 3).is_ok());
+    let parts = [run_of(1, 1, 2), run_of(2, 3, 3)];
+    assert!(rt; merge_runs(rt.alloc(), &mut vault, &parts, 5).is_ok());
+    vault.power_cycle();
+    let mut buf = [0u8; 256];
+    let count = vault.get(name(), 0, &mut buf)?;
+    let (front, _) = buf.split_at(count.min(256));
+    assert!(rt; front == object(rt.alloc())?.as_slice());
     Ok(())
 }
