@@ -30,7 +30,8 @@ pub fn read_page<V: Vault>(
     requires backup { IsTrue (is_number backup) }
     requires page { IsTrue (is_page page) }
     // What was written is read.
-    ensures found { V.tells → (copies : List PageCopy) → IsBackup backup (segment_of page) copies (bytes_of (V.told vault.old (backup_name backup (segment_of page)))) → (c : PageCopy) → IsAmong c copies → c.page ≡ page → GivesCopy c result }
+    ensures found { V.tells → (copies : List PageCopy) → IsBackup backup (segment_of page) copies (bytes_of (V.told vault.old (backup_name backup (segment_of page))))
+        → (c : PageCopy) → IsAmong c copies → c.page ≡ page → GivesCopy c result }
     // What is read stands there.
     ensures held { V.tells → IfOk result (HasImage backup (segment_of page) page (bytes_of (V.told vault.old (backup_name backup (segment_of page))))) }
     ensures refused { IfErr result (FailsAtVault (IsToldBad V.tells backup (segment_of page) page (bytes_of (V.told vault.old (backup_name backup (segment_of page))))) (V.faults vault.old) (V.faults vault.new)) }

@@ -37,7 +37,8 @@ pub fn merge_runs<V: Vault>(
     run: u64,
 ) -> Result<(), Fault>
     requires run { IsTrue (is_number run) }
-    ensures stored { V.tells → (css : List (List Chunk)) → AreParts (V.told vault.old) parts.now css → OnOk result (Stores (run_name run) (run_bytes run (first_in parts.now) (last_in parts.now) (chunks_by (items_in css))) (V.told vault.old) (V.told vault.new)) }
+    ensures stored { V.tells → (css : List (List Chunk))
+        → AreParts (V.told vault.old) parts.now css → OnOk result (Stores (run_name run) (run_bytes run (first_in parts.now) (last_in parts.now) (chunks_by (items_in css))) (V.told vault.old) (V.told vault.new)) }
     // Also after a refusal.
     ensures may_store { V.tells → MayMake run (V.told vault.old) (V.told vault.new) }
     ensures refused { IfErr result (FailsAtVault (IsBadPart V.tells (V.told vault.old) parts.now) (V.faults vault.old) (V.faults vault.new)) }
@@ -86,7 +87,8 @@ fn gather_parts<V: Vault>(alloc: Global, vault: &mut V, parts: &[Run]) -> Result
 
 /// The items of the run with these bytes, on the shelves of their pages.
 fn add_run(alloc: Global, run: u64, bytes: &[u8], shelves: &mut Vec<Shelf>) -> Result<(), Fault>
-    ensures added { (first last : ℕ) (chunks : List Chunk) → IsRun run first last chunks bytes.now → OnOk result ((f : ℕ → List Numbered) → Holds shelves.old.items f → Holds shelves.new.items (λ p. f p ++ items_on p chunks)) }
+    ensures added { (first last : ℕ) (chunks : List Chunk) → IsRun run first last chunks bytes.now
+        → OnOk result ((f : ℕ → List Numbered) → Holds shelves.old.items f → Holds shelves.new.items (λ p. f p ++ items_on p chunks)) }
     ensures few { length shelves.old.items ≤ 16384 → length shelves.new.items ≤ 16384 }
     ensures refused { IfErr result (FailsToFind (λ object byte. (object ≡ run_name run) × IsFirstFault run bytes.now byte)) }
 {

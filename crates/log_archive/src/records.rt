@@ -138,7 +138,8 @@ fn items_of_page(
     from: Lsn,
     bytes: &[u8],
 ) -> Result<Vec<Numbered>, Fault>
-    ensures found { (run first last : ℕ) (chunks : List Chunk) → IsRun run first last chunks bytes.now → IsTrue (is_number run) → run_at run bytes.now ≡ Ok outline.now → IfOk result (λ found. found.items ≡ from_lsn from (items_on page chunks)) }
+    ensures found { (run first last : ℕ) (chunks : List Chunk) → IsRun run first last chunks bytes.now → IsTrue (is_number run) → run_at run bytes.now ≡ Ok outline.now
+        → IfOk result (λ found. found.items ≡ from_lsn from (items_on page chunks)) }
     ensures memory { IfErr result (λ fault. fault ≡ faults.Memory) }
 {
     match entry_of(outline.entries.as_slice(), page) {
