@@ -240,3 +240,7 @@ last_at (r ∷ s ∷ rs) (suc n) x size e = last_at (s ∷ rs) n x (omega arith)
 pub last_is : (parts : List Run) (x : Run) → Some x ≡ slice_get parts (length parts - 1) → x.last ≡ last_in parts
 last_is [] x e = absurd cc
 last_is (r ∷ rs) x e = last_at (r ∷ rs) (length (r ∷ rs) - 1) x (omega arith) e
+
+pub whatever : {P : Type 0} (r : Result ⊤ Fault) → P → OnOk r P
+whatever (Ok u) p = p
+whatever (Err e) p = tt

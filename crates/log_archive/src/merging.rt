@@ -1,5 +1,5 @@
 //! Runs are merged.
-ghost use Rattle.std.specs.Prelude.{◌≡◌, ◌≤◌, ◌<◌, ◌++◌, ℕ, List, length, OnOk, IfOk, IfErr, IsErrAnd, IsTrue};
+ghost use Rattle.std.specs.Prelude.{◌≡◌, ◌≤◌, ◌<◌, ◌^◌, ◌++◌, ℕ, List, length, OnOk, IfOk, IfErr, IsErrAnd, IsTrue};
 ghost use Rattle.media.specs.Counted.{Blames};
 ghost use Rattle.media.specs.Objects.{SameObjects, bytes_of};
 ghost use Rattle.store_model.specs.declared.fault.Fault.TheVariants as faults;
@@ -39,6 +39,9 @@ pub fn merge_runs<V: Vault>(
     requires run { IsTrue (is_number run) }
     ensures stored { V.tells → (css : List (List Chunk))
         → AreParts (V.told vault.old) parts.now css → OnOk result (Stores (run_name run) (run_bytes run (first_in parts.now) (last_in parts.now) (chunks_by (items_in css))) (V.told vault.old) (V.told vault.new)) }
+    // It is short enough to be read again.
+    ensures short { V.tells → (css : List (List Chunk))
+        → AreParts (V.told vault.old) parts.now css → OnOk result (length (run_bytes run (first_in parts.now) (last_in parts.now) (chunks_by (items_in css))) < 2 ^ 32) }
     // Also after a refusal.
     ensures may_store { V.tells → MayMake run (V.told vault.old) (V.told vault.new) }
     ensures refused { IfErr result (FailsAtVault (IsBadPart V.tells (V.told vault.old) parts.now) (V.faults vault.old) (V.faults vault.new)) }
