@@ -1,0 +1,5 @@
+pub mod Heads
+pub mod Sizes
+pub mod Images
+pub mod Walking
+pub mod Answering

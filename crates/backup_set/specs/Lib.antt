@@ -1,0 +1,3 @@
+pub mod Backup
+pub mod Reading
+pub mod Answers

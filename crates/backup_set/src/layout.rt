@@ -1,0 +1,16 @@
+//! Where the fields of a backup object stand.
+
+/// The letters `BAK1`.
+pub const MARK: u32 = 0x4241_4b31;
+
+/// Where the number of images stands.
+pub const COUNT_AT: usize = 16;
+
+/// Where the images begin.
+pub const IMAGES_AT: usize = 20;
+
+/// The bytes of an image.
+pub const IMAGE_BYTES: usize = 4_096;
+
+/// The most images of an object: those of a whole segment.
+pub const MOST_IMAGES: usize = 16;
