@@ -6,8 +6,9 @@
 //!
 //! What is promised: [`write_segment`] makes one put and one sync, and leaves the synced object of exactly its images.
 //! [`read_page`] gives of an object in its form what the page's copy says. (By its code it reads the head and one image
-//! where the backup has the whole segment; no clause counts calls.) What it gives stands in the object, whatever else does. An object that isn't in its form
-//! is named with the start of its first faulty field, and one without the page with its count.
+//! where the backup has the whole segment; no clause counts calls.) What it gives stands in the object, whatever else
+//! does. An object that isn't in its form is named with the start of its first faulty field, and one without the page
+//! with its count.
 #![tactic(auto)]
 
 mod copy;

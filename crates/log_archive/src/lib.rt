@@ -7,12 +7,12 @@
 //! rule.
 //!
 //! What is promised: [`make_run`] leaves the synced object of exactly the records of its range that name a page. (By its
-//! code it reads each record once, and makes one put and one sync; no clause counts them.) [`records_of`] and [`items_of`] give of an object in its form the
-//! records of a page from an LSN on, and the number of bytes of its items. An object that isn't in its form is named with
-//! the start of its first faulty field, and one without the records that are asked for with its number of pages.
-//! [`merge_runs`] leaves the synced run of the joined range, page by page. [`runs_law`] ties them: what is made keeps the form, and has
-//! of each page the records that name it; by [`merging_law`] a merge of two neighbours is the run of both ranges. [`Reads`]
-//! is the log that an archive reads.
+//! code it reads each record once, and makes one put and one sync; no clause counts them.) [`records_of`] and
+//! [`items_of`] give of an object in its form the records of a page from an LSN on, and the number of bytes of its items.
+//! An object that isn't in its form is named with the start of its first faulty field, and one without the records that
+//! are asked for with its number of pages. [`merge_runs`] leaves the synced run of the joined range, page by page.
+//! [`runs_law`] ties them: what is made keeps the form, and has of each page the records that name it; by [`merging_law`]
+//! a merge of two neighbours is the run of both ranges. [`Reads`] is the log that an archive reads.
 #![tactic(auto)]
 
 mod directory;
