@@ -1,3 +1,4 @@
+//! Who stores the durable number.
 ghost use Rattle.std.specs.Prelude.{◌≡◌, ◌≤◌, [], max};
 ghost use Rattle.front.specs.Counting.{marker};
 

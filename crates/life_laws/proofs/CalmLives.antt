@@ -20,9 +20,11 @@ use Rattle.wal_record.proofs.Along.{AllAlong_more}
 use Rattle.log_laws.proofs.Beginnings.{history_beginning}
 use Rattle.log_laws.proofs.LeftLaws.{left_law}
 use Rattle.log_laws.proofs.Serial.{serial_all, sound_after, central_of_lives}
-use Rattle.life_laws.specs.Calm.{Opened, is_open, splits_page, first_log, Calm}
+use Rattle.life_laws.specs.Calm.{Opened, is_open, splits_page, Calm}
+use Rattle.log_laws.specs.Right.{first_log}
 use Rattle.life_laws.specs.Commands.{Command, Begin, Get, Put, Commit, CalmStanding, fresh, entries_in, standing_in, MayIn, entries_from, standing_from, ArePossible}
-use Rattle.life_laws.specs.CalmLaw.{IsRight, HasRows, CalmLaw}
+use Rattle.life_laws.specs.CalmLaw.{HasRows, CalmLaw}
+use Rattle.log_laws.specs.Right.{IsRight}
 use Rattle.life_laws.proofs.CalmLog.{live_is}
 use Rattle.life_laws.proofs.CalmSteps.{calm_begin, calm_get, calm_put, calm_commit}
 use Rattle.life_laws.proofs.Leaving.{either_false, has_room, log_of_append, left_with_room, left_behind}

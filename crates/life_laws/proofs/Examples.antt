@@ -21,13 +21,14 @@ use Rattle.wal_record.specs.Left.{Life}
 use Rattle.wal_record.specs.Chains.{greatest}
 use Rattle.wal_record.specs.declared.record.Record.TheVariants as kinds
 use Rattle.std.specs.Prelude.{map}
-use Rattle.life_laws.specs.Calm.{first_log, only_leaf}
+use Rattle.life_laws.specs.Calm.{only_leaf}
+use Rattle.log_laws.specs.Right.{first_log}
 use Rattle.life_laws.specs.Opening.{IsOpened}
 use Rattle.life_laws.proofs.Opened.{opening}
 use Rattle.life_laws.specs.Stops.{Commands, lives_from, MayAllStop, AreRight}
 use Rattle.life_laws.proofs.Reopening.{calm_stops}
 use Rattle.life_laws.specs.Commands.{Command, Begin, Get, Put, Commit, fresh, entries_from, standing_from, ArePossible}
-use Rattle.life_laws.specs.CalmLaw.{IsRight}
+use Rattle.log_laws.specs.Right.{IsRight}
 use Rattle.life_laws.proofs.CalmLives.{calm_lives}
 
 abbrev commands : List Command

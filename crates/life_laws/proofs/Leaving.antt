@@ -21,7 +21,7 @@ use Rattle.log_laws.specs.Beginnings.{is_commit}
 use Rattle.log_laws.proofs.Central.{only}
 use Rattle.log_laws.proofs.Serial.{sound_after}
 use Rattle.life_laws.specs.Calm.{splits_page}
-use Rattle.life_laws.specs.CalmLaw.{IsBeginning}
+use Rattle.log_laws.specs.Right.{IsBeginning}
 
 pub either_false : (a b : Bool) → (a || b) ≡ false → (a ≡ false) × (b ≡ false)
 either_false true b e = absurd cc

@@ -20,7 +20,8 @@ use Rattle.wal_record.proofs.Along.{by_pushes}
 use Rattle.wal_record.proofs.Pushes.{greatest_push, last_push}
 use Rattle.log_laws.proofs.LeftLaws.{lives_law}
 use Rattle.log_laws.proofs.Serial.{less_differ, max_less, sound_after}
-use Rattle.life_laws.specs.Calm.{Opened, first_log, IsUnnamed, CalmLog, CalmHistory, Calm}
+use Rattle.life_laws.specs.Calm.{Opened, IsUnnamed, CalmLog, CalmHistory, Calm}
+use Rattle.log_laws.specs.Right.{first_log}
 use Rattle.life_laws.specs.Commands.{Command, Begin, Get, Put, Commit, CalmStanding, fresh, entries_in, standing_in, entries_from, standing_from, ArePossible}
 use Rattle.life_laws.specs.Stops.{is_commit_command, Commands, reopened, lives_from, MayAllStop, CalmStopsLaw}
 use Rattle.life_laws.proofs.CalmLog.{limit_kept}

@@ -16,7 +16,8 @@ use Rattle.wal_record.specs.Legal.{untold, split_leaf, IsLegal}
 use Rattle.wal_record.specs.declared.record.Record.{Record}
 use Rattle.wal_record.specs.declared.record.Record.TheVariants as kinds
 use Rattle.wal_record.proofs.SoundExamples.{at_one}
-use Rattle.life_laws.specs.Calm.{first_log, CalmLog, CalmHistory, Calm}
+use Rattle.life_laws.specs.Calm.{CalmLog, CalmHistory, Calm}
+use Rattle.log_laws.specs.Right.{first_log}
 
 limit_least : (limit : ℕ) → is_limit limit ≡ true → 8 ≤ limit
 limit_least limit e = let least : nat_le 8 limit ≡ true = (and_parts _ _ e).0 in grind (arith, nat_tests)

@@ -1,6 +1,6 @@
 -- Calm lives: page 1 has all keys, and transactions come one after the other. What holds between two
 -- commands of such a life, in terms of what its code keeps.
-use Rattle.std.specs.Prelude.{◌≡◌, ◌≤◌, ◌<◌, ◌+◌, ℕ, suc, max, List, [], ◌∷◌, length, Option, Some, None, Bool, true, false, ◌==◌, IsTrue}
+use Rattle.std.specs.Prelude.{◌≡◌, ◌≤◌, ◌<◌, ◌+◌, ℕ, suc, max, List, [], length, Option, Some, None, Bool, true, false, ◌==◌, IsTrue}
 use Rattle.std.specs.List.{list_any}
 use Rattle.wal_record.specs.Chains.{head, pages, last, finishes, greatest}
 use Rattle.wal_record.specs.OpenWrites.{open_writes, pending, has_items}
@@ -33,10 +33,6 @@ is_open (Some o) t = o.tx == t
 abbrev pub open_count : Option Opened → ℕ
 open_count None = 0
 open_count (Some o) = o.writes
-
--- the log of a fresh store with this limit
-abbrev pub first_log : ℕ → List Record
-first_log limit = kinds.Format (record { limit = limit }) ∷ []
 
 -- a leaf with all keys
 abbrev pub only_leaf : List LeafRow → PageState

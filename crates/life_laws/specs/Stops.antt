@@ -9,7 +9,7 @@ use Rattle.wal_record.specs.History.{log_of}
 use Rattle.wal_record.specs.Serial.{Serial}
 use Rattle.wal_record.specs.Left.{Life, AreLives, last_log, kept_of}
 use Rattle.wal_record.specs.declared.record.Record.{Record}
-use Rattle.life_laws.specs.Calm.{first_log}
+use Rattle.log_laws.specs.Right.{first_log}
 use Rattle.life_laws.specs.Commands.{Command, Commit, CalmStanding, fresh, entries_from, standing_from, ArePossible}
 
 abbrev pub is_commit_command : Command → Bool

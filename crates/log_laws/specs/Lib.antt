@@ -6,3 +6,4 @@ pub mod Locks
 pub mod Phases
 pub mod Beginnings
 pub mod Places
+pub mod Right

@@ -1,3 +1,4 @@
+//! The data device as those see it who read and write its pages.
 ghost use Rattle.std.specs.Prelude.{◌≡◌, ◌⊎◌, ◌≤◌, ℕ, OnOk};
 ghost use mathlib.Core.List.{IsPrefix};
 ghost use Rattle.media.specs.Cause.{HasCause};

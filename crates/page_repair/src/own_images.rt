@@ -1,3 +1,4 @@
+//! The data device of a store of one thread.
 ghost use Rattle.std.specs.Prelude.{◌≡◌, ◌⊎◌, ℕ, List};
 ghost use Rattle.page_ops.specs.Causes.{IsUntold};
 ghost use Rattle.page_repair.specs.Images.{AreWritten};

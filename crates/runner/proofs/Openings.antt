@@ -22,7 +22,7 @@ use Rattle.wal_record.specs.Checkpoints.{last_checkpoint}
 use Rattle.wal_record.specs.Rules.{is_limit}
 use Rattle.wal_record.specs.Sound.{IsSound}
 use Rattle.wal_record.specs.declared.record.Record.{Record}
-use Rattle.life_laws.specs.Calm.{first_log}
+use Rattle.log_laws.specs.Right.{first_log}
 use Rattle.life_laws.proofs.Leaving.{has_room}
 use Rattle.life_laws.proofs.Start.{calm_start}
 use Rattle.runner.specs.LogDisk.{StandsOn, Keeps, HoldsOne, IsFormatted, lsn_from}

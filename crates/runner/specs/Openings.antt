@@ -8,7 +8,7 @@ use Rattle.log_replay.specs.declared.found.NotReplayed.{NotReplayed}
 use Rattle.log_replay.specs.declared.found.NotReplayed.TheVariants as whys
 use Rattle.store_model.specs.declared.fault.Fault.{Fault}
 use Rattle.store_model.specs.declared.fault.Fault.TheVariants as faults
-use Rattle.life_laws.specs.Calm.{first_log}
+use Rattle.log_laws.specs.Right.{first_log}
 use Rattle.wal_record.specs.declared.record.Record.{Record}
 use Rattle.runner.specs.Standing.{Standing}
 use Rattle.runner.specs.declared.status.Status.{Status}

@@ -17,8 +17,7 @@ use Rattle.wal_record.specs.declared.record.Record.{Record}
 use Rattle.wal_record.specs.declared.record.Record.TheVariants as kinds
 use Rattle.wal_record.specs.declared.entry.Entry.{Entry}
 use Rattle.wal_record.specs.declared.entry.Entry.TheVariants.{Rec, Lock, Said, Declined, Acked, Began}
-use Rattle.life_laws.specs.Calm.{first_log}
-use Rattle.life_laws.specs.CalmLaw.{IsRight}
+use Rattle.log_laws.specs.Right.{IsRight, first_log}
 use Rattle.script.specs.Word.{same_text}
 use Rattle.script.specs.declared.command.Device.{Device}
 use Rattle.script.specs.declared.command.Device.TheVariants.{Log}
