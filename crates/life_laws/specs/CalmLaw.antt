@@ -8,7 +8,7 @@ use Rattle.wal_record.specs.History.{life_log}
 use Rattle.wal_record.specs.Sound.{HasRoom}
 use Rattle.wal_record.specs.declared.record.Record.{Record}
 use Rattle.wal_record.specs.declared.entry.Entry.{Entry}
-use Rattle.log_laws.specs.Right.{first_log}
+use Rattle.log_laws.specs.Right.{IsRight, first_log}
 use Rattle.life_laws.specs.Commands.{Command, CalmStanding, fresh, entries_from, standing_from, ArePossible}
 
 -- the rows have the current values of all keys, and the committed ones where no transaction is open
