@@ -5,17 +5,15 @@
 #![tactic(auto)]
 
 ghost use Rattle.std.specs.Prelude.{◌≡◌};
-ghost use Rattle.operators.specs.Means.{made_by};
 
 use media::Devices;
 use media_file::StreamSink;
 use media_mem::{MemDisk, MemPages, MemSource, MemVault};
-use operators::{Operators, add, join, max};
+use operators::{Operators, boxed_operators};
 use runner::{Status, run_words};
 use std::alloc::Global;
 use std::io;
 use std::process::ExitCode;
-use store_model::{OpValue, Value};
 
 /// A store is made, and a row written.
 const FIRST: &str = "format\nopen\nbegin A\nput A apple 1\ncommit A\n";
@@ -25,26 +23,7 @@ const SECOND: &str = "open\nbegin B\nget B apple\ncommit B\n";
 
 fn main(rt: HostRuntime) -> io::Result<ExitCode> {
     let alloc = rt.alloc();
-    let operators = Operators::new(
-        Box::new(
-            alloc,
-            |old: &Option<Value>, argument: &OpValue|
-                ensures { result ≡ made_by 1 old.now argument.now }
-            { add(old, argument) },
-        )?,
-        Box::new(
-            alloc,
-            |old: &Option<Value>, argument: &OpValue|
-                ensures { result ≡ made_by 2 old.now argument.now }
-            { max(old, argument) },
-        )?,
-        Box::new(
-            alloc,
-            |old: &Option<Value>, argument: &OpValue|
-                ensures { result ≡ made_by 3 old.now argument.now }
-            { join(old, argument) },
-        )?,
-    );
+    let operators = boxed_operators!(alloc);
     two_lives(&rt, alloc, &operators)
 }
 

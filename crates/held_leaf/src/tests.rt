@@ -1,6 +1,5 @@
 //! A transaction on the page in hand, in a life that began with a log of which nothing is known.
 ghost use Rattle.std.specs.Prelude.{◌≡◌, ◌<◌, ◌≤◌, ◌^◌, List, [], length, true, IfSome};
-ghost use Rattle.operators.specs.Means.{made_by};
 ghost use Rattle.page_ops.specs.Names.{life_names};
 ghost use Rattle.wal_record.specs.Rules.{HasSpelling};
 ghost use Rattle.wal_record.specs.State.{KeepsState};
@@ -8,39 +7,15 @@ ghost use Rattle.wal_record.specs.declared.record.Record.{Record};
 
 use super::*;
 use books::Books;
-use operators::{Operators, add, join, max};
+use operators::{Operators, boxed_operators};
 use page_ops::{Ground, Life, Tokens, Unnamed};
-use std::alloc::{AllocError, Global};
+use std::alloc::Global;
 use std::marker::Brand;
 use std::test::*;
-use store_model::{Bound, Key, List, Lsn, OpValue, Value};
+use store_model::{Bound, Key, List, Lsn, Value};
 use wal_record::{PageState, Record, Rows, Write};
 
 const MOST: u64 = 1 << 62;
-
-/// The operators of the store, as boxed closures.
-fn boxed(alloc: Global) -> Result<Operators, AllocError> {
-    Ok(Operators::new(
-        Box::new(
-            alloc,
-            |old: &Option<Value>, argument: &OpValue|
-                ensures { result ≡ made_by 1 old.now argument.now }
-            { add(old, argument) },
-        )?,
-        Box::new(
-            alloc,
-            |old: &Option<Value>, argument: &OpValue|
-                ensures { result ≡ made_by 2 old.now argument.now }
-            { max(old, argument) },
-        )?,
-        Box::new(
-            alloc,
-            |old: &Option<Value>, argument: &OpValue|
-                ensures { result ≡ made_by 3 old.now argument.now }
-            { join(old, argument) },
-        )?,
-    ))
-}
 
 /// An empty leaf with all keys.
 fn first_state(alloc: Global) -> Option<PageState>
@@ -193,7 +168,7 @@ fn life<N: Life>(
 
 #[test]
 fn one_transaction_on_the_page_in_hand(rt: HostRuntime) -> Result<(), Fail> {
-    let operators = boxed(rt.alloc())?;
+    let operators = boxed_operators!(rt.alloc());
     let unnamed = Unnamed::new(rt.alloc(), 1)?;
     let found = life::<Brand>(rt.alloc(), unnamed, &operators);
     let numbers = [[3, 1, 1], [6, 2, 2], [6, 2, 2], [10, 2, 3]];

@@ -6,7 +6,6 @@
 #![tactic(auto)]
 
 ghost use Rattle.std.specs.Prelude.{◌≡◌};
-ghost use Rattle.operators.specs.Means.{made_by};
 
 mod ended;
 
@@ -14,13 +13,12 @@ use ended::Ended;
 use media::{Devices, Disk, PageDevice, Vault};
 use media_file::{FileDisk, FilePages, FileVault, Folder, StreamSink, StreamSource};
 use media_mem::{MemDisk, MemPages, MemVault};
-use operators::{Operators, add, join, max};
+use operators::boxed_operators;
 use runner::{Status, run_words};
 use std::alloc::{AllocError, Global};
 use std::fs::{File, TryLockError};
 use std::process::ExitCode;
 use std::{env, fs, io};
-use store_model::{OpValue, Value};
 
 /// The words of the call behind the program's name.
 fn words(rt: &HostRuntime, alloc: Global) -> io::Result<Vec<String>> {
@@ -146,26 +144,7 @@ fn run_with<L: Disk + Drop, P: PageDevice + Drop, V: Vault + Drop>(
     devices: Devices<L, P, V>,
     words: &[String],
 ) -> Result<Status, AllocError> {
-    let operators = Operators::new(
-        Box::new(
-            alloc,
-            |old: &Option<Value>, argument: &OpValue|
-                ensures { result ≡ made_by 1 old.now argument.now }
-            { add(old, argument) },
-        )?,
-        Box::new(
-            alloc,
-            |old: &Option<Value>, argument: &OpValue|
-                ensures { result ≡ made_by 2 old.now argument.now }
-            { max(old, argument) },
-        )?,
-        Box::new(
-            alloc,
-            |old: &Option<Value>, argument: &OpValue|
-                ensures { result ≡ made_by 3 old.now argument.now }
-            { join(old, argument) },
-        )?,
-    );
+    let operators = boxed_operators!(alloc);
     let mut source = StreamSource {
         reader: rt.stdin(),
         faults: 0,

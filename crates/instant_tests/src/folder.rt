@@ -1,40 +1,14 @@
 //! Runs over one folder.
 ghost use Rattle.std.specs.Prelude.{◌≡◌};
-ghost use Rattle.operators.specs.Means.{made_by};
 
 use media::Devices;
 use media_file::{FileDisk, FilePages, FileVault, Folder};
 use media_mem::{MemSink, MemSource};
-use operators::{Operators, add, join, max};
+use operators::boxed_operators;
 use runner::{Status, run_words};
-use std::alloc::{AllocError, Global};
+
 use std::fs;
 use std::test::Fail;
-use store_model::{OpValue, Value};
-
-/// The operators of the store, as boxed closures.
-fn boxed(alloc: Global) -> Result<Operators, AllocError> {
-    Ok(Operators::new(
-        Box::new(
-            alloc,
-            |old: &Option<Value>, argument: &OpValue|
-                ensures { result ≡ made_by 1 old.now argument.now }
-            { add(old, argument) },
-        )?,
-        Box::new(
-            alloc,
-            |old: &Option<Value>, argument: &OpValue|
-                ensures { result ≡ made_by 2 old.now argument.now }
-            { max(old, argument) },
-        )?,
-        Box::new(
-            alloc,
-            |old: &Option<Value>, argument: &OpValue|
-                ensures { result ≡ made_by 3 old.now argument.now }
-            { join(old, argument) },
-        )?,
-    ))
-}
 
 /// How a run of a script over the folder ended, and what it printed.
 fn run(rt: &HostRuntime, path: &str, script: &str) -> Result<(Status, Vec<u8>), Fail> {
@@ -47,7 +21,7 @@ fn run(rt: &HostRuntime, path: &str, script: &str) -> Result<(Status, Vec<u8>), 
     };
     let mut source = MemSource::new(alloc, script.as_bytes().to_vec(alloc)?);
     let mut sink = MemSink::new(alloc);
-    let operators = boxed(alloc)?;
+    let operators = boxed_operators!(alloc);
     let (status, _devices) = run_words(alloc, &[], &mut source, &mut sink, devices, &operators);
     Ok((status, sink.bytes().to_vec(alloc)?))
 }

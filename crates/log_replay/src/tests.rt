@@ -1,14 +1,13 @@
 //! Logs as their blocks spell them, and what opening them finds.
 ghost use Rattle.std.specs.Prelude.{◌≡◌};
-ghost use Rattle.operators.specs.Means.{made_by};
 
 use super::*;
 use log_blocks::open_log;
 use media_mem::MemDisk;
-use operators::{Operators, add, join, max};
+use operators::{Operators, boxed_operators};
 use std::alloc::Global;
 use std::test::Fail;
-use store_model::{OpValue, Value};
+
 use wal_record::{LeafRow, Rows};
 
 /// Adds what a word stands for: `8.7` for the number 7 in eight bytes, and so on; other words are hexadecimal.
@@ -126,34 +125,10 @@ no kind; a5 8.1 8.0 2.1: 11; LogBad { block: 0, byte: 23 }
 a cut field; a5 8.1 8.0 2.1: 01 4.16384 | a5 8.2 8.0 2.2: 05 8.1 8.0 05 8.1 4.0; LogBad { block: 1, byte: 49 }
 ";
 
-/// The three operators.
-fn operators_of(alloc: Global) -> Result<Operators, Fail> {
-    Ok(Operators::new(
-        Box::new(
-            alloc,
-            |old: &Option<Value>, argument: &OpValue|
-                ensures { result ≡ made_by 1 old.now argument.now }
-            { add(old, argument) },
-        )?,
-        Box::new(
-            alloc,
-            |old: &Option<Value>, argument: &OpValue|
-                ensures { result ≡ made_by 2 old.now argument.now }
-            { max(old, argument) },
-        )?,
-        Box::new(
-            alloc,
-            |old: &Option<Value>, argument: &OpValue|
-                ensures { result ≡ made_by 3 old.now argument.now }
-            { join(old, argument) },
-        )?,
-    ))
-}
-
 #[test]
 fn logs_are_replayed(rt: HostRuntime) -> Result<(), Fail> {
     let alloc = rt.alloc();
-    let operators = operators_of(alloc)?;
+    let operators = boxed_operators!(alloc);
     for row in LOGS.lines() {
         let Some((name, row)) = row.split_once(";") else {
             return Err(Fail::new(row));
@@ -175,7 +150,7 @@ fn logs_are_replayed(rt: HostRuntime) -> Result<(), Fail> {
 #[test]
 fn a_log_whose_first_block_was_dropped_is_not_built(rt: HostRuntime) -> Result<(), Fail> {
     let alloc = rt.alloc();
-    let operators = operators_of(alloc)?;
+    let operators = boxed_operators!(alloc);
     let blocks = "a5 8.1 8.0 2.1: 01 4.16384 | a5 8.2 8.0 2.1: 05 8.1 8.0";
     let Some(disk) = disk_of(alloc, blocks) else {
         return Err(Fail::new(blocks));

@@ -1,5 +1,5 @@
 //! The operators at their edges, in boxes as a program makes them, and in others of the same meaning.
-use crate::{Operators, add, join, max};
+use crate::{Operators, add, boxed_operators, join, max};
 use std::test::Fail;
 use store_model::{OpValue, Value};
 
@@ -56,20 +56,7 @@ fn answers(
 #[test]
 fn numbers_add_and_compare_at_their_edges(rt: HostRuntime) -> Result<(), Fail> {
     let alloc = rt.alloc();
-    let operators = Operators::new(
-        Box::new(
-            alloc,
-            |old: &Option<Value>, argument: &OpValue| add(old, argument),
-        )?,
-        Box::new(
-            alloc,
-            |old: &Option<Value>, argument: &OpValue| max(old, argument),
-        )?,
-        Box::new(
-            alloc,
-            |old: &Option<Value>, argument: &OpValue| join(old, argument),
-        )?,
-    );
+    let operators = boxed_operators!(alloc);
     for (id, old, argument, want) in NUMBERS {
         assert!(rt;
             answers(&operators, id, old, argument, want),

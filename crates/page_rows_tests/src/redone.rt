@@ -1,15 +1,13 @@
 //! Rows of records that are redone on a page.
 ghost use Rattle.std.specs.Prelude.{◌≡◌, IfSome};
-ghost use Rattle.operators.specs.Means.{made_by};
 ghost use Rattle.wal_record.specs.State.{KeepsState};
 
 use crate::text::{bytes_of, image_of, record_of};
-use operators::{Operators, add, join, max};
+use operators::{Operators, boxed_operators};
 use page_rows::redo;
 use state_codec::put_state;
 use std::alloc::Global;
 use std::test::Fail;
-use store_model::{OpValue, Value};
 use wal_record::PageState;
 
 /// Whether this is the image of a page; `none` stands for none.
@@ -48,26 +46,7 @@ fn is_redone(alloc: Global, operators: &Operators, head: &str, row: &str) -> Opt
 
 /// Redoes the record of each row of a table, and fails at the first that isn't redone as it says.
 pub fn redo_all(alloc: Global, head: &str, rows: &str) -> Result<(), Fail> {
-    let operators = Operators::new(
-        Box::new(
-            alloc,
-            |old: &Option<Value>, argument: &OpValue|
-                ensures { result ≡ made_by 1 old.now argument.now }
-            { add(old, argument) },
-        )?,
-        Box::new(
-            alloc,
-            |old: &Option<Value>, argument: &OpValue|
-                ensures { result ≡ made_by 2 old.now argument.now }
-            { max(old, argument) },
-        )?,
-        Box::new(
-            alloc,
-            |old: &Option<Value>, argument: &OpValue|
-                ensures { result ≡ made_by 3 old.now argument.now }
-            { join(old, argument) },
-        )?,
-    );
+    let operators = boxed_operators!(alloc);
     for row in rows.lines() {
         if is_redone(alloc, &operators, head, row) != Some(true) {
             return Err(Fail::new(row));

@@ -1,15 +1,13 @@
 //! Worked scripts, and random ones beside an ordered map.
 ghost use Rattle.std.specs.Prelude.{◌≡◌, ◌<◌};
-ghost use Rattle.operators.specs.Means.{made_by};
 
 use super::*;
 use media::Devices;
 use media_mem::{MemDisk, MemPages, MemSink, MemSource, MemVault};
-use operators::{Operators, add, join, max};
-use std::alloc::{AllocError, Global};
+use operators::boxed_operators;
+use std::alloc::Global;
 use std::collections::BTreeMap;
 use std::test::Fail;
-use store_model::{OpValue, Value};
 
 /// A script with one transaction, and its transcript.
 const APPLE: &[u8] = b"format\nopen\nbegin A\nput A apple 1\nget A apple\ncommit A\n";
@@ -23,30 +21,6 @@ struct Ran {
     status: Status,
     printed: Vec<u8>,
     kept: Vec<u8>,
-}
-
-/// The operators of the store, as boxed closures.
-fn boxed(alloc: Global) -> Result<Operators, AllocError> {
-    Ok(Operators::new(
-        Box::new(
-            alloc,
-            |old: &Option<Value>, argument: &OpValue|
-                ensures { result ≡ made_by 1 old.now argument.now }
-            { add(old, argument) },
-        )?,
-        Box::new(
-            alloc,
-            |old: &Option<Value>, argument: &OpValue|
-                ensures { result ≡ made_by 2 old.now argument.now }
-            { max(old, argument) },
-        )?,
-        Box::new(
-            alloc,
-            |old: &Option<Value>, argument: &OpValue|
-                ensures { result ≡ made_by 3 old.now argument.now }
-            { join(old, argument) },
-        )?,
-    ))
 }
 
 /// Runs a script on a log disk, with streams of which the calls with these numbers fail.
@@ -65,7 +39,7 @@ fn run_on(
         pages: MemPages::new(alloc),
         vault: MemVault::new(alloc),
     };
-    let operators = boxed(alloc)?;
+    let operators = boxed_operators!(alloc);
     let (status, devices) = run_words(alloc, &[], &mut source, &mut sink, devices, &operators);
     Ok(Ran {
         status,

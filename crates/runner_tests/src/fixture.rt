@@ -1,14 +1,12 @@
 //! Runs of scripts.
 ghost use Rattle.std.specs.Prelude.{◌≡◌};
-ghost use Rattle.operators.specs.Means.{made_by};
 
 use media::Devices;
 use media_mem::{MemDisk, MemPages, MemSink, MemSource, MemVault};
-use operators::{Operators, add, join, max};
+use operators::boxed_operators;
 use runner::{Status, run_words};
-use std::alloc::{AllocError, Global};
+use std::alloc::Global;
 use std::test::Fail;
-use store_model::{OpValue, Value};
 
 /// Devices on which nothing was written.
 pub fn blank(alloc: Global) -> Devices<MemDisk, MemPages, MemVault> {
@@ -27,30 +25,6 @@ pub struct Ran {
     pub devices: Devices<MemDisk, MemPages, MemVault>,
 }
 
-/// The operators of the store, as boxed closures.
-fn boxed(alloc: Global) -> Result<Operators, AllocError> {
-    Ok(Operators::new(
-        Box::new(
-            alloc,
-            |old: &Option<Value>, argument: &OpValue|
-                ensures { result ≡ made_by 1 old.now argument.now }
-            { add(old, argument) },
-        )?,
-        Box::new(
-            alloc,
-            |old: &Option<Value>, argument: &OpValue|
-                ensures { result ≡ made_by 2 old.now argument.now }
-            { max(old, argument) },
-        )?,
-        Box::new(
-            alloc,
-            |old: &Option<Value>, argument: &OpValue|
-                ensures { result ≡ made_by 3 old.now argument.now }
-            { join(old, argument) },
-        )?,
-    ))
-}
-
 /// Runs a script on these devices.
 pub fn run(
     alloc: Global,
@@ -59,7 +33,7 @@ pub fn run(
 ) -> Result<Ran, Fail> {
     let mut source = MemSource::new(alloc, script.as_bytes().to_vec(alloc)?);
     let mut sink = MemSink::new(alloc);
-    let operators = boxed(alloc)?;
+    let operators = boxed_operators!(alloc);
     let (status, devices) = run_words(alloc, &[], &mut source, &mut sink, devices, &operators);
     Ok(Ran {
         status,
