@@ -137,9 +137,13 @@ pub record IsGroup (g : Group) : Type 0 where
 abbrev pub is_to : ℕ → Option PageClaim → Bool
 is_to page right = option_map_or (λ (r : PageClaim). r.page == page) right false
 
+-- 0, the number of no page, stands for the page that the group makes
+abbrev pub is_made_page : Option ℕ → ℕ → Bool
+is_made_page made page = option_map_or (λ child. (child == 0) && (child == page)) made false
+
 -- the right to a page that a record names is there, but for the page that the group makes
 abbrev pub has_right : Option ℕ → Claims → PageLink → Bool
-has_right made x l = is_to l.page x.a || is_to l.page x.b || option_map_or (λ child. child == l.page) made false
+has_right made x l = is_to l.page x.a || is_to l.page x.b || is_made_page made l.page
 
 abbrev pub has_rights : Option ℕ → Claims → Record → Bool
 has_rights made x r = list_all (has_right made x) (page_links r)
