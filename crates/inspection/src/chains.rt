@@ -4,8 +4,15 @@ ghost use Rattle.inspection.specs.Chains.{goes_on};
 
 use std::alloc::{AllocError, Global};
 use std::collections::HashMap;
-use store_model::{Lsn, PageNo};
+use store_model::{Lsn, PageNo, TxId};
 use wal_record::Record;
+
+/// What a record says of a chain that it is on: which page's or transaction's it is, and the record before.
+#[derive(Clone, Copy)]
+struct Link {
+    of: u64,
+    prev: Lsn,
+}
 
 /// The last record so far of each page and of each transaction.
 #[derive(Drop)]
@@ -28,67 +35,65 @@ impl Chains {
 
     /// The record with this LSN is the next one. Whether it goes on with each chain that it is on.
     pub fn add(&mut self, lsn: Lsn, record: &Record) -> Result<bool, AllocError> {
-        let step = self.add_step(lsn, record)?;
-        let change = self.add_change(lsn, record)?;
-        Ok(step && change)
-    }
-
-    /// Whether it goes on with the chain of its transaction, where it has one.
-    fn add_step(&mut self, lsn: Lsn, record: &Record) -> Result<bool, AllocError> {
-        match record {
-            Record::Write(r) => self.step(lsn, r.tx, r.prev),
-            Record::Apply(r) => self.step(lsn, r.tx, r.prev),
-            Record::Undo(r) => self.step(lsn, r.tx, r.prev),
-            Record::Commit(r) => self.step(lsn, r.tx, r.prev),
-            Record::End(r) => self.step(lsn, r.tx, r.prev),
-            _ => Ok(true),
-        }
-    }
-
-    /// Whether it goes on with the chains of the pages that it changes.
-    fn add_change(&mut self, lsn: Lsn, record: &Record) -> Result<bool, AllocError> {
-        match record {
-            Record::Format(_) => self.change(lsn, 1, 0),
-            Record::Write(r) => self.change(lsn, r.page, r.page_prev),
-            Record::Apply(r) => self.change(lsn, r.page, r.page_prev),
-            Record::Undo(r) => self.change(lsn, r.page, r.page_prev),
-            Record::Purge(r) => self.change(lsn, r.page, r.page_prev),
-            Record::Split(r) => {
-                let page = self.change(lsn, r.page, r.page_prev)?;
-                let child = self.change(lsn, r.child, 0)?;
-                Ok(page && child)
-            }
-            Record::Grow(r) => {
-                let root = self.change(lsn, 1, r.page_prev)?;
-                let child = self.change(lsn, r.child, 0)?;
-                Ok(root && child)
-            }
-            Record::Adopt(r) => {
-                let parent = self.change(lsn, r.parent, r.parent_prev)?;
-                let fosterer = self.change(lsn, r.fosterer, r.fosterer_prev)?;
-                Ok(parent && fosterer)
-            }
-            _ => Ok(true),
-        }
-    }
-
-    fn step(&mut self, lsn: Lsn, tx: u64, prev: Lsn) -> Result<bool, AllocError> {
-        go_on(&mut self.transactions, self.whole, tx, prev, lsn)
-    }
-
-    fn change(&mut self, lsn: Lsn, page: PageNo, prev: Lsn) -> Result<bool, AllocError> {
-        go_on(&mut self.pages, self.whole, u64::from(page), prev, lsn)
+        let (first, second) = changes_of(record);
+        let step = go_on(&mut self.transactions, self.whole, step_of(record), lsn)?;
+        let first = go_on(&mut self.pages, self.whole, first, lsn)?;
+        let second = go_on(&mut self.pages, self.whole, second, lsn)?;
+        Ok(step && first && second)
     }
 }
 
-/// Whether `prev` is the last record so far of a page or a transaction. From now on the last one has this LSN.
+fn in_transaction(tx: TxId, prev: Lsn) -> Option<Link> {
+    Some(Link { of: tx, prev })
+}
+
+fn on_page(page: PageNo, prev: Lsn) -> Option<Link> {
+    Some(Link {
+        of: u64::from(page),
+        prev,
+    })
+}
+
+/// The chain of the record's transaction, where it has one.
+fn step_of(record: &Record) -> Option<Link> {
+    match record {
+        Record::Write(r) => in_transaction(r.tx, r.prev),
+        Record::Apply(r) => in_transaction(r.tx, r.prev),
+        Record::Undo(r) => in_transaction(r.tx, r.prev),
+        Record::Commit(r) => in_transaction(r.tx, r.prev),
+        Record::End(r) => in_transaction(r.tx, r.prev),
+        _ => None,
+    }
+}
+
+/// The chains of the pages that the record changes, of which there are at most two.
+fn changes_of(record: &Record) -> (Option<Link>, Option<Link>) {
+    match record {
+        Record::Format(_) => (on_page(1, 0), None),
+        Record::Write(r) => (on_page(r.page, r.page_prev), None),
+        Record::Apply(r) => (on_page(r.page, r.page_prev), None),
+        Record::Undo(r) => (on_page(r.page, r.page_prev), None),
+        Record::Purge(r) => (on_page(r.page, r.page_prev), None),
+        Record::Split(r) => (on_page(r.page, r.page_prev), on_page(r.child, 0)),
+        Record::Grow(r) => (on_page(1, r.page_prev), on_page(r.child, 0)),
+        Record::Adopt(r) => (
+            on_page(r.parent, r.parent_prev),
+            on_page(r.fosterer, r.fosterer_prev),
+        ),
+        _ => (None, None),
+    }
+}
+
+/// Whether a record goes on with its chain of these, where it is on one. From now on its chain's last one has this LSN.
 fn go_on(
     lasts: &mut HashMap<u64, Lsn>,
     whole: bool,
-    of: u64,
-    prev: Lsn,
+    link: Option<Link>,
     lsn: Lsn,
 ) -> Result<bool, AllocError> {
+    let Some(Link { of, prev }) = link else {
+        return Ok(true);
+    };
     let last = lasts.get(&of).copied();
     lasts.insert(of, lsn)?;
     Ok(goes_on(whole, last, prev))

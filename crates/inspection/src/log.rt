@@ -1,18 +1,20 @@
 //! The blocks and records of a log.
-ghost use Rattle.std.specs.Prelude.{◌≡◌, length, IsNone, OnOk, List};
+ghost use Rattle.std.specs.Prelude.{◌≡◌, ◌+◌, ◌≤◌, length, IsNone, OnOk, List};
 ghost use Rattle.log_blocks.specs.Log as log;
 ghost use Rattle.log_blocks.specs.LogState.{IsDurable};
 ghost use Rattle.media.specs.Cause.{HasCause};
 
 use crate::halt::Halt;
-use crate::line::{Line, write_line};
-use crate::record::record_line;
+use crate::printing::write_line;
 use crate::walk::{Block, Totals, Walk};
-use log_blocks::{PAYLOAD_AT, open_log};
+use field_line::Line;
+use log_blocks::{CHECKPOINT_AT, COUNT_AT, FIRST_AT, LENGTH_AT, PAYLOAD_AT, open_log};
 use media::{Disk, Sink};
 use record_codec::{RecordFault, decode};
+use record_line::record_line;
 use std::alloc::{AllocError, Global};
-use store_model::Fault;
+use store_model::{Fault, Lsn};
+use wal_record::Record;
 
 /// Writes a line for each block and each record, and one for the log's end. It stops at the first fault.
 pub fn inspect_log<L: Disk, K: Sink>(
@@ -137,26 +139,48 @@ fn list_records<K: Sink>(
 ) -> Result<(), Halt> {
     let mut rest = payload;
     for i in 0..block.count {
-        let byte = PAYLOAD_AT.saturating_add(payload.len().saturating_sub(rest.len()));
-        let (record, length) = match decode(alloc, rest) {
-            Ok(found) => found,
-            Err(RecordFault::Memory) => return Err(Halt::Memory),
-            Err(RecordFault::Bad { byte: within }) => {
-                return Err(walk.bad_at(byte.saturating_add(within) as u64));
-            }
-        };
         let lsn = block.first.saturating_add(u64::from(i));
-        write_line(sink, record_line(alloc, lsn, &record)?)?;
-        if !walk.add(lsn, &record)? {
-            return Err(walk.bad_at(byte as u64));
-        }
+        let length = list_record(alloc, lsn, rest, place_of(payload, rest), walk, sink)?;
         rest = rest.get(length..).unwrap_or_default();
     }
     if rest.is_empty() {
         Ok(())
     } else {
-        let byte = PAYLOAD_AT.saturating_add(payload.len().saturating_sub(rest.len()));
-        Err(walk.bad_at(byte as u64))
+        Err(walk.bad_at(place_of(payload, rest)))
+    }
+}
+
+/// The byte of a block at which the rest of its payload begins.
+fn place_of(payload: &[u8], rest: &[u8]) -> u64 {
+    PAYLOAD_AT.saturating_add(payload.len().saturating_sub(rest.len())) as u64
+}
+
+/// Lists the record in front of bytes, which begin at this byte of the block. How long it is.
+fn list_record<K: Sink>(
+    alloc: Global,
+    lsn: Lsn,
+    bytes: &[u8],
+    byte: u64,
+    walk: &mut Walk,
+    sink: &mut K,
+) -> Result<usize, Halt> {
+    let (record, length) = record_in(alloc, bytes, byte, walk)?;
+    write_line(sink, record_line(alloc, lsn, &record)?)?;
+    if walk.add(lsn, &record)? {
+        Ok(length)
+    } else {
+        Err(walk.bad_at(byte))
+    }
+}
+
+/// The record in front of bytes, which begin at this byte of the block, and its length.
+fn record_in(alloc: Global, bytes: &[u8], byte: u64, walk: &Walk) -> Result<(Record, usize), Halt> {
+    match decode(alloc, bytes) {
+        Ok(found) => Ok(found),
+        Err(RecordFault::Memory) => Err(Halt::Memory),
+        Err(RecordFault::Bad { byte: within }) => {
+            Err(walk.bad_at(byte.saturating_add(within as u64)))
+        }
     }
 }
 
@@ -179,39 +203,34 @@ fn next_block<L: Disk>(disk: &mut L, walk: &Walk) -> Result<Block, Halt>
 {
     let mut head = [0u8; PAYLOAD_AT];
     read(disk, walk.offset(), &mut head)?;
-    let [
-        _,
-        f0,
-        f1,
-        f2,
-        f3,
-        f4,
-        f5,
-        f6,
-        f7,
-        c0,
-        c1,
-        c2,
-        c3,
-        c4,
-        c5,
-        c6,
-        c7,
-        n0,
-        n1,
-        l0,
-        l1,
-        l2,
-        l3,
-    ] = head;
     Ok(Block {
         number: walk.next_block(),
         offset: walk.offset(),
-        first: u64::from_be_bytes([f0, f1, f2, f3, f4, f5, f6, f7]),
-        checkpoint: u64::from_be_bytes([c0, c1, c2, c3, c4, c5, c6, c7]),
-        count: u16::from_be_bytes([n0, n1]),
-        length: u32::from_be_bytes([l0, l1, l2, l3]),
+        first: u64_at(&head, FIRST_AT),
+        checkpoint: u64_at(&head, CHECKPOINT_AT),
+        count: u16_at(&head, COUNT_AT),
+        length: u32_at(&head, LENGTH_AT),
     })
+}
+
+fn u64_at(head: &[u8], at: usize) -> u64
+    requires { at + 8 ≤ length head.now }
+{
+    let b = &head[at..at + 8];
+    u64::from_be_bytes([b[0], b[1], b[2], b[3], b[4], b[5], b[6], b[7]])
+}
+
+fn u32_at(head: &[u8], at: usize) -> u32
+    requires { at + 4 ≤ length head.now }
+{
+    let b = &head[at..at + 4];
+    u32::from_be_bytes([b[0], b[1], b[2], b[3]])
+}
+
+fn u16_at(head: &[u8], at: usize) -> u16
+    requires { at + 2 ≤ length head.now }
+{
+    u16::from_be_bytes([head[at], head[at + 1]])
 }
 
 fn payload_of<L: Disk>(alloc: Global, disk: &mut L, block: &Block) -> Result<Vec<u8>, Halt>
@@ -226,19 +245,23 @@ fn payload_of<L: Disk>(alloc: Global, disk: &mut L, block: &Block) -> Result<Vec
 fn block_line(alloc: Global, walk: &Walk, block: &Block) -> Result<Line, AllocError> {
     let mut line = Line::new(alloc, "block")?;
     line.count(block.number)?;
-    line.number("at", walk.place())?;
-    line.number("first", block.first)?;
-    line.number("checkpoint", block.checkpoint)?;
-    line.number("records", u64::from(block.count))?;
-    line.number("payload", u64::from(block.length))?;
+    line.numbers(&[
+        ("at", walk.place()),
+        ("first", block.first),
+        ("checkpoint", block.checkpoint),
+        ("records", u64::from(block.count)),
+        ("payload", u64::from(block.length)),
+    ])?;
     Ok(line)
 }
 
 fn end_line(alloc: Global, walk: &Walk) -> Result<Line, AllocError> {
     let totals = walk.totals();
     let mut line = Line::new(alloc, "log")?;
-    line.number("end", walk.place())?;
-    line.number("blocks", totals.blocks)?;
-    line.number("records", totals.records)?;
+    line.numbers(&[
+        ("end", walk.place()),
+        ("blocks", totals.blocks),
+        ("records", totals.records),
+    ])?;
     Ok(line)
 }

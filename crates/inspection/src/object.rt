@@ -1,7 +1,7 @@
 //! The objects of a vault.
-
 use crate::halt::Halt;
-use crate::line::{Line, write_line};
+use crate::printing::write_line;
+use field_line::Line;
 use media::{Sink, Vault};
 use std::alloc::{AllocError, Global};
 use store_model::{ObjectKind, ObjectName};
@@ -36,8 +36,7 @@ fn object_line(alloc: Global, object: ObjectName, size: u64) -> Result<Line, All
     match object.kind {
         ObjectKind::Run => line.number("run", object.id)?,
         ObjectKind::Backup => {
-            line.number("backup", object.id)?;
-            line.number("segment", u64::from(object.part))?;
+            line.numbers(&[("backup", object.id), ("segment", u64::from(object.part))])?;
         }
     }
     line.number("bytes", size)?;

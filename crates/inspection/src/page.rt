@@ -2,10 +2,11 @@
 ghost use Rattle.std.specs.Prelude.{◌≤◌, OnOk};
 
 use crate::halt::Halt;
-use crate::line::{Line, write_line};
-use crate::state::put_state;
+use crate::printing::write_line;
+use field_line::Line;
 use media::{PageBytes, PageDevice, Sink};
 use page_image::{PageFault, Sealed, open_page};
+use record_line::put_state;
 use std::alloc::{AllocError, Global};
 use store_model::{Lsn, PageNo};
 

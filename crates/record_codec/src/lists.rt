@@ -14,7 +14,7 @@ use state_codec::{
     u64_in_front,
 };
 use std::alloc::Global;
-use store_model::{HIGHEST, List};
+use store_model::{HIGHEST, List, MOST_PAGES};
 use wal_record::{OpenWrite, PageHead, PageLsn, Run, Unfinished};
 
 fn rises_above_open_write(before: &[OpenWrite], n: u64) -> bool
@@ -98,7 +98,9 @@ fn page_lsn_page_at<'a>(before: &[PageLsn], bytes: &'a [u8]) -> Result<(u32, &'a
     ensures { Gives (λ x. (x.0, x.1.now)) result (number_at w32 (λ n. is_page n && rises_above (λ (x : PageLsn). x.page) before.now n) bytes.now) }
 {
     match u32_in_front(bytes) {
-        Some((n, rest)) if n >= 1 && n <= 16384 && rises_above_page_lsn(before, n) => Ok((n, rest)),
+        Some((n, rest)) if n >= 1 && n <= MOST_PAGES && rises_above_page_lsn(before, n) => Ok((
+            n, rest,
+        )),
         _ => Err(FieldFault::Bad { left: bytes.len() }),
     }
 }

@@ -263,24 +263,26 @@ fn grow_at(alloc: Global, bytes: &[u8]) -> Result<(Record, &[u8]), FieldFault>
 fn record_at(alloc: Global, bytes: &[u8]) -> Result<(Record, &[u8]), FieldFault>
     ensures { Gives (λ x. (x.0, x.1.now)) result (record_at bytes.now) }
 {
-    match bytes {
-        [] => Err(FieldFault::Bad { left: 0 }),
-        [1, rest @ ..] => format_at(rest),
-        [2, rest @ ..] => write_at(rest),
-        [3, rest @ ..] => apply_at(rest),
-        [4, rest @ ..] => undo_at(rest),
-        [5, rest @ ..] => commit_at(rest),
-        [6, rest @ ..] => end_at(rest),
-        [7, rest @ ..] => split_at(alloc, rest),
-        [8, rest @ ..] => adopt_at(rest),
-        [9, rest @ ..] => grow_at(alloc, rest),
-        [10, rest @ ..] => purge_at(rest),
-        [11, rest @ ..] => written_at(rest),
-        [12, rest @ ..] => checkpoint_at(alloc, rest),
-        [13, rest @ ..] => backup_done_at(alloc, rest),
-        [14, rest @ ..] => run_done_at(rest),
-        [15, rest @ ..] => lost_at(rest),
-        [16, rest @ ..] => restored_at(rest),
+    let [kind, rest @ ..] = bytes else {
+        return Err(FieldFault::Bad { left: 0 });
+    };
+    match *kind {
+        1 => format_at(rest),
+        2 => write_at(rest),
+        3 => apply_at(rest),
+        4 => undo_at(rest),
+        5 => commit_at(rest),
+        6 => end_at(rest),
+        7 => split_at(alloc, rest),
+        8 => adopt_at(rest),
+        9 => grow_at(alloc, rest),
+        10 => purge_at(rest),
+        11 => written_at(rest),
+        12 => checkpoint_at(alloc, rest),
+        13 => backup_done_at(alloc, rest),
+        14 => run_done_at(rest),
+        15 => lost_at(rest),
+        16 => restored_at(rest),
         _ => Err(FieldFault::Bad { left: bytes.len() }),
     }
 }

@@ -3,13 +3,14 @@ ghost use Rattle.std.specs.Prelude.{◌≡◌, ◌++◌, ◌∷◌, OnOk, OnErr,
 ghost use Rattle.wal_record.specs.Rules.{HasSpelling, KeepsCheckpoint, KeepsBackupDone, KeepsSplit, KeepsGrow};
 ghost use Rattle.wal_record.specs.Spelling.{spelling};
 ghost use Rattle.wal_record.specs.declared.record.Record.TheVariants as kinds;
+ghost use Rattle.record_codec.specs.Parts.{change_bytes, losses_bytes};
 
 use crate::list_writing::{
     put_page_heads, put_page_lsns, put_runs, put_segments, put_transactions,
 };
 use state_codec::{put_argument, put_key, put_maybe_value, put_state, put_u8, put_u32, put_u64};
 use std::alloc::{AllocError, Global};
-use store_model::Memory;
+use store_model::{Key, Lsn, Memory, PageNo, TxId};
 use wal_record::{
     Adopt, Apply, BackupDone, Checkpoint, Commit, End, Format, Grow, Lost, Purge, Record, Restored,
     RunDone, Split, Undo, Write, Written,
@@ -26,15 +27,39 @@ fn put_format(out: &mut Vec<u8>, found: &Format) -> Result<(), AllocError>
     put_u32(out, found.limit)
 }
 
+/// Appends a kind, and what each change of a row has behind it: its transaction, its page and its key, each with the
+/// record before.
+fn put_change(
+    out: &mut Vec<u8>,
+    kind: u8,
+    tx: TxId,
+    prev: Lsn,
+    page: PageNo,
+    page_prev: Lsn,
+    key: &Key,
+) -> Result<(), AllocError>
+    ensures { OnOk result (out.new.items ≡ out.old.items ++ kind ∷ change_bytes tx prev page page_prev key.now) }
+{
+    out.push(kind)?;
+    put_u64(out, tx)?;
+    put_u64(out, prev)?;
+    put_u32(out, page)?;
+    put_u64(out, page_prev)?;
+    put_key(out, key)
+}
+
 fn put_write(out: &mut Vec<u8>, found: &Write) -> Result<(), AllocError>
     ensures { OnOk result (out.new.items ≡ out.old.items ++ spelling (kinds.Write found.now)) }
 {
-    out.push(2)?;
-    put_u64(out, found.tx)?;
-    put_u64(out, found.prev)?;
-    put_u32(out, found.page)?;
-    put_u64(out, found.page_prev)?;
-    put_key(out, &found.key)?;
+    put_change(
+        out,
+        2,
+        found.tx,
+        found.prev,
+        found.page,
+        found.page_prev,
+        &found.key,
+    )?;
     put_maybe_value(out, &found.old)?;
     put_maybe_value(out, &found.new)
 }
@@ -42,12 +67,15 @@ fn put_write(out: &mut Vec<u8>, found: &Write) -> Result<(), AllocError>
 fn put_apply(out: &mut Vec<u8>, found: &Apply) -> Result<(), AllocError>
     ensures { OnOk result (out.new.items ≡ out.old.items ++ spelling (kinds.Apply found.now)) }
 {
-    out.push(3)?;
-    put_u64(out, found.tx)?;
-    put_u64(out, found.prev)?;
-    put_u32(out, found.page)?;
-    put_u64(out, found.page_prev)?;
-    put_key(out, &found.key)?;
+    put_change(
+        out,
+        3,
+        found.tx,
+        found.prev,
+        found.page,
+        found.page_prev,
+        &found.key,
+    )?;
     put_u8(out, found.operator)?;
     put_argument(out, &found.argument)?;
     put_maybe_value(out, &found.old)
@@ -56,12 +84,15 @@ fn put_apply(out: &mut Vec<u8>, found: &Apply) -> Result<(), AllocError>
 fn put_undo(out: &mut Vec<u8>, found: &Undo) -> Result<(), AllocError>
     ensures { OnOk result (out.new.items ≡ out.old.items ++ spelling (kinds.Undo found.now)) }
 {
-    out.push(4)?;
-    put_u64(out, found.tx)?;
-    put_u64(out, found.prev)?;
-    put_u32(out, found.page)?;
-    put_u64(out, found.page_prev)?;
-    put_key(out, &found.key)?;
+    put_change(
+        out,
+        4,
+        found.tx,
+        found.prev,
+        found.page,
+        found.page_prev,
+        &found.key,
+    )?;
     put_maybe_value(out, &found.restores)?;
     put_u64(out, found.undo_next)
 }
@@ -144,6 +175,14 @@ fn put_checkpoint(out: &mut Vec<u8>, found: &Checkpoint) -> Result<(), AllocErro
     put_u32(out, found.limit)?;
     put_page_heads(out, &found.pages)?;
     put_transactions(out, &found.transactions)?;
+    put_losses(out, found)
+}
+
+/// Appends what a Checkpoint says of lost pages, of runs, and of the numbers to come.
+fn put_losses(out: &mut Vec<u8>, found: &Checkpoint) -> Result<(), AllocError>
+    requires { KeepsCheckpoint found.now }
+    ensures { OnOk result (out.new.items ≡ out.old.items ++ losses_bytes found.now) }
+{
     put_u32(out, found.lost)?;
     put_segments(out, &found.unrestored)?;
     put_runs(out, &found.runs)?;

@@ -1,16 +1,17 @@
 //! The lists of records, behind what stands before them in a line.
-
-use crate::line::Line;
+use field_line::Line;
 use std::alloc::AllocError;
 use wal_record::{OpenWrite, PageHead, PageLsn, Run, Unfinished};
 
 pub fn put_heads(line: &mut Line, pages: &[PageHead]) -> Result<(), AllocError> {
     line.number("pages", pages.len() as u64)?;
     for page in pages {
-        line.number("head", page.head)?;
-        line.number("written", page.written)?;
-        line.number("backup", page.backup)?;
-        line.number("backup_lsn", page.backup_lsn)?;
+        line.numbers(&[
+            ("head", page.head),
+            ("written", page.written),
+            ("backup", page.backup),
+            ("backup_lsn", page.backup_lsn),
+        ])?;
     }
     Ok(())
 }
@@ -18,12 +19,18 @@ pub fn put_heads(line: &mut Line, pages: &[PageHead]) -> Result<(), AllocError> 
 pub fn put_transactions(line: &mut Line, transactions: &[Unfinished]) -> Result<(), AllocError> {
     line.number("transactions", transactions.len() as u64)?;
     for transaction in transactions {
-        line.number("tx", transaction.tx)?;
-        line.number("last", transaction.last)?;
-        line.number("undo_next", transaction.undo_next)?;
-        put_writes(line, transaction.writes.as_slice())?;
+        put_transaction(line, transaction)?;
     }
     Ok(())
+}
+
+fn put_transaction(line: &mut Line, transaction: &Unfinished) -> Result<(), AllocError> {
+    line.numbers(&[
+        ("tx", transaction.tx),
+        ("last", transaction.last),
+        ("undo_next", transaction.undo_next),
+    ])?;
+    put_writes(line, transaction.writes.as_slice())
 }
 
 fn put_writes(line: &mut Line, writes: &[OpenWrite]) -> Result<(), AllocError> {
@@ -46,9 +53,7 @@ pub fn put_segments(line: &mut Line, segments: &[u32]) -> Result<(), AllocError>
 pub fn put_runs(line: &mut Line, runs: &[Run]) -> Result<(), AllocError> {
     line.number("runs", runs.len() as u64)?;
     for run in runs {
-        line.number("run", run.run)?;
-        line.number("first", run.first)?;
-        line.number("last", run.last)?;
+        line.numbers(&[("run", run.run), ("first", run.first), ("last", run.last)])?;
     }
     Ok(())
 }
@@ -56,8 +61,7 @@ pub fn put_runs(line: &mut Line, runs: &[Run]) -> Result<(), AllocError> {
 pub fn put_images(line: &mut Line, pages: &[PageLsn]) -> Result<(), AllocError> {
     line.number("pages", pages.len() as u64)?;
     for page in pages {
-        line.number("page", u64::from(page.page))?;
-        line.number("lsn", page.lsn)?;
+        line.numbers(&[("page", u64::from(page.page)), ("lsn", page.lsn)])?;
     }
     Ok(())
 }

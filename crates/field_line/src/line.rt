@@ -3,11 +3,9 @@ ghost use Rattle.std.specs.Prelude.{◌≡◌, ◌++◌, ◌<◌, IfOk, OnOk, co
 ghost use Rattle.std.specs.Fmt.{decimal};
 ghost use Rattle.std.specs.List.{flat_map};
 ghost use Rattle.transcript.specs.Printing.{digit, escaped, escaped_byte};
-ghost use Rattle.inspection.specs.Printing.{with_field, without_field};
+ghost use Rattle.field_line.specs.Printing.{with_field, without_field, number_field};
 
-use crate::halt::Halt;
 use itoa::Buffer;
-use media::{Sink, write_all};
 use script::is_plain;
 use std::alloc::{AllocError, Global};
 use std::marker::Model;
@@ -75,6 +73,16 @@ impl Line {
         self.word(name)?;
         self.put(b"=")?;
         self.put_number(number)
+    }
+
+    /// Adds numbers, one behind the other.
+    pub fn numbers(&mut self, fields: &[(&str, u64)]) -> Result<(), AllocError>
+        ensures { OnOk result (self.new ≡ self.old ++ flat_map number_field fields.now) }
+    {
+        for field in fields {
+            self.number(field.0, field.1)?;
+        }
+        Ok(())
     }
 
     /// Adds a text.
@@ -154,14 +162,5 @@ fn digit(number: u8) -> u8
         48 + number
     } else {
         87 + number
-    }
-}
-
-/// Writes the line and its end.
-pub fn write_line<K: Sink>(sink: &mut K, line: Line) -> Result<(), Halt> {
-    let bytes = line.ended()?;
-    match write_all(sink, bytes.as_slice()) {
-        Ok(()) => Ok(()),
-        Err(_) => Err(Halt::Sink),
     }
 }
