@@ -6,5 +6,7 @@ pub mod Grouped
 pub mod Keeping
 pub mod Moving
 pub mod Own
+pub mod Repairing
 pub mod Sessions
 pub mod Small
+pub mod Tallying

@@ -6,12 +6,13 @@ use Rattle.books.specs.declared.entry.BookEntry.{BookEntry}
 use Rattle.wal_record.specs.Books.{page_book, maintenance_book, session_entries, session_transaction}
 use Rattle.wal_record.specs.Chains.{greatest}
 use Rattle.wal_record.specs.Sound.{IsSound}
-use Rattle.wal_record.specs.History.{Phase, Idle, phase, is_live, Beginning, beginnings, greatest_begun, last_begun}
+use Rattle.wal_record.specs.History.{log_of, Phase, Idle, phase, is_live, Beginning, beginnings, greatest_begun, last_begun}
 use Rattle.wal_record.specs.declared.record.Record.{Record}
 use Rattle.wal_record.specs.declared.record.Record.TheVariants as kinds
 use Rattle.wal_record.specs.declared.entry.Entry.{Entry}
 use Rattle.wal_record.specs.declared.entry.Entry.TheVariants as entries
 use Rattle.page_ops.specs.Names.{LedgerName}
+use Rattle.page_ops.specs.Outcomes.{is_undo, is_repaired}
 use Rattle.page_ops.specs.Seeing.{Account, Counted, IsConsistent, of_sessions}
 
 -- the numbers that it counts: its entries, the next session, the next transaction, and how many transactions are live
@@ -79,6 +80,11 @@ pub record IsKept (opens : List Record → Type 0) (h : List Entry) (n : Numbers
   pub books : AreKept opens h b
   pub counted : total ≡ length h
   pub sessions_counted : of_session ≡ of_sessions h
+
+-- so many writes were undone, and so many pages repaired
+pub record IsTallied (h : List Entry) (undos repairs : ℕ) : Type 0 where
+  pub undone : undos ≡ length (filter is_undo (log_of h))
+  pub repaired : repairs ≡ length (filter is_repaired h)
 
 -- the entry is no record, and no transaction begins or ends by it
 abbrev pub is_calm : Entry → Bool

@@ -4,7 +4,7 @@ ghost use Rattle.life_history.specs.Kept.{HasCause};
 
 use page_ops::{Entries, Life, LogFaults, Made, SessionEntries, VaultFaults};
 use std::marker::Model;
-use std::sync::ledger::Share;
+use std::sync::ledger::{Book, Share};
 use store_model::Lsn;
 
 /// A thread's shares of the ledgers of its life, and the LSN up to which the log was durable as the life ended, where the
@@ -17,10 +17,12 @@ pub struct Counts<N: Life> {
     pub vault_faults: Share<VaultFaults<N>>,
     pub made: Share<Made<N>>,
     pub ended: Option<Lsn>,
+    /// How many faults of the log disk were counted.
+    pub faults: u64,
 }
 
 impl<N: Life> Model for Counts<N> {
-    ghost use Rattle.std.specs.Prelude.{◌≡◌, ◌<◌};
+    ghost use Rattle.std.specs.Prelude.{◌≡◌, ◌<◌, ◌-◌, ◌^◌, min};
     ghost use Rattle.page_ops.specs.Seeing.{Account};
     ghost use Rattle.life_history.specs.Kept.{KnowsWhy};
 
@@ -35,11 +37,11 @@ impl<N: Life> Model for Counts<N> {
       ended = c.ended;
     } };
 
-    ghost invariant = { λ c. (0 < c.entries.parts) × (0 < c.session_entries.parts) × (0 < c.log_faults.parts) × (0 < c.made.parts) × (c.vault_faults.amount ≡ 0) × KnowsWhy N.log_faults c.ended (record { parts = c.log_faults.parts; amount = c.log_faults.amount }) };
+    ghost invariant = { λ c. (0 < c.entries.parts) × (0 < c.session_entries.parts) × (0 < c.log_faults.parts) × (0 < c.made.parts) × (c.vault_faults.amount ≡ 0) × (c.faults ≡ min c.log_faults.amount (2 ^ 64 - 1)) × KnowsWhy N.log_faults c.ended (record { parts = c.log_faults.parts; amount = c.log_faults.amount }) };
 }
 
 impl<N: Life> Counts<N> {
-    ghost use Rattle.std.specs.Prelude.{◌≡◌, ◌<◌, ◌+◌, None};
+    ghost use Rattle.std.specs.Prelude.{◌≡◌, ◌<◌, ◌+◌, ◌-◌, ◌^◌, min, None};
 
     /// It knows then that the life has ended, since the log disk failed.
     pub fn end(&mut self, at: Lsn)
@@ -55,6 +57,31 @@ impl<N: Life> Counts<N> {
         ensures cause { IfSome result (λ at. HasCause N.log_faults self.now.log_faults) }
     {
         self.ended
+    }
+
+    /// Counts a fault of the log disk, which has ended the life. It knows that then.
+    pub fn fail(&mut self, faults: &mut Book<LogFaults<N>>, at: Lsn)
+        ensures total { faults.new.total ≡ faults.old.total + 1 }
+        ensures counts { self.new ≡ record self.old { log_faults = record { parts = self.old.log_faults.parts; amount = self.old.log_faults.amount + 1 }; ended = Some at } }
+    {
+        faults.add(&mut self.log_faults, 1);
+        self.faults = self.faults.saturating_add(1);
+        self.ended = Some(at);
+    }
+
+    /// How many faults of the log disk were counted with it.
+    pub fn log_faults(&self) -> u64
+        ensures { result ≡ min self.now.log_faults.amount (2 ^ 64 - 1) }
+    {
+        self.faults
+    }
+
+    /// How many faults of the vault were counted with it: none, since it calls no vault.
+    pub fn vault_faults(&self) -> u64
+        ensures { result ≡ min self.now.vault_faults.amount (2 ^ 64 - 1) }
+    {
+        let _ = &self.vault_faults;
+        0
     }
 
     /// One part of each share, with which nothing was counted yet, where it doesn't know of an end.
@@ -79,6 +106,7 @@ impl<N: Life> Counts<N> {
             vault_faults: self.vault_faults.split_off(1, 0),
             made: self.made.split_off(1, 0),
             ended: None,
+            faults: 0,
         }
     }
 
@@ -94,6 +122,7 @@ impl<N: Life> Counts<N> {
             vault_faults,
             made,
             ended: _,
+            faults,
         } = other;
         self.entries.merge(entries);
         self.session_entries.merge(session_entries);
@@ -101,5 +130,6 @@ impl<N: Life> Counts<N> {
         self.vault_faults.merge(vault_faults);
         self.made.merge(made);
         self.ended = None;
+        self.faults = self.faults.saturating_add(faults);
     }
 }

@@ -1,18 +1,19 @@
 //! The history, and what it keeps beside the entries.
-ghost use Rattle.std.specs.Prelude.{◌≡◌, ◌⊎◌, ◌+◌, ◌*◌, ◌<◌, ◌≤◌, ◌^◌, List, [], ◌∷◌, ◌++◌, length, true, Some, None, IfSome, IsSome, OnOk, OnErr, IfOk, IfErr, IsTrue};
+ghost use Rattle.std.specs.Prelude.{◌≡◌, ◌⊎◌, ◌+◌, ◌*◌, ◌<◌, ◌≤◌, ◌^◌, List, [], ◌∷◌, ◌++◌, length, filter, true, Some, None, IfSome, IsSome, OnOk, OnErr, IfOk, IfErr, IsTrue};
 ghost use Rattle.std.specs.List.{list_all, list_any};
 ghost use mathlib.Core.List.{IsPrefix};
 ghost use Rattle.page_ops.specs.Causes.{with_one};
 ghost use Rattle.page_ops.specs.Claims.{Agree, MaintAgrees, PageAgrees, SessionAgrees, no_claims, session_alone};
 ghost use Rattle.page_ops.specs.Groups.{Each, HasSpeaker, group_entries, needs_maintenance};
-ghost use Rattle.page_ops.specs.Outcomes.{IsCrowd, begun};
+ghost use Rattle.page_ops.specs.Outcomes.{IsCrowd, begun, is_repaired, is_undo};
 ghost use Rattle.page_ops.specs.Seeing.{Enters, HasTotals, IsConsistent, Looks, known, of_sessions};
 ghost use Rattle.store_model.specs.declared.fault.Fault.TheVariants as faults;
 ghost use Rattle.wal_record.specs.Books.{page_book};
 ghost use Rattle.wal_record.specs.Chains.{link_of, names};
-ghost use Rattle.wal_record.specs.History.{Committed, Live, life_log, live_count, phase};
+ghost use Rattle.wal_record.specs.History.{Committed, Live, life_log, live_count, log_of, phase};
 ghost use Rattle.wal_record.specs.Rules.{is_number, is_page};
 ghost use Rattle.wal_record.specs.Sound.{IsSound};
+ghost use Rattle.wal_record.specs.Upkeep.{written_lsn};
 ghost use Rattle.wal_record.specs.declared.entry.Entry.{Entry};
 ghost use Rattle.wal_record.specs.declared.entry.Entry.TheVariants as entries;
 ghost use Rattle.wal_record.specs.declared.record.Record.{Record};
@@ -20,6 +21,7 @@ ghost use Rattle.life_history.specs.Groups.{IsOwn, counted_group, is_covered, is
 ghost use Rattle.life_history.specs.Kept.{AreKept, Begins, IsOneOf, IsSmall, commit_entry, counted_more, end_entry};
 
 use crate::counts::Counts;
+use crate::raising::undone_of;
 use crate::stand::Stand;
 use books::{Books, MaintRight, PageRight, SessionRight};
 use front::{Added, Front, Pass};
@@ -43,19 +45,21 @@ pub struct History<'a, N: Life> {
     next_tx: TxId,
     live: u32,
     next_page: PageNo,
+    undone: u64,
+    repaired: u64,
     stand: Stand<'a, N>,
 }
 
 impl<'a, N: Life> Model for History<'a, N> {
     ghost use Rattle.std.specs.Prelude.{List, IsSome};
     ghost use Rattle.wal_record.specs.declared.entry.Entry.{Entry};
-    ghost use Rattle.life_history.specs.Kept.{IsKept, IsSmall};
+    ghost use Rattle.life_history.specs.Kept.{IsKept, IsSmall, IsTallied};
 
     ghost Value = { List Entry };
 
     ghost view = { λ h. h.stand.front };
 
-    ghost invariant = { λ h. IsSome h.stand.spare × IsKept N.opens h.stand.front (record { entries = h.count; session = h.next_session; tx = h.next_tx; live = h.live }) (record { pages = h.stand.books.pages; sessions = h.stand.books.sessions; maint = h.stand.books.maint }) h.stand.entries.total h.stand.session_entries.total × IsSmall h.next_page (record { pages = h.stand.books.pages; sessions = h.stand.books.sessions; maint = h.stand.books.maint }) };
+    ghost invariant = { λ h. IsSome h.stand.spare × IsKept N.opens h.stand.front (record { entries = h.count; session = h.next_session; tx = h.next_tx; live = h.live }) (record { pages = h.stand.books.pages; sessions = h.stand.books.sessions; maint = h.stand.books.maint }) h.stand.entries.total h.stand.session_entries.total × IsSmall h.next_page (record { pages = h.stand.books.pages; sessions = h.stand.books.sessions; maint = h.stand.books.maint }) × IsTallied h.stand.front h.undone h.repaired };
 }
 
 impl<'a, N: Life> History<'a, N> {
@@ -86,6 +90,8 @@ impl<'a, N: Life> History<'a, N> {
             next_tx,
             live: 0,
             next_page,
+            undone: 0,
+            repaired: 0,
             stand: Stand {
                 ground,
                 front,
@@ -241,6 +247,17 @@ impl<'a, N: Life> History<'a, N> {
         Ok(SessionRight::of(right))
     }
 
+    /// Counts one more desk of the life. It enters nothing.
+    pub fn desk(&mut self, pass: &mut Pass<Entry, N>, counts: &mut Counts<N>)
+        ensures same { self.new ≡ self.old }
+        ensures seen { Looks N.opens N.entries N.session_entries (record counts.old { made = counts.new.made }) pass.old counts.new pass.new }
+        ensures made { counts.new.made ≡ record counts.old.made { amount = counts.old.made.amount + 1 } }
+        ensures counts { counts.new ≡ record counts.old { made = counts.new.made } }
+    {
+        self.look(pass, counts);
+        self.stand.made.add(&mut counts.made, 1);
+    }
+
     /// Begins a transaction of the session, with the next number. `TooManyActive` exactly where 64 are live. It wants memory
     /// where a counter has reached 2^62.
     pub fn begin(
@@ -274,6 +291,30 @@ impl<'a, N: Life> History<'a, N> {
         self.live += 1;
         self.stand.front.meet(&ground.board, pass);
         Ok(tx)
+    }
+
+    /// Enters that the page was repaired, of which an image was written.
+    #[tactic(auto, using(crate::proofs::Tallying::repaired_within))]
+    pub fn enter_repaired(
+        &mut self,
+        page: PageNo,
+        pass: &mut Pass<Entry, N>,
+        counts: &mut Counts<N>,
+    )
+        requires few { length self.old < 2 ^ 62 }
+        requires image { (opening : List Record) → N.opens opening → 0 < written_lsn (life_log opening self.old) page }
+        ensures history { self.new ≡ self.old ++ entries.Repaired page ∷ [] }
+        ensures live { (live_count self.new ≡ live_count self.old) × (live_count self.old ≤ 64) }
+        ensures seen { pass.new.log ≡ self.new }
+        ensures entered { Enters N.opens N.entries N.session_entries (known counts.old pass.old no_claims) (entries.Repaired page ∷ []) (known counts.new pass.new no_claims) }
+        ensures counts { counts.new ≡ counted_group counts.old 1 0 }
+    {
+        self.look(pass, counts);
+        let ground = self.stand.ground;
+        self.stand.enter_repaired(page, counts);
+        self.count += 1;
+        self.repaired += 1;
+        self.stand.front.meet(&ground.board, pass);
     }
 
     /// Enters an entry of the session that is no record, and by which no transaction begins or ends.
@@ -399,6 +440,7 @@ impl<'a, N: Life> History<'a, N> {
 
     /// Enters a group: records from this LSN on by which no transaction ends, and the answer of a request. `new` is the
     /// right to the page that they make, where they make one. All rights are raised.
+    #[tactic(auto, using(crate::proofs::Tallying::undone_within))]
     pub fn enter_group(
         &mut self,
         lsn: Lsn,
@@ -428,6 +470,7 @@ impl<'a, N: Life> History<'a, N> {
         ensures counts { counts.new ≡ counted_group counts.old (length (group_entries lsn recs.now said.now)) (own_entries recs.now said.now) }
         ensures counted { of_sessions self.new ≡ of_sessions self.old + own_entries recs.now said.now }
     {
+        self.undone += undone_of(recs);
         self.count += self.stand.enter_group(lsn, recs, said, new, rights, counts);
     }
 
@@ -501,6 +544,20 @@ impl<'a, N: Life> History<'a, N> {
     /// What the threads of the life share.
     pub fn ground(&self) -> &Ground<N> {
         self.stand.ground
+    }
+
+    /// How many writes the life has undone.
+    pub fn undone(&self) -> u64
+        ensures { result ≡ length (filter is_undo (log_of self.now)) }
+    {
+        self.undone
+    }
+
+    /// How many pages the life has repaired, counting each time.
+    pub fn repaired(&self) -> u64
+        ensures { result ≡ length (filter is_repaired self.now) }
+    {
+        self.repaired
     }
 
     /// How many entries it has.

@@ -1,8 +1,10 @@
 //! What the records of a group make of the rights to pages and to maintenance, and of their books.
-ghost use Rattle.std.specs.Prelude.{◌≡◌, ◌+◌, ◌<◌, ◌≤◌, ◌^◌, ℕ, length, is_some, true, IfSome, IsTrue};
+ghost use Rattle.std.specs.Prelude.{◌≡◌, ◌+◌, ◌<◌, ◌≤◌, ◌^◌, ℕ, length, filter, is_some, true, IfSome, IsTrue};
 ghost use Rattle.std.specs.List.{list_any};
 ghost use Rattle.std.specs.Option.{option_map};
 ghost use Rattle.page_ops.specs.Groups.{group_entries, needs_maintenance};
+ghost use Rattle.page_ops.specs.Outcomes as outcomes;
+ghost use Rattle.page_ops.specs.Outcomes.{is_undo};
 ghost use Rattle.wal_record.specs.Rules.{is_page};
 ghost use Rattle.wal_record.specs.Chains.{link_of};
 ghost use Rattle.wal_record.specs.Chains as chains;
@@ -105,6 +107,29 @@ pub(crate) fn own_of(recs: &[Record], said: &Option<Said>) -> u64
         _ => unreachable!(),
     }
     own
+}
+
+/// How many of these records undo a write.
+pub(crate) fn undone_of(recs: &[Record]) -> u64
+    requires few { length recs.now ≤ 2 }
+    ensures value { result ≡ length (filter is_undo recs.now) }
+    ensures few { result ≤ 2 }
+{
+    let mut undone = 0;
+    match recs {
+        [] => {}
+        [one] => undone += u64::from(is_undo(one)),
+        [one, two] => undone += u64::from(is_undo(one)) + u64::from(is_undo(two)),
+        _ => unreachable!(),
+    }
+    undone
+}
+
+/// Whether the record undoes a write.
+fn is_undo(rec: &Record) -> bool
+    ensures { result ≡ outcomes.is_undo rec.now }
+{
+    matches!(rec, Record::Undo(_))
 }
 
 /// How many entries a group has.

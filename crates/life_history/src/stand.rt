@@ -7,6 +7,7 @@ ghost use Rattle.books.specs.Rights.{session_entry};
 ghost use Rattle.page_ops.specs.Groups.{group_entries};
 ghost use Rattle.wal_record.specs.Chains.{names};
 ghost use Rattle.wal_record.specs.Rules.{is_page};
+ghost use Rattle.wal_record.specs.declared.entry.Entry.TheVariants.{Repaired};
 ghost use Rattle.life_history.specs.Groups.{ArePagesSet, IsMaintenanceSet, IsSessionSet, counted_group, own_entries, raised, raised_session};
 
 use crate::counts::Counts;
@@ -17,7 +18,7 @@ use page_ops::{Entries, Ground, Life, Made, Rights, Said, SessionEntries};
 use std::marker::Brand;
 use std::mem;
 use std::sync::ledger;
-use store_model::{Lsn, TxId};
+use store_model::{Lsn, PageNo, TxId};
 use wal_record::{Entry, Record};
 
 /// What a journal has of its life: the words that threads share, the front, the books, and those of the ledgers.
@@ -50,7 +51,34 @@ pub(crate) fn add_group<N: Life, A: Added<Entry>>(
     front.advance::<A>(board, count);
 }
 
+/// The front goes on by the entry that this page was repaired, which A has.
+fn add_repaired<N: Life, A: Added<Entry>>(
+    board: &Board<Entry, N>,
+    front: &mut Front<Entry, N>,
+    _page: PageNo,
+)
+    requires entry { A.entries ≡ Repaired _page ∷ [] }
+    requires fits { length front.old + 1 < 2 ^ 64 }
+    ensures { front.new ≡ front.old ++ Repaired _page ∷ [] }
+{
+    front.advance::<A>(board, 1);
+}
+
 impl<'a, N: Life> Stand<'a, N> {
+    /// Enters that the page was repaired, and counts the entry, which belongs to no session.
+    pub(crate) fn enter_repaired(&mut self, page: PageNo, counts: &mut Counts<N>)
+        requires fits { length self.old.front + 1 < 2 ^ 64 }
+        ensures books { self.new.books ≡ self.old.books }
+        ensures spare { self.new.spare ≡ self.old.spare }
+        ensures front { self.new.front ≡ self.old.front ++ Repaired page ∷ [] }
+        ensures total { self.new.entries.total ≡ self.old.entries.total + 1 }
+        ensures sessions_total { self.new.session_entries.total ≡ self.old.session_entries.total }
+        ensures counts { counts.new ≡ counted_group counts.old 1 0 }
+    {
+        add_repaired::<N, Brand>(&self.ground.board, &mut self.front, page);
+        self.entries.add(&mut counts.entries, 1);
+    }
+
     /// The book has the session's entry as its right has it. Both get these values.
     pub(crate) fn set_session(&mut self, s: &mut SessionRight<N>, entries: u64, tx: TxId)
         requires spare { IsSome self.old.spare }

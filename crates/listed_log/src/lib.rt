@@ -12,8 +12,11 @@
 //! 2. [`ListedLog::commit`] adds a Commit without memory, where [`ListedLog::reserve_commit`] made room.
 //! 3. [`ListedLog::flush_to`] makes the log durable up to an LSN. The records stay the same, also where it fails.
 //! 4. All that the listing knows of the records is read off [`ListedLog::listing`].
+//! 5. [`ListedLog::read`] gives the record of an LSN that the log keeps. [`ListedLog::recycle`] forgets the blocks that end
+//!    before the recycle point. The records stay the same, also where these fail.
 #![tactic(auto)]
 
+mod keeping;
 mod listed_log;
 mod noting;
 

@@ -11,7 +11,7 @@ use std::collections::BTreeMap;
 use store_model::{Key, List, Lsn, TxId};
 use wal_record::{Loser, OpenWrite, PageHead, Run, Unfinished};
 
-fn copy_of_head(head: &PageHead) -> PageHead
+pub fn copy_of_head(head: &PageHead) -> PageHead
     ensures { result ≡ head.now }
 {
     PageHead {

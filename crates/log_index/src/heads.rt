@@ -3,6 +3,7 @@ ghost use Rattle.std.specs.Prelude.{◌≡◌, ◌<◌, ◌⊎◌, ◌++◌, ◌
 ghost use Rattle.listing_laws.specs.Summary.{at_page, backed_up, entry_at, first_head, heads_step, with_backup, with_head, with_written};
 ghost use Rattle.log_index.specs.Ready.{HasPlace, makes_page};
 
+use crate::copies::copy_of_head;
 use std::alloc::AllocError;
 use store_model::{Lsn, PageNo};
 use wal_record::{PageHead, PageLsn, Record};
@@ -37,6 +38,21 @@ pub fn written_of(heads: &[PageHead], page: PageNo) -> Lsn
     match place_of(heads, page) {
         Some(place) => heads[place].written,
         None => 0,
+    }
+}
+
+/// The page's entry. Where there is none it has zeros.
+pub fn entry_of(heads: &[PageHead], page: PageNo) -> PageHead
+    ensures { result ≡ entry_at page heads.now }
+{
+    match place_of(heads, page) {
+        Some(place) => copy_of_head(&heads[place]),
+        None => PageHead {
+            head: 0,
+            written: 0,
+            backup: 0,
+            backup_lsn: 0,
+        },
     }
 }
 

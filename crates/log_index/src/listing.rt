@@ -1,5 +1,5 @@
 //! The listing.
-ghost use Rattle.std.specs.Prelude.{◌≡◌, ◌<◌, ◌+◌, ◌-◌, ◌^◌, ◌++◌, ◌∷◌, [], ℕ, List, length, None, false, suc, ◌==◌, IfOk, OnOk};
+ghost use Rattle.std.specs.Prelude.{◌≡◌, ◌<◌, ◌+◌, ◌-◌, ◌^◌, ◌++◌, ◌∷◌, [], ℕ, List, length, None, false, suc, ◌==◌, slice_get, IfOk, OnOk};
 ghost use Rattle.wal_record.specs.Chains.{greatest, head, link_of, pages};
 ghost use Rattle.wal_record.specs.OpenWrites.{is_loser, open_list, pending};
 ghost use Rattle.wal_record.specs.Rules.{HasSpelling};
@@ -7,7 +7,7 @@ ghost use Rattle.wal_record.specs.Sound.{AreLawful};
 ghost use Rattle.wal_record.specs.declared.record.Record.{Record};
 ghost use Rattle.wal_record.specs.declared.record.Record.TheVariants as kinds;
 ghost use Rattle.listing_laws.specs.Summary.{analysis_in, checkpoint_in, checkpoint_step, last_in, pending_in, summary_step};
-ghost use Rattle.wal_record.specs.Checkpoints.{analysis_of, checkpoint_of, commits, last_open, limit_of, last_checkpoint, recycle_point};
+ghost use Rattle.wal_record.specs.Checkpoints.{analysis_of, checkpoint_of, commits, last_open, limit_of, last_checkpoint, page_head, recycle_point};
 ghost use Rattle.wal_record.specs.Upkeep.{archived, last_backup, last_run, lost_pages, standing_runs, unrestored, written_lsn};
 ghost use Rattle.std.specs.List.{find, list_any};
 ghost use Rattle.log_index.specs.Table.{AreListed, HasRoom, IsCountOf, noted_step};
@@ -355,6 +355,13 @@ impl Listing {
         heads::written_of(&self.heads, page)
     }
 
+    /// The page's entry: the ends of its traces.
+    pub fn entry(&self, page: PageNo) -> PageHead
+        ensures { (log : List Record) → IsListingOf log self.now → AreLawful log → result ≡ page_head log page }
+    {
+        heads::entry_of(&self.heads, page)
+    }
+
     /// The LSN of the last open write of a transaction, 0 for none.
     pub fn undo_next(&self, tx: TxId) -> Lsn
         ensures { (log : List Record) → IsListingOf log self.now → AreLawful log → result ≡ last_open (open_list log tx) }
@@ -388,6 +395,13 @@ impl Listing {
         ensures { (log : List Record) → IsListingOf log self.now → result ≡ list_any (λ s. s == segment) (unrestored log) }
     {
         upkeep::has_segment(&self.upkeep.unrestored, segment)
+    }
+
+    /// The least segment that had a page at the last loss and wasn't restored since, if there is one.
+    pub fn first_unrestored(&self) -> Option<u32>
+        ensures { (log : List Record) → IsListingOf log self.now → result ≡ slice_get (unrestored log) 0 }
+    {
+        upkeep::first_segment(&self.upkeep.unrestored)
     }
 
     /// The LSN before which no opening, no undo and no archive run needs a record.

@@ -1,5 +1,5 @@
 //! What was lost of the data device and not yet restored, and which archive runs stand.
-ghost use Rattle.std.specs.Prelude.{◌≡◌, ◌≤◌, ◌++◌, ◌∷◌, [], true, false, length, ◌==◌, not, filter, nat_lt, OnOk, IfOk};
+ghost use Rattle.std.specs.Prelude.{◌≡◌, ◌≤◌, ◌++◌, ◌∷◌, [], true, false, length, ◌==◌, not, filter, nat_lt, slice_get, OnOk, IfOk};
 ghost use Rattle.wal_record.specs.Upkeep.{archived, lost_step, runs_step, segments, unrestored_step, with_run};
 ghost use Rattle.std.specs.List.{find, list_any};
 ghost use Rattle.std.specs.List.Sorted.{IsPartitionPoint};
@@ -148,4 +148,14 @@ pub fn has_segment(segments: &[u32], segment: u32) -> bool
     ensures { result ≡ list_any (λ s. s == segment) segments.now }
 {
     segments.iter().any(|s| *s == segment)
+}
+
+/// The first of these segments.
+pub fn first_segment(segments: &[u32]) -> Option<u32>
+    ensures { result ≡ slice_get segments.now 0 }
+{
+    match segments.first() {
+        Some(segment) => Some(*segment),
+        None => None,
+    }
 }

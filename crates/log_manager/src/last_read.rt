@@ -76,6 +76,7 @@ impl LastRead {
         ensures same { self.new ≡ self.old }
         ensures found { (rs : List Record) → All HasSpelling rs → self.old.payload ≡ bytes_of rs → lsn - self.old.first < length rs → IfOk result (IsAt rs (lsn - self.old.first)) × IfErr result (λ fault. fault ≡ faults.Memory) }
         ensures read { IfOk result (IsReadAt self.old.payload (lsn - self.old.first)) }
+        ensures spelling { IfOk result HasSpelling }
         ensures refused { IfErr result (IsUnreadAt self.old.block self.old.payload (lsn - self.old.first)) }
     {
         let place = lsn - self.first;

@@ -179,6 +179,7 @@ impl<L: Disk> LogManager<L> {
         requires kept { (first_kept self.old.log ≤ lsn) × (lsn < self.old.log.next) }
         ensures found { L.tells → (before : ℕ) (stable waiting : List Record) → IsLogOf L.told L.may_leave self.old.log before stable waiting
             → IfOk result (IsAt (stable ++ waiting) (lsn - first_kept self.old.log)) × IfErr result IsNoBadLog }
+        ensures spelling { IfOk result HasSpelling }
         // Also where the blocks hold others, it is what the block of the LSN has at its place.
         ensures read { L.tells → (bs : List Block) → IsDurable L.told L.may_leave self.old.log bs → IfOk result (IsRecordOf (bs ++ self.old.log.pending) lsn) }
         // That block is named as bad, at the first fault of its payload, only where that is reached before the record.

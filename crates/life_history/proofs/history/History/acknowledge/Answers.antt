@@ -4,6 +4,7 @@ use Rattle.page_ops.specs.Claims.{SessionAgrees}
 use Rattle.page_ops.specs.Seeing.{of_sessions}
 use Rattle.life_history.proofs.Commits.{entry_fits, acknowledged_consistent, acknowledged_kept, acknowledged_agrees, acknowledged_counted, acknowledged_live}
 use Rattle.life_history.proofs.Small.{small_same}
+use Rattle.life_history.proofs.Tallying.{tallied_other}
 use Rattle.life_history.proofs.history.History.acknowledge.Goals as goal
 
 pub enter-requires-clause-room : goal.enter-requires-clause-room
@@ -18,6 +19,7 @@ invariant_of-self g c =
           (let k = c.self.invariant.1 in let n = k.entries in let live = k.begun.counted in omega (arith, n, live, ap (λ l. length l) c.self.view_is, ap live_count c.self.view_is, c.requires.room))
           _ _ _ _ _ enter.book enter.others enter.total enter.sessions_total,
       small_same _ _ _ _ _ _ _ enter.others.0 enter.others.1 c.self.invariant.2,
+      tallied_other _ _ _ _ _ c.self.invariant.3 enter.front refl refl,
     )
 
 pub returns-clause-consistent : goal.returns-clause-consistent

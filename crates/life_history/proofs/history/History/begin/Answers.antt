@@ -3,6 +3,7 @@ use Rattle.wal_record.specs.History.{live_count}
 use Rattle.wal_record.specs.declared.entry.Entry.TheVariants.{Began}
 use Rattle.life_history.proofs.Entries.{watched, session_fits, begin_kept, begin_live, begin_entered, from_first}
 use Rattle.life_history.proofs.Small.{small_same}
+use Rattle.life_history.proofs.Tallying.{tallied_other}
 use Rattle.life_history.proofs.history.History.begin.Goals as goal
 
 pub enter-requires-clause-room : goal.enter-requires-clause-room
@@ -19,6 +20,7 @@ invariant_of-self g c =
       enter.spare,
       begin_kept _ _ _ _ _ _ _ _ _ _ _ c.self.invariant.1 _ _ _ _ _ _ _ _ enter.before enter.book enter.others (c.meet.ensures.list ∙ enter.front) refl enter.total enter.sessions_total (ap (λ s. s.tx) watch.right ∙ c.requires.free) c.if-self-eq-MOST_LIVE.false (omega (arith, c.if-self-ge-MOST.false)) (omega (arith, c.if-self-ge-MOST-2.false)),
       small_same _ _ _ _ _ _ _ enter.others.0 enter.others.1 c.self.invariant.2,
+      tallied_other _ _ _ _ _ c.self.invariant.3 (c.meet.ensures.list ∙ enter.front) refl refl,
     )
 
 pub returns-clause-entered : goal.returns-clause-entered

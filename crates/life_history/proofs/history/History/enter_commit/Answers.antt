@@ -6,6 +6,7 @@ use Rattle.life_history.specs.Kept.{commit_entry}
 use Rattle.life_history.proofs.Commits.{entry_fits, committed_kept, committed_live, committed_agrees, committed_counted}
 use Rattle.life_history.proofs.Moving.{is_counted}
 use Rattle.life_history.proofs.Small.{small_same}
+use Rattle.life_history.proofs.Tallying.{tallied_other}
 use Rattle.life_history.proofs.history.History.enter_commit.Goals as goal
 
 pub enter_record-requires-clause-room : goal.enter_record-requires-clause-room
@@ -24,6 +25,7 @@ invariant_of-self g c =
           (subst (λ h. IsConsistent _ (h ++ commit_entry c.args.lsn c.args.s.now.tx c.args.prev ∷ [])) (sym c.self.view_is) c.requires.consistent)
           _ refl _ _ _ _ _ enter.book enter.others enter.total enter.sessions_total,
       small_same _ _ _ _ _ _ _ enter.others.0 enter.others.1 c.self.invariant.2,
+      tallied_other _ _ _ _ _ c.self.invariant.3 enter.front refl refl,
     )
 
 pub returns-clause-live : goal.returns-clause-live

@@ -1,4 +1,4 @@
-use Rattle.std.proofs.Common.{◌≤◌, sym, ap, ◌∙◌, arith, length, ◌++◌, ◌+◌, subst, List, ◌≡◌}
+use Rattle.std.proofs.Common.{refl, ◌≤◌, sym, ap, ◌∙◌, arith, length, ◌++◌, ◌+◌, subst, List, ◌≡◌}
 use Rattle.std.specs.Prelude.{IfSome, IsSome}
 use Rattle.wal_record.specs.declared.record.Record.{Record}
 use Rattle.wal_record.specs.History.{life_log, live_count}
@@ -7,6 +7,7 @@ use Rattle.page_ops.specs.Groups.{group_entries}
 use Rattle.page_ops.specs.Seeing.{IsConsistent, of_sessions}
 use Rattle.life_history.specs.Groups.{own_entries}
 use Rattle.life_history.proofs.Grouped.{group_kept, small_group, continues, group_live, session_room}
+use Rattle.life_history.proofs.Tallying.{tallied_group, undone_within}
 use Rattle.life_history.proofs.history.History.enter_group.Goals as goal
 
 pub enter_group-requires-clause-room : goal.enter_group-requires-clause-room
@@ -25,6 +26,7 @@ invariant_of-self g c =
           c.requires.covered c.requires.maintained enter.pages enter.maintenance c.self.invariant.2.maint
           (subst (λ h. IsConsistent g.N.Life.opens (h ++ group_entries c.args.lsn c.args.recs.now c.args.said.now)) (sym c.self.view_is) c.requires.consistent),
       small_group _ _ _ _ _ _ _ _ _ _ _ enter.pages enter.maintenance c.self.invariant.2,
+      tallied_group _ _ _ _ (c.self.inside.undone + c.undone_of.result) _ _ _ _ c.self.invariant.3 enter.front c.undone_of.ensures.value refl,
     )
 
 pub returns-clause-counted : goal.returns-clause-counted

@@ -3,6 +3,7 @@ use Rattle.wal_record.specs.History.{live_count}
 use Rattle.page_ops.specs.Seeing.{IsConsistent, of_sessions}
 use Rattle.life_history.proofs.Entries.{session_fits, own_kept, own_agrees, own_counted, own_live, one_long}
 use Rattle.life_history.proofs.Small.{small_same}
+use Rattle.life_history.proofs.Tallying.{tallied_calm}
 use Rattle.life_history.proofs.history.History.enter_one.Goals as goal
 
 pub enter-requires-clause-room : goal.enter-requires-clause-room
@@ -19,6 +20,7 @@ invariant_of-self g c =
           (omega (arith, c.self.invariant.1.entries, ap (λ l. length l) c.self.view_is, c.requires.few))
           (subst (λ h. IsConsistent _ (h ++ g.A.Added.entries)) (sym c.self.view_is) c.requires.consistent),
       small_same _ _ _ _ _ _ _ enter.others.0 enter.others.1 c.self.invariant.2,
+      tallied_calm _ _ _ _ _ _ _ c.requires.own c.self.invariant.3 (c.meet.ensures.list ∙ enter.front),
     )
 
 pub returns-clause-agrees : goal.returns-clause-agrees

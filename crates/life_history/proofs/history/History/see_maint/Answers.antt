@@ -5,4 +5,4 @@ use Rattle.life_history.proofs.history.History.see_maint.Goals as goal
 
 pub invariant_of-self-in-Some-2 : goal.invariant_of-self-in-Some-2
 invariant_of-self-in-Some-2 g c =
-    (c.self.invariant.0, kept_maint _ _ _ _ _ _ _ _ _ _ _ _ c.self.invariant.1 c.set-same.ensures.before c.set-same.ensures.book (c.lsn-lsn.ensures ∙ sym (ap (λ r. r.first) c.into_right.ensures)) (sym (ap (λ r. r.second) c.into_right.ensures)), small_maint _ _ _ _ _ _ _ _ c.set-same.ensures.before c.set-same.ensures.book c.self.invariant.2)
+    (c.self.invariant.0, kept_maint _ _ _ _ _ _ _ _ _ _ _ _ c.self.invariant.1 c.set-same.ensures.before c.set-same.ensures.book (c.lsn-lsn.ensures ∙ sym (ap (λ r. r.first) c.into_right.ensures)) (sym (ap (λ r. r.second) c.into_right.ensures)), small_maint _ _ _ _ _ _ _ _ c.set-same.ensures.before c.set-same.ensures.book c.self.invariant.2, c.self.invariant.3)

@@ -1,0 +1,61 @@
+//! What the log keeps of its records: read, and forgotten.
+ghost use Rattle.std.specs.Prelude.{◌≡◌, ◌⊎◌, ◌<◌, ◌≤◌, List, None, Some, OnOk, IfOk, IfErr};
+ghost use Rattle.log_blocks.specs.LogState.{Refused, durable_lsn};
+ghost use Rattle.log_manager.specs.Managed.{IsNoBadLog, ReadRefused, first_kept};
+ghost use Rattle.wal_record.specs.Chains.{record_with};
+ghost use Rattle.wal_record.specs.Checkpoints.{recycle_point};
+ghost use Rattle.wal_record.specs.Rules.{HasSpelling};
+ghost use Rattle.wal_record.specs.declared.record.Record.{Record};
+ghost use Rattle.listed_log.specs.Listed.{IsLogWith};
+
+use crate::listed_log::ListedLog;
+use media::Disk;
+use std::alloc::Global;
+use store_model::{Fault, Lsn};
+use wal_record::Record;
+
+impl<L: Disk> ListedLog<L> {
+    /// The LSN of the first record that the log keeps; of the next one, where it keeps none.
+    pub fn first_kept(&self) -> Lsn
+        ensures { result ≡ first_kept self.now.log.log }
+    {
+        self.log.first_kept()
+    }
+
+    /// The record of an LSN that the log keeps. The records stay the same, whatever comes of it.
+    pub fn read(&mut self, alloc: Global, lsn: Lsn) -> Result<Record, Fault>
+        requires kept { (first_kept self.old.log.log ≤ lsn) × (lsn < self.old.log.log.next) }
+        ensures found { L.tells → (rs : List Record) → IsLogWith L.tells L.told L.may_leave rs self.old.log self.old.listing → IfOk result (λ r. record_with rs lsn ≡ Some r) × IfErr result IsNoBadLog }
+        ensures spelling { IfOk result HasSpelling }
+        ensures same { (rs : List Record) → IsLogWith L.tells L.told L.may_leave rs self.old.log self.old.listing → IsLogWith L.tells L.told L.may_leave rs self.new.log self.new.listing }
+        ensures rest { self.new ≡ record self.old { log = record self.old.log { log = record self.old.log.log { device = self.new.log.log.device; ended = self.new.log.log.ended } } } }
+        ensures live { OnOk result ((self.old.log.log.ended ≡ None) × (self.new.log.log.ended ≡ None)) }
+        ensures refused { IfErr result (ReadRefused L.faults self.old.log.log self.new.log.log) }
+        ensures later { L.faults self.old.log.log.device ≤ L.faults self.new.log.log.device }
+    {
+        self.log.read(alloc, lsn)
+    }
+
+    /// Forgets the durable blocks that end before the recycle point, but never the last one. Gives the LSN of the first
+    /// record that is kept then.
+    pub fn recycle(&mut self) -> Result<Lsn, Fault>
+        ensures first { IfOk result (λ lsn. lsn ≡ first_kept self.new.log.log) }
+        // Nothing is forgotten that is needed.
+        ensures needed { (rs : List Record) → IsLogWith L.tells L.told L.may_leave rs self.old.log self.old.listing → IfOk result (λ lsn. (lsn ≡ first_kept self.old.log.log) ⊎ (lsn ≤ recycle_point rs)) }
+        ensures same { (rs : List Record) → IsLogWith L.tells L.told L.may_leave rs self.old.log self.old.listing → IsLogWith L.tells L.told L.may_leave rs self.new.log self.new.listing }
+        // What is stable stays so.
+        ensures rises { (rs : List Record) → IsLogWith L.tells L.told L.may_leave rs self.old.log self.old.listing → L.tells → self.old.log.log.ended ≡ None → durable_lsn self.old.log.log.places ≤ durable_lsn self.new.log.log.places }
+        ensures spare { self.new.log.spare ≡ self.old.log.spare }
+        ensures next { self.new.log.log.next ≡ self.old.log.log.next }
+        ensures listing { self.new.listing ≡ self.old.listing }
+        ensures live { OnOk result ((self.old.log.log.ended ≡ None) × (self.new.log.log.ended ≡ None)) }
+        ensures refused { IfErr result (Refused ⊥ L.faults self.old.log.log self.new.log.log) }
+        ensures later { L.faults self.old.log.log.device ≤ L.faults self.new.log.log.device }
+    {
+        let point = self.listing.recycle_point();
+        match self.log.recycle_to(point) {
+            Ok(()) => Ok(self.log.first_kept()),
+            Err(fault) => Err(fault),
+        }
+    }
+}
