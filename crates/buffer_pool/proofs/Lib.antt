@@ -2,3 +2,4 @@ pub mod Changes
 pub mod Serving
 pub mod Entering
 pub mod Storing
+pub mod Losing

@@ -109,3 +109,28 @@ pub record IsDropped (page : ℕ) (h : Hand) (old new : Table) : Type 0 where
 -- A page that is dirty in its frame is written or dropped; another one stays as it is.
 abbrev pub Stores : ℕ → Table → Table → Type 0
 Stores page old new = ((is_dirty (frame_of old page) ≡ false) × Stays old new) ⊎ ((h : Hand) × (IsStored page h old new ⊎ IsDropped page h old new))
+
+-- ---- the data device is lost
+
+-- a page in its frame is dropped; one in hand or on its way stays so
+abbrev pub lost_frame : Frame Hand → Frame Hand
+lost_frame (Full h) = Empty
+lost_frame Kept = Kept
+lost_frame Empty = Empty
+
+-- and its right goes home
+abbrev pub lost_right : Frame Hand → Option PageClaim → Option PageClaim
+lost_right (Full h) right = Some (record { page = h.page; lsn = h.lsn })
+lost_right Kept right = right
+lost_right Empty right = right
+
+-- the page is dropped, if it is in its frame
+abbrev pub Drops : ℕ → Table → Table → Type 0
+Drops page old new = Becomes page (lost_frame (frame_of old page)) (lost_right (frame_of old page) (right_of old page)) old new
+
+-- each page in its frame is dropped, and no page counts as written
+pub record Loses (old new : Table) : Type 0 where
+  pub limit : limit_of new.index ≡ limit_of old.index
+  pub frames : (q : ℕ) → frame_of new q ≡ lost_frame (frame_of old q)
+  pub rights : (q : ℕ) → right_of new q ≡ lost_right (frame_of old q) (right_of old q)
+  pub written : (q : ℕ) → written_of new.index q ≡ 0

@@ -3,9 +3,10 @@ ghost use Rattle.std.specs.Prelude.{◌≡◌, ◌<◌, ◌≤◌, ℕ, suc, Som
 ghost use Rattle.page_index.specs.Index.{home_of, written_of};
 ghost use Rattle.page_ops.specs.Claims.{IsInRange};
 ghost use Rattle.page_ops.specs.Takes.{IfPage};
-ghost use Rattle.buffer_pool.specs.Tables.{Calls, HasFrame, IsNextDirty, PutsIn, SendsHome, Stays, Takes, frame_of, is_dirty, is_full};
+ghost use Rattle.buffer_pool.specs.Tables.{Calls, Drops, HasFrame, IsNextDirty, Loses, PutsIn, SendsHome, Stays, Takes, frame_of, is_dirty, is_full};
 ghost use Rattle.buffer_pool.specs.declared.frame.Frame.TheVariants.{Empty};
 
+use crate::dropping::into_right;
 use crate::frame::Frame;
 use books::PageRight;
 use page_index::PageIndex;
@@ -151,6 +152,27 @@ impl<N: Life> Frames<N> {
             }
         }
         None
+    }
+
+    /// Each page in its frame is dropped, its right going home, and no page counts as written.
+    pub fn lose(&mut self)
+        ensures { Loses self.old self.new }
+    {
+        let mut page = 0;
+        while page < self.index.limit() {
+            page += 1;
+            self.drop_page(page);
+        }
+        self.index.forget_written();
+    }
+
+    /// The page is dropped, if it is in its frame, and its right is at home.
+    fn drop_page(&mut self, page: PageNo)
+        ensures { Drops page self.old self.new }
+    {
+        if let Taken::Page(held) = self.try_take(page) {
+            self.send_home(into_right(held));
+        }
     }
 
     /// Where the list has the page's frame, if it has one.

@@ -21,6 +21,8 @@
 //! 5. An image is written only once the log is durable up to its LSN. Then it is entered that it was written, and nothing
 //!    else. Where the device fails the page is dropped, its right at home, and no answer tells of it (`specs/Writes`).
 //! 6. The next dirty page above a number is the least one, exactly.
+//! 7. Where the data device is lost, each page in its frame is dropped and its right goes home, and no page counts as
+//!    written, also where the device refuses to be replaced (`specs/Tables`).
 //!
 //! `PlainPool::new` takes memory for each frame; brings take what a page's rows need; taking a page and putting it back take
 //! none.
@@ -28,6 +30,7 @@
 
 mod base;
 mod bringing;
+mod dropping;
 mod frame;
 mod frames;
 mod moving;

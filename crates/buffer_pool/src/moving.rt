@@ -1,16 +1,16 @@
 //! Pages into their frames, and out to the data device.
 ghost use Rattle.std.specs.Prelude.{◌≡◌, true, false, IfErr, OnErr, OnOk};
 ghost use Rattle.page_ops.specs.Causes.{FailsToBring, FailsToReserve, MeetsNoEnd};
-ghost use Rattle.page_ops.specs.Claims.{IsInRange, no_claims};
+ghost use Rattle.page_ops.specs.Claims.{no_claims};
 ghost use Rattle.page_ops.specs.Desks.{KeepsFaults};
 ghost use Rattle.page_ops.specs.Seeing.{Upholds, is_upkeep, known};
 ghost use Rattle.buffer_pool.specs.Tables.{HasFrame, SendsHome, Stays, Stores, frame_of, is_dirty, is_full};
 ghost use Rattle.buffer_pool.specs.Writes.{no_faults};
 
 use crate::bringing::{anew, brought};
+use crate::dropping::into_right;
 use crate::frames::Frames;
 use crate::writing::write_page;
-use books::PageRight;
 use front::Pass;
 use page_ops::{Entering, Held, Life, Rights, Taken};
 use page_repair::{Images, Supply};
@@ -108,16 +108,6 @@ pub(crate) fn fetch_anew<N: Life, J: Entering<N>, S: Supply<N, J>, R: Wait>(
             Err(fault)
         }
     }
-}
-
-/// The right to the page in hand, which is dropped.
-fn into_right<N: Life>(held: Held<N>) -> PageRight<N>
-    ensures right { result ≡ record { page = held.page; lsn = held.lsn } }
-    ensures range { IsInRange result }
-{
-    let Held { right, .. } = held;
-    let Some(right) = right else { unreachable!() };
-    right
 }
 
 /// Writes the page to the data device, if it is in its frame and dirty. Where the device fails the page is dropped, and no

@@ -1,16 +1,18 @@
 //! The pool of one thread.
 ghost use Rattle.std.specs.Prelude.{◌≡◌, false, ℕ, IfErr, IfOk, IfSome, OnErr, OnOk};
+ghost use Rattle.media.specs.Cause.{HasCause};
 ghost use Rattle.page_index.specs.Index.{home_of};
 ghost use Rattle.page_ops.specs.Causes.{FailsToReserve, MeetsNoEnd};
 ghost use Rattle.page_ops.specs.Claims.{IsInRange, no_claims};
 ghost use Rattle.page_ops.specs.Seeing.{Upholds, is_upkeep, known};
-ghost use Rattle.buffer_pool.specs.Tables.{IsNextDirty, Stays, Stores, frame_of, is_dirty};
+ghost use Rattle.buffer_pool.specs.Tables.{IsNextDirty, Loses, Stays, Stores, frame_of, is_dirty};
 ghost use Rattle.buffer_pool.specs.Writes.{no_faults};
 ghost use Rattle.buffer_pool.specs.declared.frame.Frame.TheVariants.{Empty};
 
 use crate::frames::Frames;
 use crate::moving::{fetch, fetch_anew, store};
 use front::Pass;
+use media::Failed;
 use page_index::PageIndex;
 use page_ops::{Entering, Held, Life, Pages, Rights, Taken};
 use page_repair::{Images, Supply};
@@ -108,6 +110,18 @@ impl<I: Images<N>, S, N: Life> PlainPool<I, S, N> {
             page,
             pass,
         )
+    }
+
+    /// The data device is lost, and an empty one takes its place. Each page in its frame is dropped, its right going home,
+    /// and no page counts as written. After `Failed` that is so, too, and the old images may stay.
+    pub fn lose<R: Wait>(&mut self, rt: &R) -> Result<(), Failed>
+        requires none { self.old.out ≡ 0 }
+        ensures lost { Loses self.old.frames self.new.frames }
+        ensures others { (self.new.out ≡ self.old.out) × (self.new.reserves ≡ self.old.reserves) × (self.new.supply ≡ self.old.supply) }
+        ensures cause { HasCause I.faults self.old.images self.new.images result }
+    {
+        self.frames.lose();
+        self.images.replace(rt)
     }
 }
 
