@@ -167,7 +167,7 @@ module _ {D : Type 0} (L : Ghosts D) where
     known_here name = ap (λ (names : List Active). is_known names name) h.active ∙ known standing.session name
 
     pub leaves_here : Leaves L log.device s
-    leaves_here = (safe_in L log standing s h).leaves
+    leaves_here = (safe_in L L.tells log standing s h).leaves
 
     -- a line that isn't lawful
     pub unlawful : (c : Command) (line : ℕ) → is_lawful s c ≡ false → RefusesAt L log.device s c line (statuses.Script line)

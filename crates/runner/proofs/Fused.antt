@@ -4,6 +4,7 @@ use Rattle.std.proofs.lemmas.List.Elements.{All-nil}
 use Rattle.media.specs.Kept.{Kept}
 use Rattle.media.specs.Fused.{Fused}
 use Rattle.media.specs.declared.disk.Disk.{Ghosts}
+use Rattle.media.specs.declared.vault.Vault as vaults
 use Rattle.log_blocks.specs.Log.{StandsFor}
 use Rattle.log_manager.specs.Devices.{DevicesStandFor}
 use Rattle.wal_record.specs.declared.record.Record.{Record}
@@ -11,12 +12,13 @@ use Rattle.script.specs.declared.command.Command.{Command}
 use Rattle.script.specs.declared.command.Command.TheVariants as commands
 use Rattle.runner.specs.declared.status.Status.{Status}
 use Rattle.runner.specs.declared.status.Status.TheVariants as statuses
+use Rattle.runner.specs.Bytes.{Bytes, Unknown, Gated, Bad, Known}
 use Rattle.runner.specs.Causes.{IsAsked}
 use Rattle.runner.specs.Clause.{OfCommand, NotBuiltLine, Ended, Headline}
 use Rattle.runner.specs.LogDisk.{View, IsWhole, seen, Keeps, HoldsOne}
 use Rattle.runner.specs.Machine.{Out}
 use Rattle.runner.specs.Refusals.{IsNotBuilt}
-use Rattle.runner.specs.Turns.{Last, Turn, Stage, Found, MayFind, IsRightLife, begin_stage, is_lawful, stage}
+use Rattle.runner.specs.Turns.{Last, Start, Turn, Stage, Found, MayFind, IsRightLife, begin_stage, is_lawful, stage}
 use Rattle.runner.proofs.Lives.{keeps_only}
 
 -- what a fuse round a device says
@@ -43,15 +45,16 @@ pub stands_at : {D : Type 0} (L : Ghosts D) (disk : D) (log : List Record) → D
 stands_at L disk log s = keeps_only L (Found log) disk (log, refl, record { sound = s.sound; bs = s.log_disk.bs; stands = s.log_disk.stands; records = s.log_disk.records }) s.log_disk.only
 
 -- a fuse that isn't armed round a disk that keeps a log
-pub out_at : {D E : Type 0} (T : Type 0) (L : Ghosts D) (F : Ghosts E) (e : E) (d : D) → L.told d ≡ F.told e → ((c : Kept) → F.may_leave e c → L.may_leave d c) → F.fuses → F.passes e ≡ None → (start : Last) → (T → Keeps L start d) → Out (record F { tells = T }) e (begin_stage start)
-out_at T L F e d told may fuse none start keeps = record {
+pub out_at : {D E : Type 0} (T T' : Type 0) (L : Ghosts D) (F : Ghosts E) (e : E) (d : D) → L.told d ≡ F.told e → ((c : Kept) → F.may_leave e c → L.may_leave d c) → F.fuses → F.passes e ≡ None → (start : Start) → (T → Keeps L start.last d) → Known T' F start.bytes e → Out T' (record F { tells = T }) e (begin_stage start)
+out_at T T' L F e d told may fuse none start keeps known = record {
   past = λ t. All-nil IsRightLife;
   life = refl;
   active = refl;
   ended = refl;
   goes = refl;
   fused = record { fuse = fuse; renewed = λ _. none };
-  keeps = λ t. let k = keeps t in record { now = subst (HoldsOne (MayFind start)) told k.now; crash = λ c m. k.crash c (may c m) };
+  keeps = λ t. let k = keeps t in record { now = subst (HoldsOne (MayFind start.last)) told k.now; crash = λ c m. k.crash c (may c m) };
+  bytes = known;
 }
 
 -- ---- the end
@@ -81,7 +84,7 @@ module _ {D E : Type 0} (T : Type 0) (L : Ghosts D) (F : Ghosts E) (e : E) (d : 
   line_inner s taken rest (inl x) = inl x
   line_inner s taken rest (inr (line, next, h)) = inr (line, next, of_map (λ c. (is_lawful s c ≡ true) × IsNotBuilt (record F { tells = T }) e s c) (λ c. (is_lawful s c ≡ true) × IsNotBuilt (record L { tells = T }) d s c) (λ c h. (h.0, not_built_inner s c h.1)) _ h)
 
-  ended_inner : (start : Last) (status : Status) (turns : List Turn) (read rest written : List ℕ) (left : Option (List ℕ)) → Ended (record F { tells = T }) start e status turns read rest written left → Ended (record L { tells = T }) start d status turns read rest written left
+  ended_inner : (start : Start) (status : Status) (turns : List Turn) (read rest written : List ℕ) (left : Option (List ℕ)) → Ended (record F { tells = T }) start e status turns read rest written left → Ended (record L { tells = T }) start d status turns read rest written left
   ended_inner start (statuses.NotBuilt n) turns read rest written left h = (h.0, h.1, line_inner (stage start turns) (length read) rest h.2)
   ended_inner start statuses.Done turns read rest written left h = h
   ended_inner start statuses.Memory turns read rest written left h = h
@@ -96,8 +99,8 @@ module _ {D E : Type 0} (T : Type 0) (L : Ghosts D) (F : Ghosts E) (e : E) (d : 
   ended_inner start statuses.AlreadyFormatted turns read rest written left h = h
   ended_inner start (statuses.NoSplit n) turns read rest written left h = h
 
-  pub unfused : (start : Last) (left0 : Option (List ℕ)) (pending : List ℕ) (left told0 told1 : Option (List ℕ)) (status : Status) → Headline (record F { tells = T }) start e left0 pending left told0 told1 status → Headline (record L { tells = T }) start d left0 pending left told0 told1 status
-  unfused start left0 pending left told0 told1 status h = record {
+  pub unfused : {G : Type 0} (T' : Type 0) (V : vaults.Ghosts G) (first vault : G) → ((b : Bytes) → Known T' F b e → Known T' L b d) → (start : Start) (left0 : Option (List ℕ)) (pending : List ℕ) (left told0 told1 : Option (List ℕ)) (status : Status) → Headline T' (record F { tells = T }) V start e first vault left0 pending left told0 told1 status → Headline T' (record L { tells = T }) V start d first vault left0 pending left told0 told1 status
+  unfused T' V first vault known start left0 pending left told0 told1 status h = record {
     turns = h.turns;
     read = h.read;
     rest = h.rest;
@@ -109,24 +112,37 @@ module _ {D E : Type 0} (T : Type 0) (L : Ghosts D) (F : Ghosts E) (e : E) (d : 
     cut = h.cut;
     wrote = h.wrote;
     ended = ended_inner start status h.turns h.read h.rest h.written _ h.ended;
-    leaves = λ t. keeps_inner _ (h.leaves t);
+    back = record { leaves = λ t. keeps_inner _ (h.back.leaves t); bytes = known _ h.back.bytes; stored = h.back.stored };
   }
 
 -- ---- completeness
 
-pub asked : {D : Type 0} (L : Ghosts D) (start : Last) (disk : D) (left0 : Option (List ℕ)) (pending : List ℕ) (left told0 told : Option (List ℕ)) (status : Status) → Headline L start disk left0 pending left told0 told status → L.tells
+pub asked : {D E : Type 0} (L : Ghosts D) (V : vaults.Ghosts E) (start : Start) (disk : D) (first vault : E) (left0 : Option (List ℕ)) (pending : List ℕ) (left told0 told : Option (List ℕ)) (status : Status) → (T : Type 0) → Headline T L V start disk first vault left0 pending left told0 told status → L.tells
     → (status ≢ statuses.Usage) × (status ≢ statuses.NoGenerator) → status ≢ statuses.SourceFault → status ≢ statuses.SinkFault → status ≢ statuses.LogFault → IsAsked status
-asked L start disk left0 pending left told0 told statuses.Usage h t usage source sink fault = usage.0 refl
-asked L start disk left0 pending left told0 told statuses.NoGenerator h t usage source sink fault = usage.1 refl
-asked L start disk left0 pending left told0 told statuses.SourceFault h t usage source sink fault = source refl
-asked L start disk left0 pending left told0 told statuses.SinkFault h t usage source sink fault = sink refl
-asked L start disk left0 pending left told0 told statuses.LogFault h t usage source sink fault = fault refl
-asked L start disk left0 pending left told0 told (statuses.LogBad block byte) h t usage source sink fault = h.ended.2 t
-asked L start disk left0 pending left told0 told _ h t usage source sink fault = tt
+asked L V start disk first vault left0 pending left told0 told statuses.Usage T h t usage source sink fault = usage.0 refl
+asked L V start disk first vault left0 pending left told0 told statuses.NoGenerator T h t usage source sink fault = usage.1 refl
+asked L V start disk first vault left0 pending left told0 told statuses.SourceFault T h t usage source sink fault = source refl
+asked L V start disk first vault left0 pending left told0 told statuses.SinkFault T h t usage source sink fault = sink refl
+asked L V start disk first vault left0 pending left told0 told statuses.LogFault T h t usage source sink fault = fault refl
+asked L V start disk first vault left0 pending left told0 told (statuses.LogBad block byte) T h t usage source sink fault = h.ended.2 t
+asked L V start disk first vault left0 pending left told0 told _ T h t usage source sink fault = tt
+
+-- what is known of a disk is known of it in its fuse
+pub known_fused : {D : Type 0} (L : Ghosts D) (e : Fused D) (b : Bytes) → Known L.tells L b e.inner → Known L.tells (fuse_of L) b e
+known_fused L e Unknown h = tt
+known_fused L e Gated (t, g) = (t, record { now = g.now; crash = g.crash })
+known_fused L e (Bad k) (t, b) = (t, record { now = b.now; only = b.only; block = b.block; byte = b.byte; bad = b.bad })
+
+known_inner : {D : Type 0} (L : Ghosts D) (e : Fused D) (b : Bytes) → Known L.tells (fuse_of L) b e → Known L.tells L b e.inner
+known_inner L e Unknown h = tt
+known_inner L e Gated (t, g) = (t, record { now = g.now; crash = g.crash })
+known_inner L e (Bad k) (t, b) = (t, record { now = b.now; only = b.only; block = b.block; byte = b.byte; bad = b.bad })
 
 -- a run round a fused disk is one round the disk
-pub begun_fused : {D : Type 0} (L : Ghosts D) (v : View L.tells) (e : Fused D) (d : D) → e ≡ record { inner = d; left = None; refused = 0 } → (start : Last) → (IsWhole v → Keeps L start d) → Out (seen (fuse_of L) v) e (begin_stage start)
-begun_fused L v e d is start keeps = subst (λ (x : Fused _). Out (seen (fuse_of L) v) x (begin_stage start)) (sym is) (out_at (IsWhole v) L (fuse_of L) (record { inner = d; left = None; refused = 0 }) d refl (λ c m. m) tt refl start keeps)
+pub begun_fused : {D : Type 0} (L : Ghosts D) (v : View L.tells) (e : Fused D) (d : D) → e ≡ record { inner = d; left = None; refused = 0 } → (start : Start) → (IsWhole v → Keeps L start.last d) → Known L.tells L start.bytes d → Out L.tells (seen (fuse_of L) v) e (begin_stage start)
+begun_fused {D} L v e d is start keeps known =
+    let fresh : Fused D = record { inner = d; left = None; refused = 0 } in
+    subst (λ (x : Fused _). Out L.tells (seen (fuse_of L) v) x (begin_stage start)) (sym is) (out_at (IsWhole v) L.tells L (fuse_of L) fresh d refl (λ c m. m) tt refl start keeps (known_fused L fresh start.bytes known))
 
-pub ended_fused : {D : Type 0} (L : Ghosts D) (v : View L.tells) (e : Fused D) (d : D) → d ≡ e.inner → (start : Last) (left0 : Option (List ℕ)) (pending : List ℕ) (left told0 told1 : Option (List ℕ)) (status : Status) → Headline (seen (fuse_of L) v) start e left0 pending left told0 told1 status → Headline (seen L v) start d left0 pending left told0 told1 status
-ended_fused L v e d is start left0 pending left told0 told1 status h = subst (λ (x : _). Headline (seen L v) start x left0 pending left told0 told1 status) (sym is) (unfused (IsWhole v) L (fuse_of L) e e.inner refl (λ c m. m) start left0 pending left told0 told1 status h)
+pub ended_fused : {D E : Type 0} (L : Ghosts D) (V : vaults.Ghosts E) (first vault : E) (v : View L.tells) (e : Fused D) (d : D) → d ≡ e.inner → (start : Start) (left0 : Option (List ℕ)) (pending : List ℕ) (left told0 told1 : Option (List ℕ)) (status : Status) → Headline L.tells (seen (fuse_of L) v) V start e first vault left0 pending left told0 told1 status → Headline L.tells (seen L v) V start d first vault left0 pending left told0 told1 status
+ended_fused L V first vault v e d is start left0 pending left told0 told1 status h = subst (λ (x : _). Headline L.tells (seen L v) V start x first vault left0 pending left told0 told1 status) (sym is) (unfused (IsWhole v) L (fuse_of L) e e.inner refl (λ c m. m) L.tells V first vault (known_inner L e) start left0 pending left told0 told1 status h)

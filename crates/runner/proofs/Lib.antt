@@ -1,8 +1,8 @@
-pub mod Alone
 pub mod Beginnings
 pub mod Causes
 pub mod Commands
 pub mod Fused
+pub mod Known
 pub mod Lists
 pub mod Lives
 pub mod NextCalls
@@ -12,4 +12,5 @@ pub mod Rows
 pub mod Runs
 pub mod Sizes
 pub mod Turning
+pub mod Vaults
 pub mod Without

@@ -19,10 +19,11 @@ use Rattle.life_laws.specs.Calm.{splits_page}
 use Rattle.life_laws.proofs.Leaving.{either_false, has_room}
 use Rattle.life_laws.proofs.CalmLives.{calm_right, calm_sound}
 use Rattle.runner.specs.Active.{opened_by}
+use Rattle.runner.specs.Bytes.{Known}
 use Rattle.runner.specs.Leaf.{rows_of}
 use Rattle.runner.specs.LogDisk.{View, Whole, Form, IsWhole, StandsOn, Keeps, HoldsOne, lsn_from}
 use Rattle.runner.specs.Machine.{Out, In, Safe, IsCalm, IsOver, LivesOn}
-use Rattle.runner.specs.Turns.{Last, Found, Unsynced, Formatted, Unformatted, Stopped, Life, Stage, LeftBy, IsLeftBy, MayFind, MayBeLeft, IsRightLife, lives_of, last_after}
+use Rattle.runner.specs.Turns.{Last, Found, Unsynced, Formatted, Unformatted, Stopped, Life, Stage, LeftBy, IsLeftBy, MayFind, MayBeLeft, IsRightLife, lives_of, last_after, bytes_after}
 use Rattle.runner.specs.Standing.{Standing}
 use Rattle.runner.proofs.Lists.{first_is}
 
@@ -101,10 +102,11 @@ module _ {D : Type 0} (L : Ghosts D) where
   over log standing l None h t = record { right = calm_is_right log standing l h.lsn (h.calm t); keeps = calm_keeps log standing l h.lsn (h.calm t) }
   over log standing l (Some n) h t = h t
 
-  pub safe_out : (disk : D) (s : Stage) → Out L disk s → Safe L disk s
-  safe_out disk s h = record {
+  pub safe_out : (T : Type 0) (disk : D) (s : Stage) → Out T L disk s → Safe T L disk s
+  safe_out T disk s h = record {
     right = λ t. subst (λ (x : Option Life). All IsRightLife (lives_of x s.past)) (sym h.life) (h.past t);
     leaves = λ t. subst (λ (x : Option Life). Keeps L (last_after x s.last) disk) (sym h.life) (h.keeps t);
+    bytes = subst (λ (x : Option Life). Known T L (bytes_after x s.bytes) disk) (sym h.life) h.bytes;
     goes = h.goes;
     fuse = h.fused.fuse;
   }
@@ -113,10 +115,11 @@ module _ {D : Type 0} (L : Ghosts D) where
   pub right_more : (past : List Life) (l : Life) → All IsRightLife past → IsRightLife l → All IsRightLife (past ++ l ∷ [])
   right_more past l h r = All-append IsRightLife past (l ∷ []) h (All-cons IsRightLife l [] r (All-nil IsRightLife))
 
-  pub safe_in : (log : LogState D) (standing : Standing) (s : Stage) → In L log standing s → Safe L log.device s
-  safe_in log standing s h = record {
+  pub safe_in : (T : Type 0) (log : LogState D) (standing : Standing) (s : Stage) → In L log standing s → Safe T L log.device s
+  safe_in T log standing s h = record {
     right = λ t. subst (λ (x : Option Life). All IsRightLife (lives_of x s.past)) (sym h.life) (right_more s.past h.here (h.past t) (over log standing h.here log.ended h.lives t).right);
     leaves = λ t. subst (λ (x : Option Life). Keeps L (last_after x s.last) log.device) (sym h.life) (over log standing h.here log.ended h.lives t).keeps;
+    bytes = subst (λ (x : Option Life). Known T L (bytes_after x s.bytes) log.device) (sym h.life) tt;
     goes = h.goes;
     fuse = h.fused.fuse;
   }

@@ -25,7 +25,8 @@ use Rattle.wal_record.specs.declared.record.Record.{Record}
 use Rattle.log_laws.specs.Right.{first_log}
 use Rattle.life_laws.proofs.Leaving.{has_room}
 use Rattle.life_laws.proofs.Start.{calm_start}
-use Rattle.runner.specs.LogDisk.{StandsOn, Keeps, HoldsOne, IsFormatted, lsn_from}
+use Rattle.runner.specs.LogDisk.{StandsOn, Keeps, HoldsOne, lsn_from}
+use Rattle.runner.specs.Bytes.{IsFormatted}
 use Rattle.runner.specs.Causes.{Shows}
 use Rattle.runner.specs.Machine.{IsCalm}
 use Rattle.runner.specs.Openings.{IsMade, IsFirst, IsNotMade, IsNotBegun, IsBegun, IsFault, MadeStatus, ReadStatus, ReplayStatus}
@@ -198,7 +199,7 @@ module _ (one_log : OneLog) {D : Type 0} (L : Ghosts D) (disk : D) (log : LogSta
         log_formatted p.0 p.1 (L.told log.device) (subst (λ (bs : List Block). StandsFor bs (L.told log.device)) p.2 b.1.stands)),
   )
 
-  none_durable : length log.places + length log.pending ≡ 0 → (t : L.tells) → IsDurable L.told L.may_leave log []
+  pub none_durable : length log.places + length log.pending ≡ 0 → (t : L.tells) → IsDurable L.told L.may_leave log []
   none_durable none t = let b = found t in subst (IsDurable L.told L.may_leave log) (no_places b.0 b.1 none) b.1
 
   -- the manager of an empty log, as it begins

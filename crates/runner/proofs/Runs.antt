@@ -6,44 +6,72 @@ use Rattle.std.proofs.lemmas.List.Elements.{All-nil}
 use Rattle.std.specs.Io.KnownBytes.{Appends, Consumes, IsAtEnd, prepend_known}
 use Rattle.std.proofs.KnownBytes.{Consumes-nil, Consumes-trans, Appends-nil, Appends-trans}
 use Rattle.media.specs.declared.disk.Disk.{Ghosts}
+use Rattle.media.specs.declared.vault.Vault as vaults
 use Rattle.store_model.specs.Along.{along, AllAlong}
 use Rattle.script.specs.declared.command.Command.{Command}
+use Rattle.script.specs.declared.command.Command.TheVariants as commands
+use Rattle.wal_record.specs.declared.entry.Entry.{Entry}
 use Rattle.script.specs.Line.{reads}
 use Rattle.runner.specs.declared.status.Status.{Status}
 use Rattle.runner.specs.declared.status.Status.TheVariants as statuses
 use Rattle.line_reader.specs.Lines.{Reader, to_come, first_reader, longest_script, IsBounded, IsLine, IsNoLine}
 use Rattle.line_reader.specs.Built.{is_built}
 use Rattle.runner.specs.Causes.{LineCause}
-use Rattle.runner.specs.Turns.{Last, Turn, Stage, Cut, turn, stage, begin_stage, Fits, IsRightLife, lives, is_lawful}
+use Rattle.runner.specs.Turns.{Start, Turn, Stage, Cut, turn, stage, stage_step, begin_stage, bytes_after, longer, Life, Fits, IsRightLife, lives, is_lawful}
 use Rattle.runner.specs.Text.{text, lines}
 use Rattle.runner.specs.Refusals.{RefusesAt, CutAt, IsOpen, IsFormat, IsNotBuilt, IsSplit}
 use Rattle.runner.specs.Machine.{Safe, Out, Adds}
+use Rattle.runner.specs.Bytes.{Bytes, Known}
 use Rattle.runner.specs.LogDisk.{Leaves}
+use Rattle.runner.specs.Vault.{Beside, IsVault}
 use Rattle.runner.specs.Status.{cuts}
-use Rattle.runner.specs.Clause.{IsNext, IsPrefix, Partly, BadLine, Unlawful, OfCommand, NextLine, Ended, Headline, Between, TakesCommand}
+use Rattle.runner.specs.Clause.{IsNext, IsPrefix, Partly, BadLine, Unlawful, OfCommand, NextLine, Ended, HandsBack, Headline, Between, TakesCommand}
 use Rattle.runner.proofs.Turning.{stage_push, text_push, fits_push, script_push}
+use Rattle.runner.proofs.Vaults.{vault_first}
 
 prefix_self : (a : List ℕ) → IsPrefix a a
 prefix_self a = ([], sym (append-nil a))
 
-all_of : (start : Last) (turns : List Turn) → Partly start turns (text start turns)
+all_of : (start : Start) (turns : List Turn) → Partly start turns (text start turns)
 all_of start turns = (turns, [], omega arith, sym (append-nil turns), prefix_self (text start turns), prefix_self (text start turns))
 
 of_command : (P : Command → Type 0) (taken : ℕ) (bytes rest : List ℕ) (c : Command) → IsNext taken rest bytes → reads bytes ≡ Some c → P c → NextLine P taken rest
 of_command P taken bytes rest c next e p = (bytes, next, subst (OfCommand P) (sym e) p)
 
-module _ {D : Type 0} (L : Ghosts D) (start : Last) (disk : D) (left0 told0 : Option (List ℕ)) (old new : Reader) (lo ln told : Option (List ℕ)) (turns : List Turn) (H : Stage → Type 0)
-    (safe : (s : Stage) → H s → Safe L disk s) (b : Between L.tells start H left0 told0 old turns lo told) (most : IsBounded new) where
-  abbrev Ends : D → Option (List ℕ) → Status → Type 0
-  Ends now told' status = Headline L start now left0 new.pending ln told0 told' status
+-- what a cut turn enters opens no life
+cut_bytes : (s : Stage) (c : Command) (es : List Entry) → bytes_after (stage_step s (turn c es Cut)).life (stage_step s (turn c es Cut)).bytes ≡ bytes_after s.life s.bytes
+cut_bytes s (commands.Format limit) es = refl
+cut_bytes s (commands.Commit name) es = by s.life
+  where
+    by : (life : Option Life) → bytes_after (longer life es) s.bytes ≡ bytes_after life s.bytes
+    by None = refl
+    by (Some l) = refl
+cut_bytes s _ es = refl
 
-  here : Safe L disk (stage start turns)
-  here = safe (stage start turns) b.holds
+cut_vault : (s : Stage) (c : Command) (es : List Entry) → (stage_step s (turn c es Cut)).cycled ≡ s.cycled
+cut_vault s (commands.Format limit) es = refl
+cut_vault s (commands.Commit name) es = refl
+cut_vault s _ es = refl
+
+module _ {D E : Type 0} (T : Type 0) (L : Ghosts D) (V : vaults.Ghosts E) (start : Start) (disk : D) (first vault : E) (left0 told0 : Option (List ℕ)) (old new : Reader) (lo ln told : Option (List ℕ)) (turns : List Turn) (H : Stage → Type 0)
+    (safe : (s : Stage) → H s → Safe T L disk s) (b : Between L.tells start (Beside V first vault H) left0 told0 old turns lo told) (most : IsBounded new) where
+  abbrev Ends : D → E → Option (List ℕ) → Status → Type 0
+  Ends now vault' told' status = Headline T L V start now first vault' left0 new.pending ln told0 told' status
+
+  here : Safe T L disk (stage start turns)
+  here = safe (stage start turns) b.holds.here
+
+  -- what is known of a disk that ends a run
+  abbrev IsKnown : D → Type 0
+  IsKnown now = Known T L (bytes_after (stage start turns).life (stage start turns).bytes) now
+
+  back : HandsBack T L V disk first vault (stage start turns)
+  back = record { leaves = here.leaves; bytes = here.bytes; stored = b.holds.vault }
 
   -- between two turns
   pub stop : (now : D) (rest : List ℕ) (status : Status) → cuts status ≡ false → Consumes (to_come old lo) (to_come new ln) rest → new.taken ≡ old.taken + length rest → Ended L start now status turns b.read rest (text start turns) (to_come new ln)
-      → Leaves L now (stage start turns) → Ends now told status
-  stop now rest status whole took size ended left = record {
+      → HandsBack T L V now first vault (stage start turns) → Ends now vault told status
+  stop now rest status whole took size ended hands = record {
     turns = turns;
     read = b.read;
     rest = rest;
@@ -55,26 +83,26 @@ module _ {D : Type 0} (L : Ghosts D) (start : Last) (disk : D) (left0 told0 : Op
     cut = here.goes ∙ sym whole;
     wrote = b.wrote;
     ended = ended;
-    leaves = left;
+    back = hands;
   }
 
-  pub no_memory : (rest : List ℕ) → Consumes (to_come old lo) (to_come new ln) rest → new.taken ≡ old.taken + length rest → Ends disk told statuses.Memory
-  no_memory rest took size = stop disk rest statuses.Memory refl took size (all_of start turns) here.leaves
+  pub no_memory : (rest : List ℕ) → Consumes (to_come old lo) (to_come new ln) rest → new.taken ≡ old.taken + length rest → Ends disk vault told statuses.Memory
+  no_memory rest took size = stop disk rest statuses.Memory refl took size (all_of start turns) back
 
   at_line : (line : ℕ) → line ≡ old.lines + 1 → line ≡ length turns + 1
   at_line line is = is ∙ ap (λ (n : ℕ). n + 1) b.count
 
   -- the input is at its end
-  pub at_end : Consumes (to_come old lo) (to_come new ln) [] × IsAtEnd (to_come new ln) × (new.taken ≡ old.taken) → Ends disk told statuses.Done
-  at_end h = stop disk [] statuses.Done refl h.0 (omega (arith, h.2)) (refl, refl, h.1) here.leaves
+  pub at_end : Consumes (to_come old lo) (to_come new ln) [] × IsAtEnd (to_come new ln) × (new.taken ≡ old.taken) → Ends disk vault told statuses.Done
+  at_end h = stop disk [] statuses.Done refl h.0 (omega (arith, h.2)) (refl, refl, h.1) back
 
   -- no command is read
-  pub no_line : (status : Status) (before now : ℕ) → TakesCommand old new lo ln (Err status) → LineCause before now status → Ends disk told status
+  pub no_line : (status : Status) (before now : ℕ) → TakesCommand old new lo ln (Err status) → LineCause before now status → Ends disk vault told status
   no_line statuses.Memory before now (rest, took, size) why = no_memory rest took size
-  no_line statuses.SourceFault before now (rest, took, size) why = stop disk rest statuses.SourceFault refl took size refl here.leaves
+  no_line statuses.SourceFault before now (rest, took, size) why = stop disk rest statuses.SourceFault refl took size refl back
   no_line (statuses.NotBuilt n) before now (is, bytes, took, one, size, within, unbuilt) why =
-      stop disk (bytes ++ 10 ∷ []) (statuses.NotBuilt n) refl took (omega (arith, size, length-append bytes (10 ∷ []))) (refl, at_line n is, inl (bytes, record { is = refl; one = one; within = omega (arith, within, size, b.size, length-append bytes (10 ∷ [])) }, unbuilt)) here.leaves
-  no_line (statuses.Script n) before now (is, rest, took, size, bad) why = stop disk rest (statuses.Script n) refl took size (refl, at_line n is, by bad) here.leaves
+      stop disk (bytes ++ 10 ∷ []) (statuses.NotBuilt n) refl took (omega (arith, size, length-append bytes (10 ∷ []))) (refl, at_line n is, inl (bytes, record { is = refl; one = one; within = omega (arith, within, size, b.size, length-append bytes (10 ∷ [])) }, unbuilt)) back
+  no_line (statuses.Script n) before now (is, rest, took, size, bad) why = stop disk rest (statuses.Script n) refl took size (refl, at_line n is, by bad) back
     where
       by : ((bytes : List ℕ) × (rest ≡ bytes ++ 10 ∷ []) × IsLine bytes × (is_built bytes ≡ true) × (reads bytes ≡ None) × (new.taken ≤ longest_script)) ⊎ IsNoLine old.taken rest (to_come new ln) → BadLine (stage start turns) (length b.read) rest (to_come new ln)
       by (inl (bytes, whole, one, built, none, within)) = inl (bytes, record { is = whole; one = one; within = omega (arith, within, size, b.size) }, built, subst (Unlawful (stage start turns)) (sym none) tt)
@@ -98,8 +126,9 @@ module _ {D : Type 0} (L : Ghosts D) (start : Last) (disk : D) (left0 told0 : Op
     next = record { is = refl; one = is; within = omega (arith, within, size, b.size, length-append bytes (10 ∷ [])) }
 
     -- the log disk's own fault cuts a command off
-    cut_off : (now : D) → CutAt L now (stage start turns) c → Ends now told statuses.LogFault
-    cut_off now cut =
+    cut_off : (now : D) → CutAt L now (stage start turns) c → IsKnown now → Ends now vault told statuses.LogFault
+    cut_off now cut known =
+        let s = stage start turns in
         let t : Turn = turn c cut.entries Cut in
         record {
           turns = turns ++ t ∷ [];
@@ -117,12 +146,16 @@ module _ {D : Type 0} (L : Ghosts D) (start : Last) (disk : D) (left0 told0 : Op
           cut = ap (λ (s : Stage). s.cut) (stage_push start turns t);
           wrote = b.wrote;
           ended = sym (text_push start turns t ∙ append-nil (text start turns));
-          leaves = subst (Leaves L now) (sym (stage_push start turns t)) cut.leaves;
+          back = subst (HandsBack T L V now first vault) (sym (stage_push start turns t)) (record {
+            leaves = cut.leaves;
+            bytes = subst (λ (x : Bytes). Known T L x now) (sym (cut_bytes s c cut.entries)) known;
+            stored = subst (IsVault V first vault) (sym (cut_vault s c cut.entries)) b.holds.vault;
+          });
         }
 
     -- a command ends the run
-    pub refused : (now : D) (line : ℕ) (status : Status) → line ≡ old.lines + 1 → is_built bytes ≡ true → RefusesAt L now (stage start turns) c line status → Ends now told status
-    refused now line status n built why = by status why
+    pub refused : (now : D) (line : ℕ) (status : Status) → line ≡ old.lines + 1 → is_built bytes ≡ true → RefusesAt L now (stage start turns) c line status × IsKnown now → Ends now vault told status
+    refused now line status n built (why, known) = by status why
       where
         whole : List ℕ
         whole = bytes ++ 10 ∷ []
@@ -130,17 +163,20 @@ module _ {D : Type 0} (L : Ghosts D) (start : Last) (disk : D) (left0 told0 : Op
         count : new.taken ≡ old.taken + length whole
         count = omega (arith, size, length-append bytes (10 ∷ []))
 
-        by : (status : Status) → RefusesAt L now (stage start turns) c line status → Ends now told status
-        by statuses.Memory why = stop now whole statuses.Memory refl took count (all_of start turns) why
-        by (statuses.Script m) why = stop now whole (statuses.Script m) refl took count (refl, why.0 ∙ at_line line n, inl (bytes, next, built, subst (Unlawful (stage start turns)) (sym e) why.1)) why.2
+        hands : Leaves L now (stage start turns) → HandsBack T L V now first vault (stage start turns)
+        hands leaves = record { leaves = leaves; bytes = known; stored = b.holds.vault }
+
+        by : (status : Status) → RefusesAt L now (stage start turns) c line status → Ends now vault told status
+        by statuses.Memory why = stop now whole statuses.Memory refl took count (all_of start turns) (hands why)
+        by (statuses.Script m) why = stop now whole (statuses.Script m) refl took count (refl, why.0 ∙ at_line line n, inl (bytes, next, built, subst (Unlawful (stage start turns)) (sym e) why.1)) (hands why.2)
         by (statuses.NotBuilt m) why =
-            stop now whole (statuses.NotBuilt m) refl took count (refl, why.0 ∙ at_line line n, inr (of_command (λ d. (is_lawful (stage start turns) d ≡ true) × IsNotBuilt L now (stage start turns) d) (length b.read) bytes whole c next e (why.1, why.2))) why.3
+            stop now whole (statuses.NotBuilt m) refl took count (refl, why.0 ∙ at_line line n, inr (of_command (λ d. (is_lawful (stage start turns) d ≡ true) × IsNotBuilt L now (stage start turns) d) (length b.read) bytes whole c next e (why.1, why.2))) (hands why.3)
         by (statuses.NoSplit m) why =
-            stop now whole (statuses.NoSplit m) refl took count (refl, why.0 ∙ at_line line n, of_command (λ d. (is_lawful (stage start turns) d ≡ true) × IsSplit L.tells (stage start turns) d) (length b.read) bytes whole c next e (why.1, why.2)) why.3
-        by statuses.LogFault why = cut_off now why
-        by (statuses.LogBad block byte) why = stop now whole (statuses.LogBad block byte) refl took count (refl, of_command IsOpen (length b.read) bytes whole c next e why.0, why.1) (λ t. absurd (why.1 t))
-        by statuses.NotFormatted why = stop now whole statuses.NotFormatted refl took count (refl, of_command IsOpen (length b.read) bytes whole c next e why.0, why.1) why.2
-        by statuses.AlreadyFormatted why = stop now whole statuses.AlreadyFormatted refl took count (refl, of_command IsFormat (length b.read) bytes whole c next e why.0, why.1) why.2
+            stop now whole (statuses.NoSplit m) refl took count (refl, why.0 ∙ at_line line n, of_command (λ d. (is_lawful (stage start turns) d ≡ true) × IsSplit L.tells (stage start turns) d) (length b.read) bytes whole c next e (why.1, why.2)) (hands why.3)
+        by statuses.LogFault why = cut_off now why known
+        by (statuses.LogBad block byte) why = stop now whole (statuses.LogBad block byte) refl took count (refl, of_command IsOpen (length b.read) bytes whole c next e why.0, why.1) (hands (λ t. absurd (why.1 t)))
+        by statuses.NotFormatted why = stop now whole statuses.NotFormatted refl took count (refl, of_command IsOpen (length b.read) bytes whole c next e why.0, why.1) (hands why.2)
+        by statuses.AlreadyFormatted why = stop now whole statuses.AlreadyFormatted refl took count (refl, of_command IsFormat (length b.read) bytes whole c next e why.0, why.1) (hands why.2)
         by _ why = absurd why
 
     said_here : (t : Turn) → t.command ≡ c → reads bytes ≡ Some t.command
@@ -167,12 +203,13 @@ module _ {D : Type 0} (L : Ghosts D) (start : Last) (disk : D) (left0 told0 : Op
         )
 
     -- the sink fails within a turn's lines
-    pub fell : (now : D) (H' : Stage → Type 0) (safe' : (s : Stage) → H' s → Safe L now s) (out done rest : List ℕ)
-        → Adds L.tells H' (stage start turns) c out → out ≡ done ++ rest → (told' : Option (List ℕ)) → Appends told told' done → Ends now told' statuses.SinkFault
-    fell now H' safe' out done rest added cut told' wrote =
+    pub fell : (now : D) (vault' : E) (H' : Stage → Type 0) (safe' : (s : Stage) → H' s → Safe T L now s) (out done rest : List ℕ)
+        → Adds L.tells (Beside V first vault' H') (stage start turns) c out → out ≡ done ++ rest → (told' : Option (List ℕ)) → Appends told told' done → Ends now vault' told' statuses.SinkFault
+    fell now vault' H' safe' out done rest added cut told' wrote =
         let t : Turn = added.turn in
         let whole : text start (turns ++ t ∷ []) ≡ (text start turns ++ done) ++ rest = text_push start turns t ∙ ap (λ (x : List ℕ). text start turns ++ x) (sym added.lines ∙ cut) ∙ sym (append_assoc (text start turns) done rest) in
-        let then = safe' (stage start (turns ++ t ∷ [])) (subst H' (sym (stage_push start turns t)) added.holds) in
+        let at = subst (Beside V first vault' H') (sym (stage_push start turns t)) added.holds in
+        let then = safe' (stage start (turns ++ t ∷ [])) at.here in
         record {
           turns = turns ++ t ∷ [];
           read = b.read ++ (bytes ++ 10 ∷ []);
@@ -188,8 +225,8 @@ module _ {D : Type 0} (L : Ghosts D) (start : Last) (disk : D) (left0 told0 : Op
           };
           cut = then.goes;
           wrote = Appends-trans _ _ _ (text start turns) done b.wrote wrote;
-          ended = (rest, whole);
-          leaves = then.leaves;
+          ended = (turns, t ∷ [], omega arith, refl, (done, refl), (rest, whole));
+          back = record { leaves = then.leaves; bytes = then.bytes; stored = at.vault };
         }
 
 -- all is written
@@ -200,10 +237,10 @@ pub nothing_pending : (left : Option (List ℕ)) → to_come first_reader left �
 nothing_pending None = refl
 nothing_pending (Some bytes) = refl
 
-module _ {D : Type 0} (L : Ghosts D) (start : Last) where
-  pub at_start : (disk : D) (left told : Option (List ℕ)) (reader : Reader) → reader.lines ≡ 0 → reader.taken ≡ 0 → IsBounded reader → Out L disk (begin_stage start) → Between L.tells start (Out L disk) (to_come reader left) told reader [] left told
+module _ {D E : Type 0} (T : Type 0) (L : Ghosts D) (V : vaults.Ghosts E) (start : Start) (disk : D) (vault : E) where
+  pub at_start : (left told : Option (List ℕ)) (reader : Reader) → reader.lines ≡ 0 → reader.taken ≡ 0 → IsBounded reader → Out T L disk (begin_stage start) → Between L.tells start (Beside V vault vault (Out T L disk)) (to_come reader left) told reader [] left told
   unfolding Fits AllAlong stage text along
-  at_start disk left told reader lines taken most out = record {
+  at_start left told reader lines taken most out = record {
     read = [];
     script = refl;
     taken = Consumes-nil (to_come reader left);
@@ -212,14 +249,17 @@ module _ {D : Type 0} (L : Ghosts D) (start : Last) where
     within = omega arith;
     most = most;
     fits = tt;
-    holds = out;
+    holds = record { here = out; vault = vault_first V vault };
     wrote = Appends-nil told;
   }
 
   -- nothing is run
-  pub not_begun : (disk : D) (left told : Option (List ℕ)) (status : Status) → cuts status ≡ false → Ended L start disk status [] [] [] [] (prepend_known [] left) → Leaves L disk (begin_stage start) → (pending : List ℕ) × Headline L start disk left pending left told told status
+  abbrev NotRun : Option (List ℕ) → Option (List ℕ) → Status → Type 0
+  NotRun left told status = (pending : List ℕ) × Headline T L V start disk vault vault left pending left told told status
+
+  not_begun : (left told : Option (List ℕ)) (status : Status) → cuts status ≡ false → Ended L start disk status [] [] [] [] (prepend_known [] left) → Leaves L disk (begin_stage start) → Known T L start.bytes disk → NotRun left told status
   unfolding Fits AllAlong stage text along
-  not_begun disk left told status whole ended leaves = (
+  not_begun left told status whole ended leaves known = (
     [],
     record {
       turns = [];
@@ -233,7 +273,7 @@ module _ {D : Type 0} (L : Ghosts D) (start : Last) where
       cut = sym whole;
       wrote = Appends-nil told;
       ended = ended;
-      leaves = leaves;
+      back = record { leaves = leaves; bytes = known; stored = vault_first V vault };
     },
   )
 
@@ -241,19 +281,19 @@ module _ {D : Type 0} (L : Ghosts D) (start : Last) where
   unfolding text along
   nothing_written = all_of start []
 
-  pub not_called : (disk : D) (left told : Option (List ℕ)) → Leaves L disk (begin_stage start) → (pending : List ℕ) × Headline L start disk left pending left told told statuses.Usage
-  not_called disk left told leaves = not_begun disk left told statuses.Usage refl (refl, refl, refl, refl) leaves
+  pub not_called : (left told : Option (List ℕ)) → Leaves L disk (begin_stage start) → Known T L start.bytes disk → NotRun left told statuses.Usage
+  not_called left told leaves known = not_begun left told statuses.Usage refl (refl, refl, refl, refl) leaves known
 
-  pub not_generated : (disk : D) (left told : Option (List ℕ)) → Leaves L disk (begin_stage start) → (pending : List ℕ) × Headline L start disk left pending left told told statuses.NoGenerator
-  not_generated disk left told leaves = not_begun disk left told statuses.NoGenerator refl (refl, refl, refl, refl) leaves
+  pub not_generated : (left told : Option (List ℕ)) → Leaves L disk (begin_stage start) → Known T L start.bytes disk → NotRun left told statuses.NoGenerator
+  not_generated left told leaves known = not_begun left told statuses.NoGenerator refl (refl, refl, refl, refl) leaves known
 
-  pub no_buffer : (disk : D) (left told : Option (List ℕ)) → Leaves L disk (begin_stage start) → (pending : List ℕ) × Headline L start disk left pending left told told statuses.Memory
-  no_buffer disk left told leaves = not_begun disk left told statuses.Memory refl nothing_written leaves
+  pub no_buffer : (left told : Option (List ℕ)) → Leaves L disk (begin_stage start) → Known T L start.bytes disk → NotRun left told statuses.Memory
+  no_buffer left told leaves known = not_begun left told statuses.Memory refl nothing_written leaves known
 
-  pub ran_whole : (disk : D) (left left' told told' : Option (List ℕ)) (old new : Reader) (status : Status) → old ≡ first_reader → Headline L start disk (to_come old left) new.pending left' told told' status
-      → (pending : List ℕ) × Headline L start disk left pending left' told told' status
-  ran_whole disk left left' told told' old new status is h = (
+  pub ran_whole : (vault' : E) (left left' told told' : Option (List ℕ)) (old new : Reader) (status : Status) → old ≡ first_reader → Headline T L V start disk vault vault' (to_come old left) new.pending left' told told' status
+      → (pending : List ℕ) × Headline T L V start disk vault vault' left pending left' told told' status
+  ran_whole vault' left left' told told' old new status is h = (
     new.pending,
-    subst (λ (x : Option (List ℕ)). Headline L start disk x new.pending left' told told' status) (nothing_pending left)
-        (subst (λ (r : Reader). Headline L start disk (to_come r left) new.pending left' told told' status) is h),
+    subst (λ (x : Option (List ℕ)). Headline T L V start disk vault vault' x new.pending left' told told' status) (nothing_pending left)
+        (subst (λ (r : Reader). Headline T L V start disk vault vault' (to_come r left) new.pending left' told told' status) is h),
   )

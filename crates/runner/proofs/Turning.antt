@@ -6,19 +6,19 @@ use Rattle.wal_record.proofs.Along.{along_push, AllAlong_back}
 use Rattle.script.specs.declared.command.Command.{Command}
 use Rattle.script.specs.Line.{reads}
 use Rattle.line_reader.specs.Lines.{IsLine}
-use Rattle.runner.specs.Turns.{Last, Turn, stage, stage_step, begin_stage, Fits, FitsAt, fits_after}
+use Rattle.runner.specs.Turns.{Start, Turn, stage, stage_step, begin_stage, Fits, FitsAt, fits_after}
 use Rattle.runner.specs.Text.{text, lines}
 use Rattle.runner.specs.Clause.{Script, command_of}
 
-pub stage_push : (start : Last) (turns : List Turn) (t : Turn) → stage start (turns ++ t ∷ []) ≡ stage_step (stage start turns) t
+pub stage_push : (start : Start) (turns : List Turn) (t : Turn) → stage start (turns ++ t ∷ []) ≡ stage_step (stage start turns) t
 unfolding stage
 stage_push start turns t = fold-append stage_step (begin_stage start) turns (t ∷ [])
 
-pub text_push : (start : Last) (turns : List Turn) (t : Turn) → text start (turns ++ t ∷ []) ≡ text start turns ++ lines (stage start turns) t
+pub text_push : (start : Start) (turns : List Turn) (t : Turn) → text start (turns ++ t ∷ []) ≡ text start turns ++ lines (stage start turns) t
 unfolding text
 text_push start turns t = along_push _ _ turns t
 
-pub fits_push : (tells : Type 0) (start : Last) (turns : List Turn) (t : Turn) → Fits tells start turns → FitsAt tells (stage start turns) t → Fits tells start (turns ++ t ∷ [])
+pub fits_push : (tells : Type 0) (start : Start) (turns : List Turn) (t : Turn) → Fits tells start turns → FitsAt tells (stage start turns) t → Fits tells start (turns ++ t ∷ [])
 unfolding Fits
 fits_push tells start turns t h p = AllAlong_back (fits_after tells start) turns t h p
 

@@ -26,16 +26,18 @@ use Rattle.runner.specs.declared.at.Stepped.TheVariants as steps
 use Rattle.runner.specs.Standing.{Standing}
 use Rattle.runner.specs.declared.status.Status.{Status}
 use Rattle.runner.specs.declared.status.Status.TheVariants as statuses
+use Rattle.runner.specs.Bytes.{Bytes, Known, MayMake, MayOpen, StaysKnown, Allows}
 use Rattle.runner.specs.Causes.{LifeCause, LogCause, SteppedCause, Shows, disk_at}
 use Rattle.runner.specs.LogDisk.{View, Whole, Form, IsWhole, seen, Keeps, HoldsOne, Leaves}
 use Rattle.runner.specs.Machine.{actives, IsFused, Out, In, Safe, Adds, IsAt, Steps, Refuses}
 use Rattle.runner.specs.Openings.{Makes, IsMade, IsNotMade, IsBegun, IsNotBegun}
 use Rattle.runner.specs.Refusals.{RefusesAt}
-use Rattle.runner.specs.Turns.{Life, Stage, Last, Unformatted, Stopped, Done, LogFault, IsEnd, CallsLog, MayEnter, IsCutOff, IsOpenable, turn, room_of, no_life, is_lawful, last_after}
+use Rattle.runner.specs.Turns.{Life, Stage, Last, Unformatted, Stopped, Done, LogFault, IsEnd, CallsLog, MayEnter, IsCutOff, IsOpenable, turn, room_of, no_life, is_lawful, last_after, bytes_after}
 use Rattle.runner.specs.Text.{lines}
 use Rattle.runner.proofs.Lists.{some_commits, commits_of_some, open_of_some, no_losers}
 use Rattle.runner.proofs.Commands.{runs_on}
 use Rattle.runner.proofs.Openings.{begun_keeps}
+use Rattle.runner.proofs.Known.{known_none}
 use Rattle.runner.proofs.Lives.{keeps_same, keeps_only, safe_out}
 
 -- ---- fuses
@@ -53,21 +55,34 @@ module _ {D : Type 0} (L : Ghosts D) (disk left : D) (F : Type 0) (b : Blames L.
   pub own_rose : F → L.refused left ≤ L.refused disk → L.refused disk < 2 ^ 62 → Rose (L.own disk) (L.own left)
   own_rose f none few = ⊎_elim (λ rose. rose) (λ rose. absurd (omega (arith, rose, none, few))) (b.cause f)
 
-module _ {D F : Type 0} (L : Ghosts D) (inside : F → Stage → Type 0) (disk : D) (s : Stage) (h : Out L disk s) where
+module _ {D F : Type 0} (T : Type 0) (L : Ghosts D) (inside : F → Stage → Type 0) (disk : D) (s : Stage) (h : Out T L disk s) where
   pub lawful_out : no_life s.life ≡ true
   lawful_out = ap no_life h.life
 
   pub out_leaves : Leaves L disk s
-  out_leaves = (safe_out L disk s h).leaves
+  out_leaves = (safe_out L T disk s h).leaves
 
-  pub out_nothing : (out : List ℕ) → out ≡ [] → Adds L.tells (Out L disk) s commands.Nothing out
+  pub out_known : Known T L (bytes_after s.life s.bytes) disk
+  out_known = (safe_out L T disk s h).bytes
+
+  known_as : (left : D) → StaysKnown T L disk left → Known T L (bytes_after s.life s.bytes) left
+  known_as left stays = stays _ out_known
+
+  -- the run ends with the disk as it is
+  pub out_memory : Leaves L disk s × Known T L (bytes_after s.life s.bytes) disk
+  out_memory = (out_leaves, out_known)
+
+  pub out_nothing : (out : List ℕ) → out ≡ [] → Adds L.tells (Out T L disk) s commands.Nothing out
   out_nothing out is = record { turn = turn commands.Nothing [] Done; is = refl; fits = record { goes = h.goes; lawful = refl; row = (tt, refl) }; holds = h; lines = is }
 
-  pub out_unlawful : (c : Command) (line : ℕ) → is_lawful s c ≡ false → RefusesAt L disk s c line (statuses.Script line)
-  out_unlawful c line e = (refl, e, out_leaves)
+  abbrev Stops : D → Command → ℕ → Status → Type 0
+  Stops left c line status = RefusesAt L left s c line status × Known T L (bytes_after s.life s.bytes) left
 
-  pub bad_room : (limit : Option ℕ) (line : ℕ) → is_limit (room_of limit) ≡ false → RefusesAt L disk s (commands.Format limit) line (statuses.Script line)
-  bad_room limit line e = (refl, rw (lawful_out) e, out_leaves)
+  pub out_unlawful : (c : Command) (line : ℕ) → is_lawful s c ≡ false → RefusesAt L disk s c line (statuses.Script line) × Known T L (bytes_after s.life s.bytes) disk
+  out_unlawful c line e = ((refl, e, out_leaves), out_known)
+
+  pub bad_room : (limit : Option ℕ) (line : ℕ) → is_limit (room_of limit) ≡ false → RefusesAt L disk s (commands.Format limit) line (statuses.Script line) × Known T L (bytes_after s.life s.bytes) disk
+  bad_room limit line e = ((refl, rw (lawful_out) e, out_leaves), out_known)
 
   leaves_as : (left : D) (last : Last) → (L.tells → Keeps L last left) → L.tells → Keeps L (last_after s.life last) left
   leaves_as left last k t = subst (λ (x : Option Life). Keeps L (last_after x last) left) (sym h.life) (k t)
@@ -85,12 +100,12 @@ module _ {D F : Type 0} (L : Ghosts D) (inside : F → Stage → Type 0) (disk :
     lawful_format : is_lawful s (commands.Format limit) ≡ true
     lawful_format = rw (lawful_out) room
 
-    pub did_format : (left : D) (out : List ℕ) (F' : Type 0) → Makes L disk (IsMade L (room_of limit) left) → Blames L.passes L.refused L.own disk left F' → out ≡ codes "format ok\n" → Adds L.tells (Out L left) s (commands.Format limit) out
-    did_format left out F' made b is = record {
+    pub did_format : (left : D) (out : List ℕ) (F' : Type 0) → Makes L disk (IsMade L (room_of limit) left) → Allows T L disk MayMake → Blames L.passes L.refused L.own disk left F' → out ≡ codes "format ok\n" → Adds L.tells (Out T L left) s (commands.Format limit) out
+    did_format left out F' made may b is = record {
       turn = turn (commands.Format limit) [] Done;
       is = refl;
-      fits = record { goes = h.goes; lawful = lawful_format; row = ((λ t. (made t s.last (h.keeps t)).none), refl) };
-      holds = record { past = h.past; life = h.life; active = h.active; ended = h.ended; goes = h.goes; fused = fused_after L disk left F' b s.armed h.fused; keeps = λ t. (made t s.last (h.keeps t)).keeps };
+      fits = record { goes = h.goes; lawful = lawful_format; row = ((may s.bytes h.bytes, λ t. (made t s.last (h.keeps t)).none), refl) };
+      holds = record { past = h.past; life = h.life; active = h.active; ended = h.ended; goes = h.goes; fused = fused_after L disk left F' b s.armed h.fused; keeps = λ t. (made t s.last (h.keeps t)).keeps; bytes = known_none T L s.bytes left (may s.bytes h.bytes) };
       lines = is;
     }
 
@@ -99,15 +114,15 @@ module _ {D F : Type 0} (L : Ghosts D) (inside : F → Stage → Type 0) (disk :
     refuses_format left line statuses.LogFault not = record {
       entries = [];
       fits = record { goes = h.goes; lawful = lawful_format; row = none_entered (commands.Format limit) tt refl };
-      right = (safe_out L disk s h).right;
+      right = (safe_out L T disk s h).right;
       leaves = leaves_as left (Unformatted s.last (room_of limit)) (λ t. not t s.last (h.keeps t));
     }
     refuses_format left line statuses.AlreadyFormatted not = (tt, (λ t. (not t s.last (h.keeps t)).0), leaves_as left s.last (λ t. (not t s.last (h.keeps t)).1))
     refuses_format left line _ not = absurd not
 
     pub format_refused : (left : D) (line before : ℕ) (status : Status) (failed : List ℕ) (r : Stepped D F) → before ≡ L.refused disk → Refuses L left status before failed r → IsNotMade L (room_of limit) disk left status → Blames L.passes L.refused L.own disk left (status ≡ statuses.LogFault) → failed ≡ codes "format log failed\n"
-        → Steps L inside s (commands.Format limit) line r
-    format_refused left line before status failed (steps.Goes out at) is r not b text = subst (λ (x : At D F). Adds L.tells (IsAt L inside x) s (commands.Format limit) out.items) (sym r.2) (record {
+        → StaysKnown T L disk left → Steps T L inside s (commands.Format limit) line r
+    format_refused left line before status failed (steps.Goes out at) is r not b text stays = subst (λ (x : At D F). Adds L.tells (IsAt T L inside x) s (commands.Format limit) out.items) (sym r.2) (record {
       turn = turn (commands.Format limit) [] (LogFault 0);
       is = refl;
       fits = record { goes = h.goes; lawful = lawful_format; row = (armed_by L disk left (status ≡ statuses.LogFault) b s.armed h.fused (λ e. omega (arith, r.3, is, e)), none_entered (commands.Format limit) tt refl, λ t. no_end s.ended) };
@@ -119,11 +134,12 @@ module _ {D F : Type 0} (L : Ghosts D) (inside : F → Stage → Type 0) (disk :
         goes = h.goes;
         fused = fused_after L disk left (status ≡ statuses.LogFault) b s.armed h.fused;
         keeps = λ t. subst (λ (x : Status). IsNotMade L (room_of limit) disk left x) r.0 not t s.last (h.keeps t);
+        bytes = stays s.bytes h.bytes;
       };
       lines = r.1 ∙ text;
     })
-    format_refused left line before status failed (steps.Ends ending d) is r not b text =
-        subst (λ (x : D). RefusesAt L x s (commands.Format limit) line ending) (sym r.1) (subst (RefusesAt L left s (commands.Format limit) line) (sym r.0) (refuses_format left line status not))
+    format_refused left line before status failed (steps.Ends ending d) is r not b text stays =
+        subst (λ (x : D). Stops x (commands.Format limit) line ending) (sym r.1) (subst (RefusesAt L left s (commands.Format limit) line) (sym r.0) (refuses_format left line status not), known_as left stays)
 
   -- ---- an opening
 
@@ -132,7 +148,7 @@ module _ {D F : Type 0} (L : Ghosts D) (inside : F → Stage → Type 0) (disk :
   refuses_open left line statuses.LogFault not = record {
     entries = [];
     fits = record { goes = h.goes; lawful = lawful_out; row = none_entered commands.Open tt refl };
-    right = (safe_out L disk s h).right;
+    right = (safe_out L T disk s h).right;
     leaves = leaves_as left s.last (λ t. not t s.last (h.keeps t));
   }
   refuses_open left line (statuses.LogBad block byte) not = (tt, λ t. not t s.last (h.keeps t))
@@ -141,12 +157,12 @@ module _ {D F : Type 0} (L : Ghosts D) (inside : F → Stage → Type 0) (disk :
   refuses_open left line _ not = absurd not
 
   -- its line wants memory
-  pub opened_leaves : (log : LogState D) (standing : Standing) (line : ℕ) → Makes L disk (IsBegun L log standing) → RefusesAt L log.device s commands.Open line statuses.Memory
-  opened_leaves log standing line begun = leaves_as log.device s.last (λ t. begun_keeps L log standing s.last (begun t s.last (h.keeps t)))
+  pub opened_leaves : (log : LogState D) (standing : Standing) (line : ℕ) → Makes L disk (IsBegun L log standing) → StaysKnown T L disk log.device → RefusesAt L log.device s commands.Open line statuses.Memory × Known T L (bytes_after s.life s.bytes) log.device
+  opened_leaves log standing line begun stays = (leaves_as log.device s.last (λ t. begun_keeps L log standing s.last (begun t s.last (h.keeps t))), known_as log.device stays)
 
   pub open_refused : (left : D) (line before : ℕ) (status : Status) (failed : List ℕ) (r : Stepped D F) → before ≡ L.refused disk → Refuses L left status before failed r → IsNotBegun L line disk left status → Blames L.passes L.refused L.own disk left (status ≡ statuses.LogFault) → failed ≡ codes "open log failed\n"
-      → Steps L inside s commands.Open line r
-  open_refused left line before status failed (steps.Goes out at) is r not b text = subst (λ (x : At D F). Adds L.tells (IsAt L inside x) s commands.Open out.items) (sym r.2) (record {
+      → StaysKnown T L disk left → Steps T L inside s commands.Open line r
+  open_refused left line before status failed (steps.Goes out at) is r not b text stays = subst (λ (x : At D F). Adds L.tells (IsAt T L inside x) s commands.Open out.items) (sym r.2) (record {
     turn = turn commands.Open [] (LogFault 0);
     is = refl;
     fits = record { goes = h.goes; lawful = lawful_out; row = (armed_by L disk left (status ≡ statuses.LogFault) b s.armed h.fused (λ e. omega (arith, r.3, is, e)), none_entered commands.Open tt refl, λ t. no_end s.ended) };
@@ -158,46 +174,47 @@ module _ {D F : Type 0} (L : Ghosts D) (inside : F → Stage → Type 0) (disk :
       goes = h.goes;
       fused = fused_after L disk left (status ≡ statuses.LogFault) b s.armed h.fused;
       keeps = λ t. subst (λ (x : Status). IsNotBegun L line disk left x) r.0 not t s.last (h.keeps t);
+      bytes = stays s.bytes h.bytes;
     };
     lines = r.1 ∙ text;
   })
-  open_refused left line before status failed (steps.Ends ending d) is r not b text =
-      subst (λ (x : D). RefusesAt L x s commands.Open line ending) (sym r.1) (subst (RefusesAt L left s commands.Open line) (sym r.0) (refuses_open left line status not))
+  open_refused left line before status failed (steps.Ends ending d) is r not b text stays =
+      subst (λ (x : D). Stops x commands.Open line ending) (sym r.1) (subst (RefusesAt L left s commands.Open line) (sym r.0) (refuses_open left line status not), known_as left stays)
 
   -- ---- the fuse
 
-  module _ (left : D) (same : L.tells → L.told left ≡ L.told disk) (more : NoMore L.may_leave disk left) where
+  module _ (left : D) (same : L.tells → L.told left ≡ L.told disk) (more : NoMore L.may_leave disk left) (stays : StaysKnown T L disk left) where
     still_keeps : L.tells → Keeps L s.last left
     still_keeps t = keeps_same L s.last disk left (same t) more (h.keeps t)
 
-    pub did_fuse : (device : Device) (calls : ℕ) (out : List ℕ) → device ≡ Log → out ≡ codes "fuse log " ++ decimal calls ++ codes "\n" → Adds L.tells (Out L left) s (commands.Fuse device calls) out
+    pub did_fuse : (device : Device) (calls : ℕ) (out : List ℕ) → device ≡ Log → out ≡ codes "fuse log " ++ decimal calls ++ codes "\n" → Adds L.tells (Out T L left) s (commands.Fuse device calls) out
     did_fuse device calls out log is = record {
       turn = turn (commands.Fuse device calls) [] Done;
       is = refl;
       fits = record { goes = h.goes; lawful = refl; row = (log, refl) };
-      holds = record { past = h.past; life = h.life; active = h.active; ended = h.ended; goes = h.goes; fused = record { fuse = h.fused.fuse; renewed = λ e. absurd cc }; keeps = still_keeps };
+      holds = record { past = h.past; life = h.life; active = h.active; ended = h.ended; goes = h.goes; fused = record { fuse = h.fused.fuse; renewed = λ e. absurd cc }; keeps = still_keeps; bytes = stays s.bytes h.bytes };
       lines = is;
     }
 
-    pub did_renew : (device : Device) (out : List ℕ) → device ≡ Log → (L.fuses → L.passes left ≡ None) → out ≡ codes "renew log\n" → Adds L.tells (Out L left) s (commands.Renew device) out
+    pub did_renew : (device : Device) (out : List ℕ) → device ≡ Log → (L.fuses → L.passes left ≡ None) → out ≡ codes "renew log\n" → Adds L.tells (Out T L left) s (commands.Renew device) out
     did_renew device out log renewed is = record {
       turn = turn (commands.Renew device) [] Done;
       is = refl;
       fits = record { goes = h.goes; lawful = refl; row = (log, refl) };
-      holds = record { past = h.past; life = h.life; active = h.active; ended = h.ended; goes = h.goes; fused = record { fuse = h.fused.fuse; renewed = λ e. renewed h.fused.fuse }; keeps = still_keeps };
+      holds = record { past = h.past; life = h.life; active = h.active; ended = h.ended; goes = h.goes; fused = record { fuse = h.fused.fuse; renewed = λ e. renewed h.fused.fuse }; keeps = still_keeps; bytes = stays s.bytes h.bytes };
       lines = is;
     }
 
   -- the fuse of another device
-  pub other_fuse : (device : Device) (calls line : ℕ) → device ≢ Log → RefusesAt L disk s (commands.Fuse device calls) line (statuses.NotBuilt line)
-  other_fuse device calls line other = (refl, refl, other, out_leaves)
+  pub other_fuse : (device : Device) (calls line : ℕ) → device ≢ Log → RefusesAt L disk s (commands.Fuse device calls) line (statuses.NotBuilt line) × Known T L (bytes_after s.life s.bytes) disk
+  other_fuse device calls line other = ((refl, refl, other, out_leaves), out_known)
 
-  pub other_renew : (device : Device) (line : ℕ) → device ≢ Log → RefusesAt L disk s (commands.Renew device) line (statuses.NotBuilt line)
-  other_renew device line other = (refl, refl, other, out_leaves)
+  pub other_renew : (device : Device) (line : ℕ) → device ≢ Log → RefusesAt L disk s (commands.Renew device) line (statuses.NotBuilt line) × Known T L (bytes_after s.life s.bytes) disk
+  other_renew device line other = ((refl, refl, other, out_leaves), out_known)
 
 -- a stop, at any place
-pub did_stop : {D : Type 0} (L : Ghosts D) (disk left : D) (s : Stage) → Safe L disk s → (keep : Option ℕ) (out : List ℕ) → (L.tells → L.may_leave disk (L.told left)) → (L.tells → Only (L.told left) (L.may_leave left)) → (L.fuses → L.passes left ≡ None) → out ≡ codes "stop\n" → Adds L.tells (Out L left) s (commands.Stop keep) out
-did_stop L disk left s safe keep out may only renewed is = record {
+pub did_stop : {D : Type 0} (T : Type 0) (L : Ghosts D) (disk left : D) (s : Stage) → Safe T L disk s → StaysKnown T L disk left → (keep : Option ℕ) (out : List ℕ) → (L.tells → L.may_leave disk (L.told left)) → (L.tells → Only (L.told left) (L.may_leave left)) → (L.fuses → L.passes left ≡ None) → out ≡ codes "stop\n" → Adds L.tells (Out T L left) s (commands.Stop keep) out
+did_stop T L disk left s safe stays keep out may only renewed is = record {
   turn = turn (commands.Stop keep) [] Done;
   is = refl;
   fits = record { goes = safe.goes; lawful = refl; row = (tt, refl) };
@@ -209,6 +226,7 @@ did_stop L disk left s safe keep out may only renewed is = record {
     goes = safe.goes;
     fused = record { fuse = safe.fuse; renewed = λ e. renewed safe.fuse };
     keeps = λ t. keeps_only L (Stopped (last_after s.life s.last)) left ((safe.leaves t).crash (L.told left) (may t)) (only t);
+    bytes = stays _ safe.bytes;
   };
   lines = is;
 }
@@ -222,9 +240,9 @@ calm_openable opening rows top active next count lsn c = record {
 }
 
 -- an opening finds a log; where the form alone is looked at, so many commits stand for it
-pub did_open : {D : Type 0} (L : Ghosts D) (v : View L.tells) (disk : D) (s : Stage) → Out (seen L v) disk s → (log : LogState D) (standing : Standing) (out : List ℕ) (F : Type 0) → Makes (seen L v) disk (IsBegun (seen L v) log standing) → standing.session ≡ None → log.ended ≡ None → Blames L.passes L.refused L.own disk log.device F
+pub did_open : {D : Type 0} (L : Ghosts D) (v : View L.tells) (disk : D) (s : Stage) → Out L.tells (seen L v) disk s → Allows L.tells L disk MayOpen → (log : LogState D) (standing : Standing) (out : List ℕ) (F : Type 0) → Makes (seen L v) disk (IsBegun (seen L v) log standing) → standing.session ≡ None → log.ended ≡ None → Blames L.passes L.refused L.own disk log.device F
     → out ≡ codes "open commits=" ++ decimal standing.commits ++ codes " losers=" ++ decimal 0 ++ codes "\n" → Adds (IsWhole v) (In (seen L v) log standing) s commands.Open out
-did_open L (Whole t) disk s h log standing out F begun closed live b is =
+did_open L (Whole t) disk s h may log standing out F begun closed live b is =
     let M = seen L (Whole t) in
     let k = begun tt s.last (h.keeps tt) in
     let life : Life = record { opening = k.opening; history = [] } in
@@ -233,7 +251,7 @@ did_open L (Whole t) disk s h log standing out F begun closed live b is =
     record {
       turn = record { command = commands.Open; entries = []; found = k.opening; end = Done };
       is = refl;
-      fits = record { goes = h.goes; lawful = ap no_life h.life; row = ((λ _. (k.found, openable)), refl) };
+      fits = record { goes = h.goes; lawful = ap no_life h.life; row = ((may s.bytes h.bytes, λ _. (k.found, openable)), refl) };
       holds = record {
         past = h.past;
         here = life;
@@ -246,14 +264,14 @@ did_open L (Whole t) disk s h log standing out F begun closed live b is =
       };
       lines = is ∙ (λ i. codes "open commits=" ++ decimal ((sym count ∙ ap commits (append-nil k.opening)) i) ++ codes " losers=" ++ decimal (length (sym openable.settled i)) ++ codes "\n");
     }
-did_open L Form disk s h log standing out F begun closed live b is =
+did_open L Form disk s h may log standing out F begun closed live b is =
     let M = seen L Form in
     let opening = some_commits standing.commits in
     let life : Life = record { opening = opening; history = [] } in
     record {
       turn = record { command = commands.Open; entries = []; found = opening; end = Done };
       is = refl;
-      fits = record { goes = h.goes; lawful = ap no_life h.life; row = ((λ t. absurd t), refl) };
+      fits = record { goes = h.goes; lawful = ap no_life h.life; row = ((may s.bytes h.bytes, λ t. absurd t), refl) };
       holds = record {
         past = h.past;
         here = life;

@@ -2,9 +2,7 @@
 use Rattle.std.specs.Prelude.{◌≡◌, ◌≢◌, ◌≤◌, ℕ, []}
 use Rattle.log_blocks.specs.Log.{StandsFor}
 use Rattle.media.specs.Cause.{Rose}
-use Rattle.media.specs.Objects.{Stored, MayLeave}
 use Rattle.media.specs.declared.disk.Disk.{Ghosts}
-use Rattle.store_model.specs.declared.object.ObjectName.{ObjectName}
 use Rattle.runner.specs.declared.at.At.{At}
 use Rattle.runner.specs.declared.at.At.TheVariants.{Outside, Inside}
 use Rattle.runner.specs.declared.at.Stepped.{Stepped}
@@ -15,7 +13,8 @@ use Rattle.runner.specs.declared.living.Lived.{Lived}
 use Rattle.runner.specs.declared.living.Lived.TheVariants as ways
 use Rattle.runner.specs.declared.status.Status.{Status}
 use Rattle.runner.specs.declared.status.Status.TheVariants as statuses
-use Rattle.runner.specs.LogDisk.{IsBadLog, IsFormatted}
+use Rattle.runner.specs.Bytes.{IsFormatted}
+use Rattle.runner.specs.LogDisk.{IsBadLog}
 
 -- a fault of the log disk comes only where that disk's own count rose, and no stream's fault comes, and nothing that the words decide
 abbrev pub LogCause : ℕ → ℕ → Status → Type 0
@@ -81,11 +80,6 @@ abbrev pub LivedCause : {D : Type 0} → Ghosts D → D → ℕ → ℕ → ℕ 
 LivedCause L disk source0 source1 sink0 sink1 (ways.Stopped left) = L.own disk ≤ L.own left
 LivedCause L disk source0 source1 sink0 sink1 (ways.Ends status left) = (L.own disk ≤ L.own left) × RunCause source0 source1 sink0 sink1 (L.own disk) (L.own left) status
     × Shows L left status × (status ≢ statuses.Usage) × (status ≢ statuses.NoGenerator)
-
--- what stops leave of a vault, or none: its count of faults, each synced object, and what no name stood for
-pub record IsCycled {D : Type 0} (tells : Type 0) (told : D → ObjectName → Stored) (faults : D → ℕ) (old new : D) : Type 0 where
-  pub left : tells → (name : ObjectName) → MayLeave (told old name) (told new name)
-  pub unfailed : faults new ≡ faults old
 
 -- a status that the script asks for, where no device fails; or want of memory
 abbrev pub IsAsked : Status → Type 0

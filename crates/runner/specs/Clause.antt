@@ -5,11 +5,13 @@ use Rattle.std.specs.Io.KnownBytes.{Appends, Consumes, IsAtEnd, prepend_known}
 use Rattle.std.specs.declared.result.Result.{Result}
 use Rattle.std.specs.declared.result.Result.TheVariants.{Ok, Err}
 use Rattle.media.specs.declared.disk.Disk.{Ghosts}
+use Rattle.media.specs.declared.vault.Vault as vaults
 use Rattle.script.specs.declared.command.Command.{Command}
 use Rattle.script.specs.Line.{reads}
 use Rattle.line_reader.specs.Lines.{Reader, to_come, longest_script, IsBounded, IsLine, IsNoLine}
 use Rattle.line_reader.specs.Built.{is_built}
-use Rattle.runner.specs.Turns.{Last, Turn, Stage, stage, Fits, IsRightLife, MayFind, lives, is_lawful}
+use Rattle.runner.specs.Bytes.{Known}
+use Rattle.runner.specs.Turns.{Start, Turn, Stage, stage, bytes_after, Fits, IsRightLife, MayFind, lives, is_lawful}
 use Rattle.runner.specs.Refusals.{IsNotBuilt, IsSplit, IsOpen, IsFormat, FindsLog}
 use Rattle.runner.specs.Status.{cuts}
 use Rattle.runner.specs.Text.{text}
@@ -21,6 +23,7 @@ use Rattle.runner.specs.declared.living.Lived.{Lived}
 use Rattle.runner.specs.declared.living.Lived.TheVariants as ways
 use Rattle.runner.specs.LogDisk.{Leaves}
 use Rattle.runner.specs.Machine.{Out, IsAt}
+use Rattle.runner.specs.Vault.{IsVault, Beside}
 
 -- the bytes are the lines of these commands
 abbrev pub Script : List ℕ → List Command → Type 0
@@ -34,13 +37,13 @@ abbrev pub command_of : Turn → Command
 command_of t = t.command
 
 -- turns that were run on a disk that was handed in so: of the lines read; each fits, and each life is right
-pub record Ran (tells : Type 0) (start : Last) (read : List ℕ) (turns : List Turn) : Type 0 where
+pub record Ran (tells : Type 0) (start : Start) (read : List ℕ) (turns : List Turn) : Type 0 where
   pub script : Script read (map command_of turns)
   pub fits : Fits tells start turns
   pub right : tells → All IsRightLife (lives (stage start turns))
 
 -- the bytes are the lines of all turns before the last, and some of the last one's
-abbrev pub Partly : Last → List Turn → List ℕ → Type 0
+abbrev pub Partly : Start → List Turn → List ℕ → Type 0
 Partly start turns written = (before : List Turn) × (last : List Turn) × (length last < 2) × (turns ≡ before ++ last) × IsPrefix (text start before) written × IsPrefix written (text start turns)
 
 -- what is said of a command that a line spells
@@ -72,14 +75,14 @@ NotBuiltLine L disk s taken rest = ((line : List ℕ) × IsNext taken rest line 
 
 -- by the status: what was written of the turns' text, and why the run ended; the log disk was handed in as this use left
 -- it, and is handed back so
-abbrev pub Ended : {D : Type 0} → Ghosts D → Last → D → Status → List Turn → List ℕ → List ℕ → List ℕ → Option (List ℕ) → Type 0
+abbrev pub Ended : {D : Type 0} → Ghosts D → Start → D → Status → List Turn → List ℕ → List ℕ → List ℕ → Option (List ℕ) → Type 0
 Ended L start disk statuses.Done turns read rest written left = (written ≡ text start turns) × (rest ≡ []) × IsAtEnd left
 Ended L start disk statuses.Memory turns read rest written left = Partly start turns written
 Ended L start disk statuses.Usage turns read rest written left = (turns ≡ []) × (read ≡ []) × (rest ≡ []) × (written ≡ [])
 Ended L start disk statuses.NoGenerator turns read rest written left = (turns ≡ []) × (read ≡ []) × (rest ≡ []) × (written ≡ [])
 Ended L start disk (statuses.Script line) turns read rest written left = (written ≡ text start turns) × (line ≡ length turns + 1) × BadLine (stage start turns) (length read) rest left
 Ended L start disk statuses.SourceFault turns read rest written left = written ≡ text start turns
-Ended L start disk statuses.SinkFault turns read rest written left = IsPrefix written (text start turns)
+Ended L start disk statuses.SinkFault turns read rest written left = Partly start turns written
 Ended L start disk statuses.LogFault turns read rest written left = written ≡ text start turns
 Ended L start disk (statuses.LogBad block byte) turns read rest written left = (written ≡ text start turns) × NextLine IsOpen (length read) rest × (L.tells → ⊥)
 Ended L start disk statuses.NotFormatted turns read rest written left = (written ≡ text start turns) × NextLine IsOpen (length read) rest × (L.tells → MayFind (stage start turns).last [])
@@ -88,9 +91,16 @@ Ended L start disk (statuses.NotBuilt line) turns read rest written left = (writ
 Ended L start disk (statuses.NoSplit line) turns read rest written left = (written ≡ text start turns) × (line ≡ length turns + 1)
     × NextLine (λ c. (is_lawful (stage start turns) c ≡ true) × IsSplit L.tells (stage start turns) c) (length read) rest
 
--- The log disk was handed in as this use left it, as disks of its type tell, and is handed back so; then what was left and told
--- at the start, and what is now. What was read and given to no line is still pending.
-pub record Headline {D : Type 0} (L : Ghosts D) (start : Last) (disk : D) (left0 : Option (List ℕ)) (pending : List ℕ) (left told0 told : Option (List ℕ)) (status : Status) : Type 0 where
+-- The devices that are handed back, and the vault that was handed in. The log disk keeps a log that may be found next: of an
+-- open life a member of what a stop may leave.
+pub record HandsBack {D E : Type 0} (tells : Type 0) (L : Ghosts D) (V : vaults.Ghosts E) (disk : D) (first vault : E) (s : Stage) : Type 0 where
+  pub leaves : Leaves L disk s
+  pub bytes : Known tells L (bytes_after s.life s.bytes) disk
+  pub stored : IsVault V first vault s.cycled
+
+-- The log disk was handed in as the start says, as disks of its type tell, and is handed back so, and the vault; then what was
+-- left and told at the start, and what is now. What was read and given to no line is still pending.
+pub record Headline {D E : Type 0} (tells : Type 0) (L : Ghosts D) (V : vaults.Ghosts E) (start : Start) (disk : D) (first vault : E) (left0 : Option (List ℕ)) (pending : List ℕ) (left told0 told : Option (List ℕ)) (status : Status) : Type 0 where
   pub turns : List Turn
   pub read : List ℕ
   pub rest : List ℕ
@@ -105,11 +115,10 @@ pub record Headline {D : Type 0} (L : Ghosts D) (start : Last) (disk : D) (left0
   pub cut : (stage start turns).cut ≡ cuts status
   pub wrote : Appends told0 told written
   pub ended : Ended L start disk status turns read rest written (prepend_known pending left)
-  -- it keeps a log that may be found next: of an open life a member of what a stop may leave
-  pub leaves : Leaves L disk (stage start turns)
+  pub back : HandsBack tells L V disk first vault (stage start turns)
 
 -- between two turns: what was read and written since the start, by the turns so far; H says what holds of their stage
-pub record Between (tells : Type 0) (start : Last) (H : Stage → Type 0) (left0 told0 : Option (List ℕ)) (reader : Reader) (turns : List Turn) (left told : Option (List ℕ)) : Type 0 where
+pub record Between (tells : Type 0) (start : Start) (H : Stage → Type 0) (left0 told0 : Option (List ℕ)) (reader : Reader) (turns : List Turn) (left told : Option (List ℕ)) : Type 0 where
   pub read : List ℕ
   pub script : Script read (map command_of turns)
   pub taken : Consumes left0 (to_come reader left) read
@@ -133,11 +142,11 @@ TakesCommand old new left_old left_new (Err (statuses.NotBuilt n)) = (n ≡ old.
 TakesCommand old new left_old left_new (Err e) = (rest : List ℕ) × Consumes (to_come old left_old) (to_come new left_new) rest × (new.taken ≡ old.taken + length rest)
 
 -- one line, behind which a run goes on or has ended
-abbrev pub TurnedTo : {D F : Type 0} → Ghosts D → Last → (F → Stage → Type 0) → Option (List ℕ) → Option (List ℕ) → Reader → List Turn → Option (List ℕ) → Option (List ℕ) → Turned D F → Type 0
-TurnedTo L start inside left0 told0 reader turns left told (results.Goes at) = (t : Turn) × Between L.tells start (IsAt L inside at) left0 told0 reader (turns ++ t ∷ []) left told
-TurnedTo L start inside left0 told0 reader turns left told (results.Ends status disk) = Headline L start disk left0 reader.pending left told0 told status
+abbrev pub TurnedTo : {D E F : Type 0} → Type 0 → Ghosts D → vaults.Ghosts E → Start → (F → Stage → Type 0) → E → E → Option (List ℕ) → Option (List ℕ) → Reader → List Turn → Option (List ℕ) → Option (List ℕ) → Turned D F → Type 0
+TurnedTo tells L V start inside first vault left0 told0 reader turns left told (results.Goes at) = (t : Turn) × Between L.tells start (Beside V first vault (IsAt tells L inside at)) left0 told0 reader (turns ++ t ∷ []) left told
+TurnedTo tells L V start inside first vault left0 told0 reader turns left told (results.Ends status disk) = Headline tells L V start disk first vault left0 reader.pending left told0 told status
 
 -- a life, which a stop has ended, or the run has ended in it
-abbrev pub LivedTo : {D : Type 0} → Ghosts D → Last → Option (List ℕ) → Option (List ℕ) → Reader → Option (List ℕ) → Option (List ℕ) → Lived D → Type 0
-LivedTo L start left0 told0 reader left told (ways.Stopped disk) = (turns : List Turn) × Between L.tells start (Out L disk) left0 told0 reader turns left told
-LivedTo L start left0 told0 reader left told (ways.Ends status disk) = Headline L start disk left0 reader.pending left told0 told status
+abbrev pub LivedTo : {D E : Type 0} → Type 0 → Ghosts D → vaults.Ghosts E → Start → E → E → Option (List ℕ) → Option (List ℕ) → Reader → Option (List ℕ) → Option (List ℕ) → Lived D → Type 0
+LivedTo tells L V start first vault left0 told0 reader left told (ways.Stopped disk) = (turns : List Turn) × Between L.tells start (Beside V first vault (Out tells L disk)) left0 told0 reader turns left told
+LivedTo tells L V start first vault left0 told0 reader left told (ways.Ends status disk) = Headline tells L V start disk first vault left0 reader.pending left told0 told status

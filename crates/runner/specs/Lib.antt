@@ -1,12 +1,13 @@
 pub mod Active
+pub mod Bytes
 pub mod Causes
 pub mod Clause
-pub mod Damaged
 pub mod Leaf
 pub mod LogDisk
 pub mod Machine
 pub mod NextCall
 pub mod Openings
+pub mod Promises
 pub mod Refusals
 pub mod Session
 pub mod Standing
@@ -14,3 +15,4 @@ pub mod Status
 pub mod Text
 pub mod Turns
 pub mod Usage
+pub mod Vault

@@ -1,9 +1,9 @@
 -- What the log disk keeps, by the logs that it may hold.
-use Rattle.std.specs.Prelude.{◌≡◌, ◌<◌, ℕ, List, [], ◌∷◌, length, ◌⊎◌}
+use Rattle.std.specs.Prelude.{◌≡◌, ℕ, List, [], ◌∷◌, ◌⊎◌}
 use Rattle.media.specs.Kept.{Kept}
 use Rattle.media.specs.declared.disk.Disk.{Ghosts}
 use Rattle.log_blocks.specs.declared.header.Place.{Place}
-use Rattle.log_blocks.specs.Log.{Block, StandsFor, open_gate}
+use Rattle.log_blocks.specs.Log.{Block, StandsFor}
 use Rattle.log_blocks.specs.Opening.{IsBadAt}
 use Rattle.log_manager.specs.Devices.{HoldEnd}
 use Rattle.log_replay.specs.Answers.{IsBadBlock}
@@ -46,12 +46,6 @@ Keeps L last disk = KeepsLast L.told L.may_leave last disk
 -- behind these turns the disk keeps a log that may be found: of an open life a member of what a stop may leave
 abbrev pub Leaves : {D : Type 0} → Ghosts D → D → Stage → Type 0
 Leaves L disk s = L.tells → Keeps L (last_after s.life s.last) disk
-
--- an open gate, and something behind it
-pub record IsFormatted (k : Kept) : Type 0 where
-  pub long : 1 < length k.bytes
-  pub rest : List ℕ
-  pub gate : k.bytes ≡ open_gate ∷ rest
 
 -- At this block and byte the kept bytes are bad: an open gate stands before bytes that are no block, or, where they stand
 -- for blocks, the records of one are at fault there.

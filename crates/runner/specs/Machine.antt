@@ -22,11 +22,12 @@ use Rattle.runner.specs.declared.transactions.Transactions.{Transactions}
 use Rattle.runner.specs.declared.status.Status.{Status}
 use Rattle.runner.specs.declared.status.Status.TheVariants as statuses
 use Rattle.runner.specs.Active.{opened_by}
+use Rattle.runner.specs.Bytes.{Known}
 use Rattle.runner.specs.Leaf.{rows_of}
 use Rattle.runner.specs.LogDisk.{Keeps, HoldsOne, Leaves, lsn_from}
 use Rattle.runner.specs.Refusals.{RefusesAt}
 use Rattle.runner.specs.Text.{lines}
-use Rattle.runner.specs.Turns.{Turn, Life, Active, Stage, LeftBy, stage_step, FitsAt, IsRightLife, lives}
+use Rattle.runner.specs.Turns.{Turn, Life, Active, Stage, LeftBy, bytes_after, stage_step, FitsAt, IsRightLife, lives}
 
 abbrev pub actives : Option Session → List Active
 actives None = []
@@ -37,8 +38,8 @@ pub record IsFused {D : Type 0} (L : Ghosts D) (disk : D) (armed : Bool) : Type 
   pub fuse : L.fuses
   pub renewed : armed ≡ false → L.passes disk ≡ None
 
--- where no life is open
-pub record Out {D : Type 0} (L : Ghosts D) (disk : D) (s : Stage) : Type 0 where
+-- where no life is open, with a disk of a type that tells so
+pub record Out {D : Type 0} (tells : Type 0) (L : Ghosts D) (disk : D) (s : Stage) : Type 0 where
   pub past : L.tells → All IsRightLife s.past
   pub life : ◌≡◌ {A = Option Life} s.life None
   pub active : ◌≡◌ {A = List Active} s.active []
@@ -46,6 +47,7 @@ pub record Out {D : Type 0} (L : Ghosts D) (disk : D) (s : Stage) : Type 0 where
   pub goes : s.cut ≡ false
   pub fused : IsFused L disk s.armed
   pub keeps : L.tells → Keeps L s.last disk
+  pub bytes : Known tells L s.bytes disk
 
 -- A life that goes on, where the disk tells: it is calm, the page's pass has seen its whole history, the first of its
 -- records are on the disk and the others wait, and a commit doesn't wait.
@@ -97,10 +99,11 @@ pub record In {D : Type 0} (L : Ghosts D) (log : LogState D) (standing : Standin
 abbrev pub Within : {D : Type 0} → Ghosts D → Managed D → Leaf → Transactions → Stage → Type 0
 Within L log leaf t s = In L log.log (standing_with leaf t) s
 
--- what holds at any place: each life is right, and the disk keeps a log that may be found
-pub record Safe {D : Type 0} (L : Ghosts D) (disk : D) (s : Stage) : Type 0 where
+-- what holds at any place: each life is right, the disk keeps a log that may be found, and what is known of it is so
+pub record Safe {D : Type 0} (tells : Type 0) (L : Ghosts D) (disk : D) (s : Stage) : Type 0 where
   pub right : L.tells → All IsRightLife (lives s)
   pub leaves : Leaves L disk s
+  pub bytes : Known tells L (bytes_after s.life s.bytes) disk
   pub goes : s.cut ≡ false
   pub fuse : L.fuses
 
@@ -113,13 +116,13 @@ pub record Adds (tells : Type 0) (H : Stage → Type 0) (s : Stage) (c : Command
   pub lines : out ≡ lines s turn
 
 -- what the place of a run says; of a life by this word
-abbrev pub IsAt : {D F : Type 0} → Ghosts D → (F → Stage → Type 0) → At D F → Stage → Type 0
-IsAt L inside (Outside disk) s = Out L disk s
-IsAt L inside (Inside life) s = inside life s
+abbrev pub IsAt : {D F : Type 0} → Type 0 → Ghosts D → (F → Stage → Type 0) → At D F → Stage → Type 0
+IsAt tells L inside (Outside disk) s = Out tells L disk s
+IsAt tells L inside (Inside life) s = inside life s
 
-abbrev pub Steps : {D F : Type 0} → Ghosts D → (F → Stage → Type 0) → Stage → Command → ℕ → Stepped D F → Type 0
-Steps L inside s c line (steps.Goes out at) = Adds L.tells (IsAt L inside at) s c out.items
-Steps L inside s c line (steps.Ends status disk) = RefusesAt L disk s c line status
+abbrev pub Steps : {D F : Type 0} → Type 0 → Ghosts D → (F → Stage → Type 0) → Stage → Command → ℕ → Stepped D F → Type 0
+Steps tells L inside s c line (steps.Goes out at) = Adds L.tells (IsAt tells L inside at) s c out.items
+Steps tells L inside s c line (steps.Ends status disk) = RefusesAt L disk s c line status × Known tells L (bytes_after s.life s.bytes) disk
 
 -- A log isn't made or opened, for this status: where it is a fault, a line says so if the disk's fuse refused a call, of
 -- which there had been so many before.

@@ -16,7 +16,7 @@ use Rattle.wal_record.specs.declared.entry.Entry.TheVariants.{Said, Declined}
 use Rattle.script.specs.declared.command.Command.{Command}
 use Rattle.script.specs.declared.command.Command.TheVariants as commands
 use Rattle.transcript.specs.Printing.{escaped, shown}
-use Rattle.runner.specs.Turns.{Turn, End, Done, LogFault, Ended, Cut, Last, Stage, stage, longer, log_of_life}
+use Rattle.runner.specs.Turns.{Turn, End, Done, LogFault, Ended, Cut, Start, Stage, stage, longer, log_of_life}
 
 abbrev pub reply_text : Reply → List ℕ
 reply_text (replies.Found v) = shown v
@@ -66,5 +66,5 @@ lines_at s c es found Cut = []
 abbrev pub lines : Stage → Turn → List ℕ
 lines s t = lines_at s t.command t.entries t.found t.end
 
-unfoldable pub text : Last → List Turn → List ℕ
+unfoldable pub text : Start → List Turn → List ℕ
 text start turns = along (λ before out t. out ++ lines (stage start before) t) [] turns

@@ -19,6 +19,7 @@ use Rattle.wal_record.specs.declared.entry.Entry.{Entry}
 use Rattle.wal_record.specs.declared.entry.Entry.TheVariants.{Rec, Lock, Said, Declined, Acked, Began}
 use Rattle.log_laws.specs.Right.{IsRight, first_log}
 use Rattle.script.specs.Word.{same_text}
+use Rattle.runner.specs.Bytes.{Bytes, Unknown, MayMake, MayOpen}
 use Rattle.script.specs.declared.command.Device.{Device}
 use Rattle.script.specs.declared.command.Device.TheVariants.{Log}
 use Rattle.script.specs.declared.command.Command.{Command}
@@ -89,15 +90,29 @@ abbrev pub last_after : Option Life → Last → Last
 last_after None last = last
 last_after (Some l) last = LeftBy l
 
+-- how the log disk was handed in: what it was used for, and what is known of its bytes
+pub record Start : Type 0 where
+  pub last : Last
+  pub bytes : Bytes
+
+-- a life that was opened may have changed the bytes
+abbrev pub bytes_after : Option Life → Bytes → Bytes
+bytes_after None bytes = bytes
+bytes_after (Some l) bytes = Unknown
+
 -- ---- what the turns so far leave
 
 pub record Stage : Type 0 where
   -- which log the disk may hold where no life is open
   pub last : Last
+  -- what is known of its bytes then
+  pub bytes : Bytes
   -- the lives that are over, and the one that is open
   pub past : List Life
   pub life : Option Life
   pub active : List Active
+  -- whether the machine has stopped
+  pub cycled : Bool
   -- whether the log disk's fuse is armed
   pub armed : Bool
   -- up to which LSN the log was durable when the life ended, if it has
@@ -105,9 +120,9 @@ pub record Stage : Type 0 where
   -- whether a status has cut a command off
   pub cut : Bool
 
--- the log disk was handed in as this use left it
-abbrev pub begin_stage : Last → Stage
-begin_stage start = record { last = start; past = []; life = None; active = []; armed = false; ended = None; cut = false }
+-- the log disk was handed in so
+abbrev pub begin_stage : Start → Stage
+begin_stage start = record { last = start.last; bytes = start.bytes; past = []; life = None; active = []; cycled = false; armed = false; ended = None; cut = false }
 
 -- pages and writes that may be undone, together, of a format
 abbrev pub room_of : Option ℕ → ℕ
@@ -141,7 +156,17 @@ lives_of (Some l) past = past ++ l ∷ []
 
 -- a stop ends the life, and renews the fuse
 abbrev pub stopped : Stage → Stage
-stopped s = record { last = Stopped (last_after s.life s.last); past = lives_of s.life s.past; life = None; active = []; armed = false; ended = None; cut = s.cut }
+stopped s = record {
+  last = Stopped (last_after s.life s.last);
+  bytes = bytes_after s.life s.bytes;
+  past = lives_of s.life s.past;
+  life = None;
+  active = [];
+  cycled = true;
+  armed = false;
+  ended = None;
+  cut = s.cut;
+}
 
 abbrev pub done_stage : Stage → Command → List Entry → List Record → Stage
 done_stage s commands.Nothing es found = s
@@ -178,7 +203,7 @@ turn c es end = record { command = c; entries = es; found = []; end = end }
 abbrev pub stage_step : Stage → Turn → Stage
 stage_step s t = stage_after s t.command t.entries t.found t.end
 
-unfoldable pub stage : Last → List Turn → Stage
+unfoldable pub stage : Start → List Turn → Stage
 stage start turns = fold stage_step (begin_stage start) turns
 
 -- the log of a life so far
@@ -268,11 +293,12 @@ pub record IsOpenable (log : List Record) : Type 0 where
   pub one_page : pages log ≡ 1
 
 -- Where a command may be done, and which log an `open` finds: one that may be found, and is built; a `format` finds the
--- empty one. Commands of a life are done in one that goes on. A disk that tells nothing gives the form alone.
+-- empty one. What is known of the disk's bytes allows it. Commands of a life are done in one that goes on. A disk that tells
+-- nothing gives the form alone.
 abbrev pub MayBeDone : Type 0 → Stage → Command → List Record → Type 0
 MayBeDone tells s commands.Nothing found = Unit {0}
-MayBeDone tells s (commands.Format limit) found = tells → MayFind s.last []
-MayBeDone tells s commands.Open found = tells → MayFind s.last found × IsOpenable found
+MayBeDone tells s (commands.Format limit) found = MayMake s.bytes × (tells → MayFind s.last [])
+MayBeDone tells s commands.Open found = MayOpen s.bytes × (tells → MayFind s.last found × IsOpenable found)
 MayBeDone tells s (commands.Begin name) found = (s.ended ≡ None) × (s.active ≡ [])
 MayBeDone tells s (commands.Ask name request) found = (s.ended ≡ None) × IsRequestBuilt request
 MayBeDone tells s (commands.Commit name) found = s.ended ≡ None
@@ -330,10 +356,10 @@ pub record FitsAt (tells : Type 0) (s : Stage) (t : Turn) : Type 0 where
   pub lawful : IsTrue (is_lawful s t.command)
   pub row : Row tells s t.command t.entries t.found t.end
 
-abbrev pub fits_after : Type 0 → Last → List Turn → Turn → Type 0
+abbrev pub fits_after : Type 0 → Start → List Turn → Turn → Type 0
 fits_after tells start before t = FitsAt tells (stage start before) t
 
-unfoldable pub Fits : Type 0 → Last → List Turn → Type 0
+unfoldable pub Fits : Type 0 → Start → List Turn → Type 0
 Fits tells start turns = AllAlong (fits_after tells start) turns
 
 -- ---- lives

@@ -37,7 +37,7 @@ pub fn step_inside<'a, N: Life, L: Disk>(
     command: &Command,
     line: u64,
 ) -> Stepped<L, OpenLife<'a, N, L>>
-    ensures turns { (v : View L.tells) (s : Stage) → Within (seen L.Disk v) life.entry.log life.entry.leaf life.entry.transactions s → Steps (seen L.Disk v) (λ life. Within (seen L.Disk v) life.log life.leaf life.transactions) s command.now line result }
+    ensures turns { (v : View L.tells) (s : Stage) → Within (seen L.Disk v) life.entry.log life.entry.leaf life.entry.transactions s → Steps L.tells (seen L.Disk v) (λ life. Within (seen L.Disk v) life.log life.leaf life.transactions) s command.now line result }
     ensures cause { SteppedCause L.Disk (λ life. life.log.log.device) life.entry.log.log.device result }
 {
     let mut life = life;

@@ -5,10 +5,9 @@ ghost use Rattle.runner.specs.Causes.{LifeCause};
 ghost use Rattle.wal_record.specs.declared.record.Record.{Record};
 ghost use Rattle.runner.specs.Active.{is_active, puts_of, HasCommitRoom};
 ghost use Rattle.runner.specs.Standing.{standing_with, HasNumbers};
-ghost use Rattle.runner.specs.Turns.{Stage, IsNoStop};
-ghost use Rattle.runner.specs.Refusals.{RefusesAt};
-ghost use Rattle.runner.specs.LogDisk.{View, IsWhole, seen};
-ghost use Rattle.runner.specs.Machine.{Within, BeginsOn, Adds};
+ghost use Rattle.runner.specs.Turns.{IsNoStop};
+ghost use Rattle.runner.specs.Machine.{BeginsOn};
+ghost use Rattle.runner.specs.Promises.{parts, Did, Refused};
 ghost use Rattle.script.specs.declared.command.Command.TheVariants as commands;
 ghost use Rattle.store_model.specs.declared.request.Request.TheVariants as requests;
 ghost use Rattle.runner.specs.declared.status.Status.{Status};
@@ -107,8 +106,8 @@ impl<'a, N: Life, L: Disk> OpenLife<'a, N, L> {
         line: u64,
     ) -> Result<Vec<u8>, Status>
         requires { IsNoStop command.now }
-        ensures ok { IfOk result (λ lines. (v : View L.tells) (s : Stage) → Within (seen L.Disk v) self.old.log self.old.leaf self.old.transactions s → Adds (IsWhole v) (Within (seen L.Disk v) self.new.log self.new.leaf self.new.transactions) s command.now lines.items) }
-        ensures err { IfErr result (λ status. (v : View L.tells) (s : Stage) → Within (seen L.Disk v) self.old.log self.old.leaf self.old.transactions s → RefusesAt (seen L.Disk v) self.new.log.log.device s command.now line status) }
+        ensures ok { IfOk result (λ lines. Did L.Disk (parts self.old.log self.old.leaf self.old.transactions) (parts self.new.log self.new.leaf self.new.transactions) command.now lines.items) }
+        ensures err { IfErr result (Refused L.Disk (parts self.old.log self.old.leaf self.old.transactions) self.new.log.log.device command.now line) }
         ensures cause { IfErr result (LifeCause (L.own self.old.log.log.device) (L.own self.new.log.log.device)) }
         ensures later { L.own self.old.log.log.device ≤ L.own self.new.log.log.device }
     {
@@ -124,8 +123,8 @@ impl<'a, N: Life, L: Disk> OpenLife<'a, N, L> {
     }
 
     fn begin(&mut self, alloc: Global, name: &Name, line: u64) -> Result<Vec<u8>, Status>
-        ensures ok { IfOk result (λ lines. (v : View L.tells) (s : Stage) → Within (seen L.Disk v) self.old.log self.old.leaf self.old.transactions s → Adds (IsWhole v) (Within (seen L.Disk v) self.new.log self.new.leaf self.new.transactions) s (commands.Begin name.now) lines.items) }
-        ensures err { IfErr result (λ status. (v : View L.tells) (s : Stage) → Within (seen L.Disk v) self.old.log self.old.leaf self.old.transactions s → RefusesAt (seen L.Disk v) self.new.log.log.device s (commands.Begin name.now) line status) }
+        ensures ok { IfOk result (λ lines. Did L.Disk (parts self.old.log self.old.leaf self.old.transactions) (parts self.new.log self.new.leaf self.new.transactions) (commands.Begin name.now) lines.items) }
+        ensures err { IfErr result (Refused L.Disk (parts self.old.log self.old.leaf self.old.transactions) self.new.log.log.device (commands.Begin name.now) line) }
         ensures cause { IfErr result (LifeCause (L.own self.old.log.log.device) (L.own self.new.log.log.device)) }
         ensures later { L.own self.old.log.log.device ≤ L.own self.new.log.log.device }
     {
@@ -166,8 +165,8 @@ impl<'a, N: Life, L: Disk> OpenLife<'a, N, L> {
         request: &Request,
         line: u64,
     ) -> Result<Vec<u8>, Status>
-        ensures ok { IfOk result (λ lines. (v : View L.tells) (s : Stage) → Within (seen L.Disk v) self.old.log self.old.leaf self.old.transactions s → Adds (IsWhole v) (Within (seen L.Disk v) self.new.log self.new.leaf self.new.transactions) s (commands.Ask name.now request.now) lines.items) }
-        ensures err { IfErr result (λ status. (v : View L.tells) (s : Stage) → Within (seen L.Disk v) self.old.log self.old.leaf self.old.transactions s → RefusesAt (seen L.Disk v) self.new.log.log.device s (commands.Ask name.now request.now) line status) }
+        ensures ok { IfOk result (λ lines. Did L.Disk (parts self.old.log self.old.leaf self.old.transactions) (parts self.new.log self.new.leaf self.new.transactions) (commands.Ask name.now request.now) lines.items) }
+        ensures err { IfErr result (Refused L.Disk (parts self.old.log self.old.leaf self.old.transactions) self.new.log.log.device (commands.Ask name.now request.now) line) }
         ensures cause { IfErr result (LifeCause (L.own self.old.log.log.device) (L.own self.new.log.log.device)) }
         ensures later { L.own self.old.log.log.device ≤ L.own self.new.log.log.device }
     {
@@ -183,7 +182,7 @@ impl<'a, N: Life, L: Disk> OpenLife<'a, N, L> {
 
     fn get(&mut self, alloc: Global, name: &Name, key: &Key) -> Result<Vec<u8>, Status>
         requires { is_active self.old.transactions.session name.now ≡ true }
-        ensures ok { IfOk result (λ lines. (v : View L.tells) (s : Stage) → Within (seen L.Disk v) self.old.log self.old.leaf self.old.transactions s → Adds (IsWhole v) (Within (seen L.Disk v) self.new.log self.new.leaf self.new.transactions) s (commands.Ask name.now (requests.Get key.now)) lines.items) }
+        ensures ok { IfOk result (λ lines. Did L.Disk (parts self.old.log self.old.leaf self.old.transactions) (parts self.new.log self.new.leaf self.new.transactions) (commands.Ask name.now (requests.Get key.now)) lines.items) }
         ensures memory { IfErr result (λ status. status ≡ Status.Memory) }
         ensures same { self.new.log ≡ self.old.log }
     {
@@ -217,8 +216,8 @@ impl<'a, N: Life, L: Disk> OpenLife<'a, N, L> {
         line: u64,
     ) -> Result<Vec<u8>, Status>
         requires { is_active self.old.transactions.session name.now ≡ true }
-        ensures ok { IfOk result (λ lines. (v : View L.tells) (s : Stage) → Within (seen L.Disk v) self.old.log self.old.leaf self.old.transactions s → Adds (IsWhole v) (Within (seen L.Disk v) self.new.log self.new.leaf self.new.transactions) s (commands.Ask name.now (requests.Put key.now value.now)) lines.items) }
-        ensures err { IfErr result (λ status. (v : View L.tells) (s : Stage) → Within (seen L.Disk v) self.old.log self.old.leaf self.old.transactions s → RefusesAt (seen L.Disk v) self.new.log.log.device s (commands.Ask name.now (requests.Put key.now value.now)) line status) }
+        ensures ok { IfOk result (λ lines. Did L.Disk (parts self.old.log self.old.leaf self.old.transactions) (parts self.new.log self.new.leaf self.new.transactions) (commands.Ask name.now (requests.Put key.now value.now)) lines.items) }
+        ensures err { IfErr result (Refused L.Disk (parts self.old.log self.old.leaf self.old.transactions) self.new.log.log.device (commands.Ask name.now (requests.Put key.now value.now)) line) }
         ensures cause { IfErr result (LifeCause (L.own self.old.log.log.device) (L.own self.new.log.log.device)) }
         ensures later { L.own self.old.log.log.device ≤ L.own self.new.log.log.device }
     {
@@ -250,7 +249,7 @@ impl<'a, N: Life, L: Disk> OpenLife<'a, N, L> {
         requires goes { self.old.log.log.ended ≡ None }
         requires numbers { HasNumbers self.old.leaf self.old.log.log.next }
         requires full { self.old.transactions.limit < puts_of self.old.transactions.session + 3 }
-        ensures ok { IfOk result (λ lines. (v : View L.tells) (s : Stage) → Within (seen L.Disk v) self.old.log self.old.leaf self.old.transactions s → Adds (IsWhole v) (Within (seen L.Disk v) self.new.log self.new.leaf self.new.transactions) s (commands.Ask name.now (requests.Put key.now value.now)) lines.items) }
+        ensures ok { IfOk result (λ lines. Did L.Disk (parts self.old.log self.old.leaf self.old.transactions) (parts self.new.log self.new.leaf self.new.transactions) (commands.Ask name.now (requests.Put key.now value.now)) lines.items) }
         ensures memory { IfErr result (λ status. status ≡ Status.Memory) }
         ensures same { self.new.log ≡ self.old.log }
     {
@@ -278,8 +277,8 @@ impl<'a, N: Life, L: Disk> OpenLife<'a, N, L> {
         requires goes { self.old.log.log.ended ≡ None }
         requires numbers { HasNumbers self.old.leaf self.old.log.log.next }
         requires room { puts_of self.old.transactions.session + 3 ≤ self.old.transactions.limit }
-        ensures ok { IfOk result (λ lines. (v : View L.tells) (s : Stage) → Within (seen L.Disk v) self.old.log self.old.leaf self.old.transactions s → Adds (IsWhole v) (Within (seen L.Disk v) self.new.log self.new.leaf self.new.transactions) s (commands.Ask name.now (requests.Put key.now value.now)) lines.items) }
-        ensures err { IfErr result (λ status. (v : View L.tells) (s : Stage) → Within (seen L.Disk v) self.old.log self.old.leaf self.old.transactions s → RefusesAt (seen L.Disk v) self.new.log.log.device s (commands.Ask name.now (requests.Put key.now value.now)) line status) }
+        ensures ok { IfOk result (λ lines. Did L.Disk (parts self.old.log self.old.leaf self.old.transactions) (parts self.new.log self.new.leaf self.new.transactions) (commands.Ask name.now (requests.Put key.now value.now)) lines.items) }
+        ensures err { IfErr result (Refused L.Disk (parts self.old.log self.old.leaf self.old.transactions) self.new.log.log.device (commands.Ask name.now (requests.Put key.now value.now)) line) }
         ensures cause { IfErr result (LifeCause (L.own self.old.log.log.device) (L.own self.new.log.log.device)) }
         ensures later { L.own self.old.log.log.device ≤ L.own self.new.log.log.device }
     {
@@ -306,8 +305,8 @@ impl<'a, N: Life, L: Disk> OpenLife<'a, N, L> {
     }
 
     fn commit(&mut self, alloc: Global, name: &Name, line: u64) -> Result<Vec<u8>, Status>
-        ensures ok { IfOk result (λ lines. (v : View L.tells) (s : Stage) → Within (seen L.Disk v) self.old.log self.old.leaf self.old.transactions s → Adds (IsWhole v) (Within (seen L.Disk v) self.new.log self.new.leaf self.new.transactions) s (commands.Commit name.now) lines.items) }
-        ensures err { IfErr result (λ status. (v : View L.tells) (s : Stage) → Within (seen L.Disk v) self.old.log self.old.leaf self.old.transactions s → RefusesAt (seen L.Disk v) self.new.log.log.device s (commands.Commit name.now) line status) }
+        ensures ok { IfOk result (λ lines. Did L.Disk (parts self.old.log self.old.leaf self.old.transactions) (parts self.new.log self.new.leaf self.new.transactions) (commands.Commit name.now) lines.items) }
+        ensures err { IfErr result (Refused L.Disk (parts self.old.log self.old.leaf self.old.transactions) self.new.log.log.device (commands.Commit name.now) line) }
         ensures cause { IfErr result (LifeCause (L.own self.old.log.log.device) (L.own self.new.log.log.device)) }
         ensures later { L.own self.old.log.log.device ≤ L.own self.new.log.log.device }
     {
@@ -352,8 +351,8 @@ impl<'a, N: Life, L: Disk> OpenLife<'a, N, L> {
         requires before { (L.refused self.old.log.log.device ≡ refused) × (refused < 2 ^ 62) }
         requires done { done.items ≡ name.now ++ codes " commit " ++ decimal (self.old.transactions.commits + 1) ++ codes "\n" }
         requires failed { failed.items ≡ name.now ++ codes " commit" ++ codes " log failed\n" }
-        ensures ok { IfOk result (λ lines. (v : View L.tells) (s : Stage) → Within (seen L.Disk v) self.old.log self.old.leaf self.old.transactions s → Adds (IsWhole v) (Within (seen L.Disk v) self.new.log self.new.leaf self.new.transactions) s (commands.Commit name.now) lines.items) }
-        ensures err { IfErr result (λ status. (v : View L.tells) (line : ℕ) (s : Stage) → Within (seen L.Disk v) self.old.log self.old.leaf self.old.transactions s → RefusesAt (seen L.Disk v) self.new.log.log.device s (commands.Commit name.now) line status) }
+        ensures ok { IfOk result (λ lines. Did L.Disk (parts self.old.log self.old.leaf self.old.transactions) (parts self.new.log self.new.leaf self.new.transactions) (commands.Commit name.now) lines.items) }
+        ensures err { IfErr result (λ status. (line : ℕ) → Refused L.Disk (parts self.old.log self.old.leaf self.old.transactions) self.new.log.log.device (commands.Commit name.now) line status) }
         ensures kind { IfErr result (λ status. status ≡ Status.LogFault) }
         ensures cause { IfErr result (LifeCause (L.own self.old.log.log.device) (L.own self.new.log.log.device)) }
         ensures later { L.own self.old.log.log.device ≤ L.own self.new.log.log.device }
@@ -385,8 +384,8 @@ impl<'a, N: Life, L: Disk> OpenLife<'a, N, L> {
         calls: u64,
         line: u64,
     ) -> Result<Vec<u8>, Status>
-        ensures ok { IfOk result (λ lines. (v : View L.tells) (s : Stage) → Within (seen L.Disk v) self.old.log self.old.leaf self.old.transactions s → Adds (IsWhole v) (Within (seen L.Disk v) self.new.log self.new.leaf self.new.transactions) s (commands.Fuse device calls) lines.items) }
-        ensures err { IfErr result (λ status. (v : View L.tells) (s : Stage) → Within (seen L.Disk v) self.old.log self.old.leaf self.old.transactions s → RefusesAt (seen L.Disk v) self.new.log.log.device s (commands.Fuse device calls) line status) }
+        ensures ok { IfOk result (λ lines. Did L.Disk (parts self.old.log self.old.leaf self.old.transactions) (parts self.new.log self.new.leaf self.new.transactions) (commands.Fuse device calls) lines.items) }
+        ensures err { IfErr result (Refused L.Disk (parts self.old.log self.old.leaf self.old.transactions) self.new.log.log.device (commands.Fuse device calls) line) }
         ensures cause { IfErr result (LifeCause (L.own self.old.log.log.device) (L.own self.new.log.log.device)) }
         ensures later { L.own self.old.log.log.device ≤ L.own self.new.log.log.device }
     {
@@ -402,8 +401,8 @@ impl<'a, N: Life, L: Disk> OpenLife<'a, N, L> {
     }
 
     fn renew(&mut self, alloc: Global, device: Device, line: u64) -> Result<Vec<u8>, Status>
-        ensures ok { IfOk result (λ lines. (v : View L.tells) (s : Stage) → Within (seen L.Disk v) self.old.log self.old.leaf self.old.transactions s → Adds (IsWhole v) (Within (seen L.Disk v) self.new.log self.new.leaf self.new.transactions) s (commands.Renew device) lines.items) }
-        ensures err { IfErr result (λ status. (v : View L.tells) (s : Stage) → Within (seen L.Disk v) self.old.log self.old.leaf self.old.transactions s → RefusesAt (seen L.Disk v) self.new.log.log.device s (commands.Renew device) line status) }
+        ensures ok { IfOk result (λ lines. Did L.Disk (parts self.old.log self.old.leaf self.old.transactions) (parts self.new.log self.new.leaf self.new.transactions) (commands.Renew device) lines.items) }
+        ensures err { IfErr result (Refused L.Disk (parts self.old.log self.old.leaf self.old.transactions) self.new.log.log.device (commands.Renew device) line) }
         ensures cause { IfErr result (LifeCause (L.own self.old.log.log.device) (L.own self.new.log.log.device)) }
         ensures later { L.own self.old.log.log.device ≤ L.own self.new.log.log.device }
     {

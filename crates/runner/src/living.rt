@@ -1,13 +1,13 @@
 //! A life, line after line.
-ghost use Rattle.runner.specs.Damaged.{LivedFrom};
 ghost use Rattle.std.specs.Prelude.{◌≡◌, ◌≤◌, ◌↔◌, ℕ, List, [], Option};
 ghost use Rattle.page_ops.specs.Names.{life_names};
 ghost use Rattle.wal_record.specs.declared.record.Record.{Record};
 ghost use Rattle.runner.specs.LogDisk.{View, IsWhole, seen};
-ghost use Rattle.runner.specs.Turns.{Last, Turn};
+ghost use Rattle.runner.specs.Turns.{Start, Turn};
 ghost use Rattle.runner.specs.Machine.{In, IsAt, Within, BeginsOn};
 ghost use Rattle.runner.specs.Clause.{Between, LivedTo};
-ghost use Rattle.runner.specs.Causes.{LivedCause, IsCycled, disk_at};
+ghost use Rattle.runner.specs.Vault.{Beside};
+ghost use Rattle.runner.specs.Causes.{LivedCause, disk_at};
 
 use crate::at::At;
 use crate::life::OpenLife;
@@ -38,12 +38,11 @@ pub fn run_from<S: Source, K: Sink, V: Vault, L: Disk>(
     vault: &mut V,
     at: At<L, Opened<L>>,
 ) -> Lived<L>
-    ensures turns { (v : View L.tells) (start : Last) (left told : Option (List ℕ)) (turns : List Turn) → Between (IsWhole v) start (IsAt (seen L.Disk v) (λ life. In (seen L.Disk v) life.log.log life.standing) at) left told input.old turns (S.left source.old) (K.told sink.old)
-        → LivedTo (seen L.Disk v) start left told input.new (S.left source.new) (K.told sink.new) result }
+    ensures turns { (v : View L.tells) (start : Start) (first : V) (left told : Option (List ℕ)) (turns : List Turn)
+        → Between (IsWhole v) start (Beside V.Vault first vault.old (IsAt L.tells (seen L.Disk v) (λ life. In (seen L.Disk v) life.log.log life.standing) at)) left told input.old turns (S.left source.old) (K.told sink.old)
+        → LivedTo L.tells (seen L.Disk v) V.Vault start first vault.new left told input.new (S.left source.new) (K.told sink.new) result }
     ensures later { (S.faults source.old ≤ S.faults source.new) × (K.faults sink.old ≤ K.faults sink.new) }
     ensures cause { LivedCause L.Disk (disk_at (λ life. life.log.log.device) at) (S.faults source.old) (S.faults source.new) (K.faults sink.old) (K.faults sink.new) result }
-    ensures from { LivedFrom at result }
-    ensures vault { IsCycled V.tells V.told V.faults vault.old vault.new }
 {
     let opened = match at {
         At::Outside { disk } => return Lived::Stopped { disk },
@@ -73,11 +72,11 @@ fn run_named<N: Life, S: Source, K: Sink, V: Vault, L: Disk>(
 ) -> Lived<L>
     requires named { unnamed ≡ life_names N.count N.pages N.sessions N.maint N.entries N.session_entries N.log_faults N.vault_faults N.data_faults N.made }
     requires opens { (opening : List Record) → (N.opens opening ↔ BeginsOn L.Disk opened opening) }
-    ensures turns { (v : View L.tells) (start : Last) (left told : Option (List ℕ)) (turns : List Turn) → Between (IsWhole v) start (In (seen L.Disk v) opened.log.log opened.standing) left told input.old turns (S.left source.old) (K.told sink.old)
-        → LivedTo (seen L.Disk v) start left told input.new (S.left source.new) (K.told sink.new) result }
+    ensures turns { (v : View L.tells) (start : Start) (first : V) (left told : Option (List ℕ)) (turns : List Turn)
+        → Between (IsWhole v) start (Beside V.Vault first vault.old (In (seen L.Disk v) opened.log.log opened.standing)) left told input.old turns (S.left source.old) (K.told sink.old)
+        → LivedTo L.tells (seen L.Disk v) V.Vault start first vault.new left told input.new (S.left source.new) (K.told sink.new) result }
     ensures later { (S.faults source.old ≤ S.faults source.new) × (K.faults sink.old ≤ K.faults sink.new) }
     ensures cause { LivedCause L.Disk opened.log.log.device (S.faults source.old) (S.faults source.new) (K.faults sink.old) (K.faults sink.new) result }
-    ensures vault { IsCycled V.tells V.told V.faults vault.old vault.new }
 {
     let (ground, tokens) = unnamed.split::<N>();
     run_on(
@@ -99,11 +98,11 @@ fn run_on<'a, N: Life, S: Source, K: Sink, V: Vault, L: Disk>(
 ) -> Lived<L>
     requires history { (tokens.front ≡ []) × (tokens.pass.log ≡ []) × (tokens.books.pages ≡ []) }
     requires opens { (opening : List Record) → N.opens opening → BeginsOn L.Disk opened opening }
-    ensures turns { (v : View L.tells) (start : Last) (left told : Option (List ℕ)) (turns : List Turn) → Between (IsWhole v) start (In (seen L.Disk v) opened.log.log opened.standing) left told input.old turns (S.left source.old) (K.told sink.old)
-        → LivedTo (seen L.Disk v) start left told input.new (S.left source.new) (K.told sink.new) result }
+    ensures turns { (v : View L.tells) (start : Start) (first : V) (left told : Option (List ℕ)) (turns : List Turn)
+        → Between (IsWhole v) start (Beside V.Vault first vault.old (In (seen L.Disk v) opened.log.log opened.standing)) left told input.old turns (S.left source.old) (K.told sink.old)
+        → LivedTo L.tells (seen L.Disk v) V.Vault start first vault.new left told input.new (S.left source.new) (K.told sink.new) result }
     ensures later { (S.faults source.old ≤ S.faults source.new) × (K.faults sink.old ≤ K.faults sink.new) }
     ensures cause { LivedCause L.Disk opened.log.log.device (S.faults source.old) (S.faults source.new) (K.faults sink.old) (K.faults sink.new) result }
-    ensures vault { IsCycled V.tells V.told V.faults vault.old vault.new }
 {
     let life = OpenLife::new(ground, tokens, opened);
     run_life(alloc, operators, input, source, sink, vault, life)
@@ -119,11 +118,11 @@ fn run_life<'a, N: Life, S: Source, K: Sink, V: Vault, L: Disk>(
     vault: &mut V,
     life: OpenLife<'a, N, L>,
 ) -> Lived<L>
-    ensures turns { (v : View L.tells) (start : Last) (left told : Option (List ℕ)) (turns : List Turn) → Between (IsWhole v) start (Within (seen L.Disk v) life.entry.log life.entry.leaf life.entry.transactions) left told input.old turns (S.left source.old) (K.told sink.old)
-        → LivedTo (seen L.Disk v) start left told input.new (S.left source.new) (K.told sink.new) result }
+    ensures turns { (v : View L.tells) (start : Start) (first : V) (left told : Option (List ℕ)) (turns : List Turn)
+        → Between (IsWhole v) start (Beside V.Vault first vault.old (Within (seen L.Disk v) life.entry.log life.entry.leaf life.entry.transactions)) left told input.old turns (S.left source.old) (K.told sink.old)
+        → LivedTo L.tells (seen L.Disk v) V.Vault start first vault.new left told input.new (S.left source.new) (K.told sink.new) result }
     ensures later { (S.faults source.old ≤ S.faults source.new) × (K.faults sink.old ≤ K.faults sink.new) }
     ensures cause { LivedCause L.Disk life.entry.log.log.device (S.faults source.old) (S.faults source.new) (K.faults sink.old) (K.faults sink.new) result }
-    ensures vault { IsCycled V.tells V.told V.faults vault.old vault.new }
 {
     let mut life = life;
     for _ in 0..u64::MAX {

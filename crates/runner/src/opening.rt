@@ -1,5 +1,5 @@
 //! Opening a life, and making the log that a life can open.
-ghost use Rattle.runner.specs.Damaged.{IsDamaged, LeavesAlone};
+ghost use Rattle.runner.specs.Bytes.{MayMake, MayOpen, StaysKnown, Allows};
 ghost use Rattle.std.specs.Prelude.{◌≡◌, ◌≤◌, ◌+◌, ℕ, List, [], None, length, IsTrue, IfOk, IfErr, OnOk, IsErrAnd, MatchResult};
 ghost use Rattle.media.specs.Counted.{Blames};
 ghost use Rattle.log_blocks.specs.Log.{Block, first_lsn};
@@ -43,7 +43,7 @@ pub fn make_log<L: Disk>(alloc: Global, disk: L, limit: u32) -> Result<L, NotOpe
     ensures made { IfOk result (λ left. (v : View L.tells) → Makes (seen L.Disk v) disk (IsMade (seen L.Disk v) limit left)) }
     ensures not { IfErr result (λ r. (v : View L.tells) → IsNotMade (seen L.Disk v) limit disk r.disk r.status) }
     ensures shows { IfErr result (λ r. Shows L.Disk r.disk r.status) }
-    ensures alone { MatchResult result (λ left. L.tells → IsDamaged L.Disk disk → ⊥) (λ r. LeavesAlone L.Disk disk r.disk) }
+    ensures known { MatchResult result (λ left. Allows L.tells L.Disk disk MayMake) (λ r. StaysKnown L.tells L.Disk disk r.disk) }
     ensures fuse { MatchResult result (λ left. Blames L.passes L.refused L.own disk left ⊥) (λ r. Blames L.passes L.refused L.own disk r.disk (r.status ≡ statuses.LogFault)) }
 {
     // What the disk keeps can be read in one way only.
@@ -118,7 +118,8 @@ pub fn open<L: Disk>(
     ensures first { IfOk result (λ life. (life.standing.session ≡ None) × (life.log.log.ended ≡ None)) }
     ensures not { IfErr result (λ r. (v : View L.tells) → IsNotBegun (seen L.Disk v) line disk r.disk r.status) }
     ensures shows { IfErr result (λ r. Shows L.Disk r.disk r.status) }
-    ensures alone { MatchResult result (λ life. L.tells → IsDamaged L.Disk disk → ⊥) (λ r. LeavesAlone L.Disk disk r.disk) }
+    ensures allows { IfOk result (λ life. Allows L.tells L.Disk disk MayOpen) }
+    ensures known { MatchResult result (λ life. StaysKnown L.tells L.Disk disk life.log.log.device) (λ r. StaysKnown L.tells L.Disk disk r.disk) }
     ensures fuse { MatchResult result (λ life. Blames L.passes L.refused L.own disk life.log.log.device ⊥) (λ r. Blames L.passes L.refused L.own disk r.disk (r.status ≡ statuses.LogFault)) }
 {
     // What the disk keeps can be read in one way only.

@@ -1,5 +1,4 @@
 //! Commands where no life is open.
-ghost use Rattle.runner.specs.Damaged.{SteppedAlone};
 ghost use Rattle.std.specs.Prelude.{◌≡◌, ◌≤◌, ◌<◌, ◌^◌, codes, IfOk, IfErr};
 ghost use Rattle.wal_record.specs.Rules.{is_limit};
 ghost use Rattle.runner.specs.Causes.{SteppedCause};
@@ -33,9 +32,8 @@ pub fn step<L: Disk>(
     command: &Command,
     line: u64,
 ) -> Stepped<L, Opened<L>>
-    ensures turns { (v : View L.tells) (s : Stage) → Out (seen L.Disk v) disk s → Steps (seen L.Disk v) (λ life. In (seen L.Disk v) life.log.log life.standing) s command.now line result }
+    ensures turns { (v : View L.tells) (s : Stage) → Out L.tells (seen L.Disk v) disk s → Steps L.tells (seen L.Disk v) (λ life. In (seen L.Disk v) life.log.log life.standing) s command.now line result }
     ensures cause { SteppedCause L.Disk (λ life. life.log.log.device) disk result }
-    ensures alone { SteppedAlone L.Disk disk result }
 {
     match command {
         Command::Nothing => Stepped::Goes {
@@ -65,9 +63,8 @@ pub fn step<L: Disk>(
 
 /// Makes the log of a disk that has none.
 fn format<L: Disk>(alloc: Global, disk: L, limit: Option<u32>, line: u64) -> Stepped<L, Opened<L>>
-    ensures turns { (v : View L.tells) (s : Stage) → Out (seen L.Disk v) disk s → Steps (seen L.Disk v) (λ life. In (seen L.Disk v) life.log.log life.standing) s (commands.Format limit) line result }
+    ensures turns { (v : View L.tells) (s : Stage) → Out L.tells (seen L.Disk v) disk s → Steps L.tells (seen L.Disk v) (λ life. In (seen L.Disk v) life.log.log life.standing) s (commands.Format limit) line result }
     ensures cause { SteppedCause L.Disk (λ life. life.log.log.device) disk result }
-    ensures alone { SteppedAlone L.Disk disk result }
 {
     let room = limit.unwrap_or(ROOM);
     if !is_room(room) {
@@ -119,9 +116,8 @@ fn format_lines(alloc: Global) -> Result<(Vec<u8>, Vec<u8>), Status>
 
 /// Opens a life.
 fn opens<L: Disk>(alloc: Global, operators: &Operators, disk: L, line: u64) -> Stepped<L, Opened<L>>
-    ensures turns { (v : View L.tells) (s : Stage) → Out (seen L.Disk v) disk s → Steps (seen L.Disk v) (λ life. In (seen L.Disk v) life.log.log life.standing) s commands.Open line result }
+    ensures turns { (v : View L.tells) (s : Stage) → Out L.tells (seen L.Disk v) disk s → Steps L.tells (seen L.Disk v) (λ life. In (seen L.Disk v) life.log.log life.standing) s commands.Open line result }
     ensures cause { SteppedCause L.Disk (λ life. life.log.log.device) disk result }
-    ensures alone { SteppedAlone L.Disk disk result }
 {
     let refused = disk.refused();
     if refused >= MOST {
@@ -187,9 +183,8 @@ fn fuse<L: Disk>(
     calls: u64,
     line: u64,
 ) -> Stepped<L, Opened<L>>
-    ensures turns { (v : View L.tells) (s : Stage) → Out (seen L.Disk v) disk s → Steps (seen L.Disk v) (λ life. In (seen L.Disk v) life.log.log life.standing) s (commands.Fuse device calls) line result }
+    ensures turns { (v : View L.tells) (s : Stage) → Out L.tells (seen L.Disk v) disk s → Steps L.tells (seen L.Disk v) (λ life. In (seen L.Disk v) life.log.log life.standing) s (commands.Fuse device calls) line result }
     ensures cause { SteppedCause L.Disk (λ life. life.log.log.device) disk result }
-    ensures alone { SteppedAlone L.Disk disk result }
 {
     let mut disk = disk;
     if device != Device::Log {
@@ -215,9 +210,8 @@ fn fuse<L: Disk>(
 
 /// Renews the disk's fuse.
 fn renew<L: Disk>(alloc: Global, disk: L, device: Device, line: u64) -> Stepped<L, Opened<L>>
-    ensures turns { (v : View L.tells) (s : Stage) → Out (seen L.Disk v) disk s → Steps (seen L.Disk v) (λ life. In (seen L.Disk v) life.log.log life.standing) s (commands.Renew device) line result }
+    ensures turns { (v : View L.tells) (s : Stage) → Out L.tells (seen L.Disk v) disk s → Steps L.tells (seen L.Disk v) (λ life. In (seen L.Disk v) life.log.log life.standing) s (commands.Renew device) line result }
     ensures cause { SteppedCause L.Disk (λ life. life.log.log.device) disk result }
-    ensures alone { SteppedAlone L.Disk disk result }
 {
     let mut disk = disk;
     if device != Device::Log {

@@ -1,43 +1,43 @@
 //! The row of a key.
-ghost use Rattle.std.specs.Prelude.{◌≡◌, Some};
-ghost use Rattle.std.specs.List.{find};
-ghost use Rattle.std.specs.Option.{option_copied};
-ghost use Rattle.wal_record.specs.State.{live};
-ghost use Rattle.runner.specs.Leaf.{is_at, page_live};
+ghost use Rattle.std.specs.Prelude.{◌≡◌, length, Some};
+ghost use Rattle.wal_record.specs.State.{KeepsState, live_value};
+ghost use Rattle.wal_record.specs.declared.page.Rows.TheVariants.{Leaf};
+ghost use Rattle.page_rows.specs.Redo.{live_in};
+ghost use Rattle.page_rows.specs.Rows.{IsWithin};
+ghost use Rattle.runner.specs.Leaf.{page_live};
 
+use page_rows::{Spot, search};
 use store_model::{Key, Value};
 use wal_record::{LeafRow, PageState, Rows};
 
-/// The live value of a key on a page.
+/// The live value of a key on a page, by a search that halves the rows.
 pub fn page_live(state: &PageState, key: &Key) -> Option<Value>
+    requires { KeepsState state.now }
     ensures { result ≡ page_live (Some state.now) key.now }
 {
     match &state.rows {
-        Rows::Leaf(rows) => live(rows.as_slice(), key),
+        Rows::Leaf(rows) => value_at(rows.as_slice(), search(state, key)),
         Rows::Branch(_) => None,
     }
 }
 
-/// The live value of a key among the rows of a leaf.
-fn live(rows: &[LeafRow], key: &Key) -> Option<Value>
-    ensures { result ≡ live rows.now key.now }
+/// The live value of the row at a spot of a leaf; none in a gap.
+fn value_at(rows: &[LeafRow], spot: Spot) -> Option<Value>
+    requires { IsWithin spot (length rows.now) }
+    ensures { result ≡ live_in (Leaf rows.now) spot }
 {
-    match row_at(rows, key) {
-        None => None,
-        Some(row) => {
-            if row.tombstone {
-                None
-            } else {
-                Some(row.value.copied())
-            }
-        }
+    match spot {
+        Spot::Here(i) => live_value(&rows[i]),
+        Spot::Gap(_) => None,
     }
 }
 
-/// The first row of the key.
-fn row_at<'a>(rows: &'a [LeafRow], key: &Key) -> Option<&'a LeafRow>
-    ensures { option_copied result ≡ find (λ row. is_at key.now row) rows.now }
+fn live_value(row: &LeafRow) -> Option<Value>
+    ensures { result ≡ live_value row.now }
 {
-    rows.iter()
-        .find(|row| key.as_bytes().cmp(&row.key.as_bytes()).is_eq())
+    if row.tombstone {
+        None
+    } else {
+        Some(row.value.copied())
+    }
 }

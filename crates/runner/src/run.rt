@@ -1,14 +1,14 @@
 //! A whole run.
-ghost use Rattle.runner.specs.Damaged.{LeavesAlone};
+ghost use Rattle.runner.specs.Bytes.{Known};
 ghost use Rattle.std.specs.Prelude.{◌≡◌, ◌≢◌, ◌≤◌, ◌↔◌, ℕ, List, map, true, false};
 ghost use Rattle.media.specs.Cause.{Rose};
 ghost use Rattle.wal_record.specs.declared.record.Record.{Record};
 ghost use Rattle.line_reader.specs.Lines.{to_come, IsBounded};
 ghost use Rattle.runner.specs.LogDisk.{View, IsWhole, Keeps, seen};
-ghost use Rattle.runner.specs.Turns.{Last, begin_stage};
+ghost use Rattle.runner.specs.Turns.{Last, Start, begin_stage};
 ghost use Rattle.runner.specs.Machine.{Out};
 ghost use Rattle.runner.specs.Clause.{Headline};
-ghost use Rattle.runner.specs.Causes.{RunCause, Shows, IsAsked, IsCycled};
+ghost use Rattle.runner.specs.Causes.{RunCause, Shows, IsAsked};
 ghost use Rattle.call_words.specs.Calls.{call_of};
 ghost use Rattle.runner.specs.Usage.{AsksRun, ByWords, IsUnbegun};
 ghost use Rattle.runner.specs.declared.status.Status.TheVariants as statuses;
@@ -38,8 +38,8 @@ pub fn run_words<S: Source, K: Sink, L: Disk, P: PageDevice, V: Vault>(
     // whatever a stop may leave of it has its first transactions. The log disk that is handed back keeps a log that may
     // be found next, also after any crash, so it may be handed to the next call. What the reader has read and given to no
     // line yet is still pending; at most the longest script is read, and one byte more.
-    ensures headline { (v : View L.tells) (start : Last) → (IsWhole v → Keeps L.Disk start devices.log)
-        → (pending : List ℕ) × Headline (seen L.Disk v) start result.1.log (S.left source.old) pending (S.left source.new) (K.told sink.old) (K.told sink.new) result.0 }
+    ensures headline { (v : View L.tells) (start : Start) → (IsWhole v → Keeps L.Disk start.last devices.log) → Known L.tells L.Disk start.bytes devices.log
+        → (pending : List ℕ) × Headline L.tells (seen L.Disk v) V.Vault start result.1.log devices.vault result.1.vault (S.left source.old) pending (S.left source.new) (K.told sink.old) (K.told sink.new) result.0 }
 
     // Where the words are a call, the log disk keeps a log, and no device failed, the run is done, the script asked for
     // its end, or memory ran out.
@@ -59,12 +59,8 @@ pub fn run_words<S: Source, K: Sink, L: Disk, P: PageDevice, V: Vault>(
     ensures later { L.faults devices.log ≤ L.faults result.1.log }
     ensures shows { Shows L.Disk result.1.log result.0 }
 
-    // A disk with an open gate before bytes that are no block is left alone: no byte of it changes, whatever is run.
-    ensures alone { LeavesAlone L.Disk devices.log result.1.log }
-
-    // The data device is as it was; the vault too, but for stops of the machine.
+    // The data device is as it was.
     ensures pages { result.1.pages ≡ devices.pages }
-    ensures vault { IsCycled V.tells V.told V.faults devices.vault result.1.vault }
 {
     let call = match call_of(alloc, words) {
         Ok(call) => call,
@@ -113,13 +109,12 @@ fn run<S: Source, K: Sink, V: Vault, L: Disk>(
     disk: L,
 ) -> (Status, L)
     requires { (input.old.lines ≡ 0) × (input.old.taken ≡ 0) × IsBounded input.old }
-    ensures headline { (v : View L.tells) (start : Last) → Out (seen L.Disk v) disk (begin_stage start) → Headline (seen L.Disk v) start result.1 (to_come input.old (S.left source.old)) input.new.pending (S.left source.new) (K.told sink.old) (K.told sink.new) result.0 }
+    ensures headline { (v : View L.tells) (start : Start) → Out L.tells (seen L.Disk v) disk (begin_stage start)
+        → Headline L.tells (seen L.Disk v) V.Vault start result.1 vault.old vault.new (to_come input.old (S.left source.old)) input.new.pending (S.left source.new) (K.told sink.old) (K.told sink.new) result.0 }
     ensures later { (S.faults source.old ≤ S.faults source.new) × (K.faults sink.old ≤ K.faults sink.new) × (L.own disk ≤ L.own result.1) }
     ensures cause { RunCause (S.faults source.old) (S.faults source.new) (K.faults sink.old) (K.faults sink.new) (L.own disk) (L.own result.1) result.0 }
     ensures shows { Shows L.Disk result.1 result.0 }
-    ensures alone { LeavesAlone L.Disk disk result.1 }
     ensures called { (result.0 ≢ statuses.Usage) × (result.0 ≢ statuses.NoGenerator) }
-    ensures vault { IsCycled V.tells V.told V.faults vault.old vault.new }
 {
     let mut disk = disk;
     for _ in 0..u64::MAX {

@@ -1,5 +1,4 @@
 //! A stop of the machine.
-ghost use Rattle.runner.specs.Damaged.{LeavesAlone};
 ghost use Rattle.std.specs.Prelude.{◌≡◌, ◌≤◌, None, IfOk, IfErr};
 ghost use Rattle.media.specs.Crash.{Only};
 ghost use Rattle.runner.specs.LogDisk.{View, IsWhole, seen};
@@ -13,9 +12,8 @@ use std::alloc::Global;
 /// The machine stops, and the disk's fuse is renewed: the line that says so, and the disk. Without memory for the line the
 /// disk comes back as it was.
 pub fn stop<L: Disk>(alloc: Global, disk: L, keep: Option<u64>) -> Result<(Vec<u8>, L), L>
-    ensures turns { IfOk result (λ r. (v : View L.tells) (s : Stage) → Safe (seen L.Disk v) disk s → Adds (IsWhole v) (Out (seen L.Disk v) r.1) s (commands.Stop keep) r.0.items) }
+    ensures turns { IfOk result (λ r. (v : View L.tells) (s : Stage) → Safe L.tells (seen L.Disk v) disk s → Adds (IsWhole v) (Out L.tells (seen L.Disk v) r.1) s (commands.Stop keep) r.0.items) }
     ensures later { IfOk result (λ r. L.own disk ≤ L.own r.1) }
-    ensures alone { IfOk result (λ r. LeavesAlone L.Disk disk r.1) }
     ensures memory { IfErr result (λ left. left ≡ disk) }
 {
     match transcript::stop_line(alloc) {

@@ -1,12 +1,12 @@
 //! One line of a run.
-ghost use Rattle.runner.specs.Damaged.{TurnedAlone};
 ghost use Rattle.std.specs.Prelude.{◌≡◌, ◌≤◌, ℕ, List, Option, IfErr};
 ghost use Rattle.line_reader.specs.Lines.{IsBounded};
 ghost use Rattle.runner.specs.LogDisk.{View, IsWhole, seen};
-ghost use Rattle.runner.specs.Turns.{Last, Turn};
+ghost use Rattle.runner.specs.Turns.{Start, Turn};
 ghost use Rattle.runner.specs.Machine.{Out, In, Within};
 ghost use Rattle.runner.specs.Clause.{Between, TakesCommand, TurnedTo};
-ghost use Rattle.runner.specs.Causes.{LineCause, TurnedCause, IsCycled};
+ghost use Rattle.runner.specs.Vault.{Beside, Cycles};
+ghost use Rattle.runner.specs.Causes.{LineCause, TurnedCause};
 
 use crate::at::{At, Stepped, disk_inside, disk_opened, step_inside};
 use crate::life::OpenLife;
@@ -37,12 +37,11 @@ pub fn turn_outside<S: Source, K: Sink, V: Vault, L: Disk>(
     vault: &mut V,
     disk: L,
 ) -> Turned<L, Opened<L>>
-    ensures turns { (v : View L.tells) (start : Last) (left told : Option (List ℕ)) (turns : List Turn) → Between (IsWhole v) start (Out (seen L.Disk v) disk) left told input.old turns (S.left source.old) (K.told sink.old)
-        → TurnedTo (seen L.Disk v) start (λ life. In (seen L.Disk v) life.log.log life.standing) left told input.new turns (S.left source.new) (K.told sink.new) result }
+    ensures turns { (v : View L.tells) (start : Start) (first : V) (left told : Option (List ℕ)) (turns : List Turn)
+        → Between (IsWhole v) start (Beside V.Vault first vault.old (Out L.tells (seen L.Disk v) disk)) left told input.old turns (S.left source.old) (K.told sink.old)
+        → TurnedTo L.tells (seen L.Disk v) V.Vault start (λ life. In (seen L.Disk v) life.log.log life.standing) first vault.new left told input.new turns (S.left source.new) (K.told sink.new) result }
     ensures later { (S.faults source.old ≤ S.faults source.new) × (K.faults sink.old ≤ K.faults sink.new) }
     ensures cause { TurnedCause L.Disk (λ life. life.log.log.device) disk (S.faults source.old) (S.faults source.new) (K.faults sink.old) (K.faults sink.new) result }
-    ensures alone { TurnedAlone L.Disk disk result }
-    ensures vault { IsCycled V.tells V.told V.faults vault.old vault.new }
 {
     let (command, line) = match next_command(alloc, input, source) {
         Ok(Some(next)) => next,
@@ -52,15 +51,17 @@ pub fn turn_outside<S: Source, K: Sink, V: Vault, L: Disk>(
         },
         Err(status) => return Turned::Ends { status, disk },
     };
-    cycle(vault, &command);
     match outside::step(alloc, operators, disk, &command, line) {
-        Stepped::Goes { lines, at } => match write_all(sink, &lines) {
-            Ok(()) => Turned::Goes { at },
-            Err(_) => Turned::Ends {
-                status: Status::SinkFault,
-                disk: disk_opened(at),
-            },
-        },
+        Stepped::Goes { lines, at } => {
+            cycle(vault, &command);
+            match write_all(sink, &lines) {
+                Ok(()) => Turned::Goes { at },
+                Err(_) => Turned::Ends {
+                    status: Status::SinkFault,
+                    disk: disk_opened(at),
+                },
+            }
+        }
         Stepped::Ends { status, disk } => Turned::Ends { status, disk },
     }
 }
@@ -75,11 +76,11 @@ pub fn turn_inside<'a, N: Life, S: Source, K: Sink, V: Vault, L: Disk>(
     vault: &mut V,
     life: OpenLife<'a, N, L>,
 ) -> Turned<L, OpenLife<'a, N, L>>
-    ensures turns { (v : View L.tells) (start : Last) (left told : Option (List ℕ)) (turns : List Turn) → Between (IsWhole v) start (Within (seen L.Disk v) life.entry.log life.entry.leaf life.entry.transactions) left told input.old turns (S.left source.old) (K.told sink.old)
-        → TurnedTo (seen L.Disk v) start (λ life. Within (seen L.Disk v) life.log life.leaf life.transactions) left told input.new turns (S.left source.new) (K.told sink.new) result }
+    ensures turns { (v : View L.tells) (start : Start) (first : V) (left told : Option (List ℕ)) (turns : List Turn)
+        → Between (IsWhole v) start (Beside V.Vault first vault.old (Within (seen L.Disk v) life.entry.log life.entry.leaf life.entry.transactions)) left told input.old turns (S.left source.old) (K.told sink.old)
+        → TurnedTo L.tells (seen L.Disk v) V.Vault start (λ life. Within (seen L.Disk v) life.log life.leaf life.transactions) first vault.new left told input.new turns (S.left source.new) (K.told sink.new) result }
     ensures later { (S.faults source.old ≤ S.faults source.new) × (K.faults sink.old ≤ K.faults sink.new) }
     ensures cause { TurnedCause L.Disk (λ life. life.log.log.device) life.entry.log.log.device (S.faults source.old) (S.faults source.new) (K.faults sink.old) (K.faults sink.new) result }
-    ensures vault { IsCycled V.tells V.told V.faults vault.old vault.new }
 {
     let (command, line) = match next_command(alloc, input, source) {
         Ok(Some(next)) => next,
@@ -92,22 +93,24 @@ pub fn turn_inside<'a, N: Life, S: Source, K: Sink, V: Vault, L: Disk>(
             disk: life.log.into_device(),
         },
     };
-    cycle(vault, &command);
     match step_inside(alloc, operators, life, &command, line) {
-        Stepped::Goes { lines, at } => match write_all(sink, &lines) {
-            Ok(()) => Turned::Goes { at },
-            Err(_) => Turned::Ends {
-                status: Status::SinkFault,
-                disk: disk_inside(at),
-            },
-        },
+        Stepped::Goes { lines, at } => {
+            cycle(vault, &command);
+            match write_all(sink, &lines) {
+                Ok(()) => Turned::Goes { at },
+                Err(_) => Turned::Ends {
+                    status: Status::SinkFault,
+                    disk: disk_inside(at),
+                },
+            }
+        }
         Stepped::Ends { status, disk } => Turned::Ends { status, disk },
     }
 }
 
 /// A stop is one of the vault too.
 fn cycle<V: Vault>(vault: &mut V, command: &Command)
-    ensures { IsCycled V.tells V.told V.faults vault.old vault.new }
+    ensures { Cycles V.Vault command.now vault.old vault.new }
 {
     match command {
         Command::Stop { keep: _ } => vault.power_cycle(),

@@ -1,19 +1,18 @@
 use Rattle.std.proofs.Common.{◌≤◌, ℕ, List}
 use Rattle.std.specs.Prelude.{Option}
 use Rattle.wal_record.specs.declared.record.Record.{Record}
-use Rattle.runner.specs.Causes.{IsCycled}
+use Rattle.runner.specs.Vault.{Beside}
 use Rattle.runner.specs.LogDisk.{View, IsWhole, seen}
-use Rattle.runner.specs.Turns.{Last, Turn}
+use Rattle.runner.specs.Turns.{Start, Turn}
 use Rattle.runner.specs.Machine.{Within}
 use Rattle.runner.specs.Clause.{Between}
 use Rattle.runner.proofs.living.run_life.Given as goal
 
 abbrev pub invariant-loop : goal.invariant-loop
 invariant-loop g l = record {
-  turns : (v : View g.L.Disk.tells) (start : Last) (left told : Option (List ℕ)) (turns : List Turn) → Between (IsWhole v) start (Within (seen g.L.Disk v) l.fn.life.log l.fn.life.leaf l.fn.life.transactions) left told l.fn.input turns (g.S.Source.left l.fn.source) (g.K.Sink.told l.fn.sink)
-      → (more : List Turn) × Between (IsWhole v) start (Within (seen g.L.Disk v) l.life.log l.life.leaf l.life.transactions) left told l.input more (g.S.Source.left l.source) (g.K.Sink.told l.sink);
+  turns : (v : View g.L.Disk.tells) (start : Start) (first : g.row.V.Denot) (left told : Option (List ℕ)) (turns : List Turn) → Between (IsWhole v) start (Beside g.V.Vault first l.fn.vault (Within (seen g.L.Disk v) l.fn.life.log l.fn.life.leaf l.fn.life.transactions)) left told l.fn.input turns (g.S.Source.left l.fn.source) (g.K.Sink.told l.fn.sink)
+      → (more : List Turn) × Between (IsWhole v) start (Beside g.V.Vault first l.vault (Within (seen g.L.Disk v) l.life.log l.life.leaf l.life.transactions)) left told l.input more (g.S.Source.left l.source) (g.K.Sink.told l.sink);
   source : g.S.Source.faults l.fn.source ≤ g.S.Source.faults l.source;
   sink : g.K.Sink.faults l.fn.sink ≤ g.K.Sink.faults l.sink;
   log : g.L.Disk.own l.fn.life.log.log.device ≤ g.L.Disk.own l.life.log.log.device;
-  vault : IsCycled g.V.Vault.tells g.V.Vault.told g.V.Vault.faults l.fn.vault l.vault;
 }

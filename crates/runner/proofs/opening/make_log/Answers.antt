@@ -3,9 +3,10 @@ use Rattle.runner.specs.declared.status.Status.TheVariants as statuses
 use Rattle.runner.specs.Causes.{Shows}
 use Rattle.runner.specs.LogDisk.{seen}
 use Rattle.runner.specs.Openings.{Makes, IsMade, IsNotMade}
-use Rattle.runner.proofs.Alone.{alone_by, alone_unless, not_damaged}
+use Rattle.runner.specs.Bytes.{StaysKnown}
+use Rattle.runner.proofs.Known.{known_by, known_unless, allows_make}
 use Rattle.runner.proofs.Lives.{crashed, tells_of}
-use Rattle.runner.proofs.Openings.{made_refused, made_fault, blames_as, already_made, format_made, format_cut}
+use Rattle.runner.proofs.Openings.{made_refused, made_fault, blames_as, already_made, format_made, format_cut, none_durable}
 use Rattle.runner.proofs.opening.make_log.Goals as goal
 
 pub returns-in-Err-clause-not : goal.returns-in-Err-clause-not
@@ -35,14 +36,18 @@ pub returns-in-Err-enter_format-clause-not : goal.returns-in-Err-enter_format-cl
 returns-in-Err-enter_format-clause-not g c = λ v. subst (λ (d : g.row.L.Denot). IsNotMade (seen g.L.Disk v) c.args.limit c.args.disk d c.in-Err-enter_format.status) (sym c.into_device-in-Err-enter_format.ensures)
     (format_cut c.one_log.ensures (seen g.L.Disk v) c.args.disk c.in-Ok.log (λ t. c.in-Ok.ensures.blocks (tells_of v t)) (λ t. c.in-Ok.ensures.same (tells_of v t)) (crashed g.L.Disk c.args.disk c.in-Ok.log.device _ c.in-Ok.ensures.any_moment (λ t k le m. g.met.L.Disk.counts_now c.in-Ok.log.device t k le m)) c.in-Ok.ensures.fresh.0 c.start-log.result.log (λ t bs rs d r. c.start-log.ensures.records (tells_of v t) 0 bs rs d r) (omega (arith, c.if-count-ne0.false, c.blocks-count.ensures.value)) c.args.limit c.requires c.enter_format.new.log.log.device c.in-Err-enter_format.status c.in-Err-enter_format.ensures.kind (λ e t stands. c.in-Err-enter_format.ensures.cut e (tells_of v t) stands) (search rules)).0
 
-pub returns-in-Err-clause-alone : goal.returns-in-Err-clause-alone
-returns-in-Err-clause-alone g c = alone_by g.L.Disk c.args.disk c.in-Err.refused.disk c.in-Err.ensures.same (crashed g.L.Disk c.args.disk c.in-Err.refused.disk _ c.in-Err.ensures.any_moment (λ t k le m. g.met.L.Disk.counts_now c.in-Err.refused.disk t k le m))
+pub returns-in-Err-clause-known : goal.returns-in-Err-clause-known
+returns-in-Err-clause-known g c = known_by g.L.Disk.tells g.L.Disk c.args.disk c.in-Err.refused.disk c.in-Err.ensures.same (crashed g.L.Disk c.args.disk c.in-Err.refused.disk _ c.in-Err.ensures.any_moment (λ t k le m. g.met.L.Disk.counts_now c.in-Err.refused.disk t k le m))
 
-pub returns-then-count-ne0-clause-alone : goal.returns-then-count-ne0-clause-alone
-returns-then-count-ne0-clause-alone g c = alone_unless g.L.Disk c.args.disk c.into_device.result (not_damaged g.L.Disk c.never_bad.ensures c.args.disk c.in-Ok.log c.in-Ok.ensures.blocks c.in-Ok.ensures.same)
+pub returns-then-count-ne0-clause-known : goal.returns-then-count-ne0-clause-known
+returns-then-count-ne0-clause-known g c = subst (StaysKnown g.L.Disk.tells g.L.Disk c.args.disk) (sym c.into_device.ensures)
+    (known_by g.L.Disk.tells g.L.Disk c.args.disk c.in-Ok.log.device c.in-Ok.ensures.same (crashed g.L.Disk c.args.disk c.in-Ok.log.device _ c.in-Ok.ensures.any_moment (λ t k le m. g.met.L.Disk.counts_now c.in-Ok.log.device t k le m)))
 
-pub returns-in-Ok-enter_format-clause-alone : goal.returns-in-Ok-enter_format-clause-alone
-returns-in-Ok-enter_format-clause-alone g c = not_damaged g.L.Disk c.never_bad.ensures c.args.disk c.in-Ok.log c.in-Ok.ensures.blocks c.in-Ok.ensures.same
+pub returns-in-Ok-enter_format-clause-known : goal.returns-in-Ok-enter_format-clause-known
+returns-in-Ok-enter_format-clause-known g c = (allows_make g.L.Disk.tells g.L.Disk c.args.disk c.in-Ok.log c.never_bad.ensures c.in-Ok.ensures.blocks c.in-Ok.ensures.same
+    (none_durable c.one_log.ensures g.L.Disk c.args.disk c.in-Ok.log c.in-Ok.ensures.blocks c.in-Ok.ensures.same (crashed g.L.Disk c.args.disk c.in-Ok.log.device _ c.in-Ok.ensures.any_moment (λ t k le m. g.met.L.Disk.counts_now c.in-Ok.log.device t k le m)) c.in-Ok.ensures.fresh.0 (omega (arith, c.if-count-ne0.false, c.blocks-count.ensures.value))))
 
-pub returns-in-Err-enter_format-clause-alone : goal.returns-in-Err-enter_format-clause-alone
-returns-in-Err-enter_format-clause-alone g c = alone_unless g.L.Disk c.args.disk c.into_device-in-Err-enter_format.result (not_damaged g.L.Disk c.never_bad.ensures c.args.disk c.in-Ok.log c.in-Ok.ensures.blocks c.in-Ok.ensures.same)
+pub returns-in-Err-enter_format-clause-known : goal.returns-in-Err-enter_format-clause-known
+returns-in-Err-enter_format-clause-known g c = known_unless g.L.Disk.tells g.L.Disk c.args.disk c.into_device-in-Err-enter_format.result
+    (allows_make g.L.Disk.tells g.L.Disk c.args.disk c.in-Ok.log c.never_bad.ensures c.in-Ok.ensures.blocks c.in-Ok.ensures.same
+    (none_durable c.one_log.ensures g.L.Disk c.args.disk c.in-Ok.log c.in-Ok.ensures.blocks c.in-Ok.ensures.same (crashed g.L.Disk c.args.disk c.in-Ok.log.device _ c.in-Ok.ensures.any_moment (λ t k le m. g.met.L.Disk.counts_now c.in-Ok.log.device t k le m)) c.in-Ok.ensures.fresh.0 (omega (arith, c.if-count-ne0.false, c.blocks-count.ensures.value))))

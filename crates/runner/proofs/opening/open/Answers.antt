@@ -2,7 +2,8 @@ use Rattle.std.proofs.Common.{sym, subst, ◌∙◌, ◌≡◌}
 use Rattle.runner.specs.Causes.{Shows}
 use Rattle.runner.specs.LogDisk.{seen}
 use Rattle.runner.specs.Openings.{IsNotBegun}
-use Rattle.runner.proofs.Alone.{alone_by, alone_unless, match_both, not_damaged}
+use Rattle.runner.specs.Bytes.{StaysKnown}
+use Rattle.runner.proofs.Known.{known_by, allows_open, replayed_known, ok_all, match_map}
 use Rattle.runner.proofs.Commands.{err_map}
 use Rattle.runner.proofs.Lives.{crashed, tells_of}
 use Rattle.runner.proofs.Openings.{read_refused, read_shows, replay_refused, replay_shows, open_no_memory, did_begin_life, ok_map}
@@ -34,13 +35,18 @@ pub returns-in-Err-replay-clause-shows : goal.returns-in-Err-replay-clause-shows
 returns-in-Err-replay-clause-shows g c = subst (λ (d : g.row.L.Denot). Shows g.L.Disk d c.not_replayed.result) (sym c.into_device.ensures)
     (replay_shows c.one_log.ensures g.L.Disk c.args.disk c.in-Ok.log c.replay.new.log c.in-Ok.ensures.blocks c.in-Ok.ensures.same c.replay.ensures.durable c.args.line c.in-Err-replay.why c.not_replayed.result c.not_replayed.ensures c.in-Err-replay.ensures.bad)
 
-pub returns-in-Err-clause-alone : goal.returns-in-Err-clause-alone
-returns-in-Err-clause-alone g c = alone_by g.L.Disk c.args.disk c.in-Err.refused.disk c.in-Err.ensures.same (crashed g.L.Disk c.args.disk c.in-Err.refused.disk _ c.in-Err.ensures.any_moment (λ t k le m. g.met.L.Disk.counts_now c.in-Err.refused.disk t k le m))
+pub returns-in-Err-clause-known : goal.returns-in-Err-clause-known
+returns-in-Err-clause-known g c = known_by g.L.Disk.tells g.L.Disk c.args.disk c.in-Err.refused.disk c.in-Err.ensures.same (crashed g.L.Disk c.args.disk c.in-Err.refused.disk _ c.in-Err.ensures.any_moment (λ t k le m. g.met.L.Disk.counts_now c.in-Err.refused.disk t k le m))
 
-pub returns-in-Ok-replay-clause-alone : goal.returns-in-Ok-replay-clause-alone
-returns-in-Ok-replay-clause-alone g c =
-    let never = not_damaged g.L.Disk c.never_bad.ensures c.args.disk c.in-Ok.log c.in-Ok.ensures.blocks c.in-Ok.ensures.same in
-    match_both c.begin.result _ _ (λ life. never) (λ r. alone_unless g.L.Disk c.args.disk r.disk never)
+pub returns-in-Ok-replay-clause-allows : goal.returns-in-Ok-replay-clause-allows
+returns-in-Ok-replay-clause-allows g c =
+    let allows = allows_open g.L.Disk.tells g.L.Disk c.args.disk c.in-Ok.log c.never_bad.ensures c.in-Ok.ensures.blocks c.in-Ok.ensures.same in
+    ok_all c.begin.result _ (λ life. allows)
 
-pub returns-in-Err-replay-clause-alone : goal.returns-in-Err-replay-clause-alone
-returns-in-Err-replay-clause-alone g c = alone_unless g.L.Disk c.args.disk c.into_device.result (not_damaged g.L.Disk c.never_bad.ensures c.args.disk c.in-Ok.log c.in-Ok.ensures.blocks c.in-Ok.ensures.same)
+pub returns-in-Ok-replay-clause-known : goal.returns-in-Ok-replay-clause-known
+returns-in-Ok-replay-clause-known g c =
+    let stays = replayed_known g.L.Disk c.args.disk c.in-Ok.log c.replay.new.log c.in-Ok.ensures.blocks c.in-Ok.ensures.same c.replay.ensures.durable c.replay.ensures.told in
+    match_map c.begin.result _ _ _ _ (λ life k. subst (StaysKnown g.L.Disk.tells g.L.Disk c.args.disk) (sym k.2) stays) (λ r k. subst (StaysKnown g.L.Disk.tells g.L.Disk c.args.disk) (sym k.0) stays) c.begin.ensures.first c.begin.ensures.not
+
+pub returns-in-Err-replay-clause-known : goal.returns-in-Err-replay-clause-known
+returns-in-Err-replay-clause-known g c = subst (StaysKnown g.L.Disk.tells g.L.Disk c.args.disk) (sym c.into_device.ensures) (replayed_known g.L.Disk c.args.disk c.in-Ok.log c.replay.new.log c.in-Ok.ensures.blocks c.in-Ok.ensures.same c.replay.ensures.durable c.replay.ensures.told)

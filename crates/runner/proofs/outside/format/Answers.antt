@@ -8,12 +8,12 @@ use Rattle.runner.proofs.Without.{did_format, format_refused, made_kind, refused
 use Rattle.runner.proofs.outside.format.Goals as goal
 
 pub returns-in-Ok-make_log-clause-turns : goal.returns-in-Ok-make_log-clause-turns
-returns-in-Ok-make_log-clause-turns g c = λ v s h. did_format (seen g.L.Disk v) (λ (life : Beginning g.row.L.Denot). In (seen g.L.Disk v) life.log.log life.standing) c.args.disk s h c.args.limit (ap is_limit (sym c.unwrap_or-room.ensures) ∙ sym c.is_room.ensures ∙ c.if-not-is_room.false) c.in-Ok-make_log.disk c.in-Ok.lines.0.items _
-    (subst (λ (n : ℕ). Makes (seen g.L.Disk v) c.args.disk (IsMade (seen g.L.Disk v) n c.in-Ok-make_log.disk)) c.unwrap_or-room.ensures (c.in-Ok-make_log.ensures.made v)) c.in-Ok-make_log.ensures.fuse c.in-Ok.ensures.lines.0
+returns-in-Ok-make_log-clause-turns g c = λ v s h. did_format g.L.Disk.tells (seen g.L.Disk v) (λ (life : Beginning g.row.L.Denot). In (seen g.L.Disk v) life.log.log life.standing) c.args.disk s h c.args.limit (ap is_limit (sym c.unwrap_or-room.ensures) ∙ sym c.is_room.ensures ∙ c.if-not-is_room.false) c.in-Ok-make_log.disk c.in-Ok.lines.0.items _
+    (subst (λ (n : ℕ). Makes (seen g.L.Disk v) c.args.disk (IsMade (seen g.L.Disk v) n c.in-Ok-make_log.disk)) c.unwrap_or-room.ensures (c.in-Ok-make_log.ensures.made v)) c.in-Ok-make_log.ensures.known c.in-Ok-make_log.ensures.fuse c.in-Ok.ensures.lines.0
 
 pub returns-in-Err-make_log-clause-turns : goal.returns-in-Err-make_log-clause-turns
-returns-in-Err-make_log-clause-turns g c = λ v s h. format_refused (seen g.L.Disk v) (λ (life : Beginning g.row.L.Denot). In (seen g.L.Disk v) life.log.log life.standing) c.args.disk s h c.args.limit (ap is_limit (sym c.unwrap_or-room.ensures) ∙ sym c.is_room.ensures ∙ c.if-not-is_room.false) c.in-Err-make_log.not.disk c.args.line _ c.in-Err-make_log.not.status c.in-Ok.lines.1.items c.refuse.result (omega (arith, c.refused-refused.ensures, c.if-refused-ge-MOST.false)) c.refuse.ensures
-    (subst (λ (n : ℕ). IsNotMade (seen g.L.Disk v) n c.args.disk c.in-Err-make_log.not.disk c.in-Err-make_log.not.status) c.unwrap_or-room.ensures (c.in-Err-make_log.ensures.not v)) c.in-Err-make_log.ensures.fuse c.in-Ok.ensures.lines.1
+returns-in-Err-make_log-clause-turns g c = λ v s h. format_refused g.L.Disk.tells (seen g.L.Disk v) (λ (life : Beginning g.row.L.Denot). In (seen g.L.Disk v) life.log.log life.standing) c.args.disk s h c.args.limit (ap is_limit (sym c.unwrap_or-room.ensures) ∙ sym c.is_room.ensures ∙ c.if-not-is_room.false) c.in-Err-make_log.not.disk c.args.line _ c.in-Err-make_log.not.status c.in-Ok.lines.1.items c.refuse.result (omega (arith, c.refused-refused.ensures, c.if-refused-ge-MOST.false)) c.refuse.ensures
+    (subst (λ (n : ℕ). IsNotMade (seen g.L.Disk v) n c.args.disk c.in-Err-make_log.not.disk c.in-Err-make_log.not.status) c.unwrap_or-room.ensures (c.in-Err-make_log.ensures.not v)) c.in-Err-make_log.ensures.fuse c.in-Ok.ensures.lines.1 c.in-Err-make_log.ensures.known
 
 pub returns-in-Err-make_log-clause-cause : goal.returns-in-Err-make_log-clause-cause
 returns-in-Err-make_log-clause-cause g c = refused_cause g.L.Disk (λ (life : Beginning g.row.L.Denot). life.log.log.device) c.args.disk c.in-Err-make_log.not.disk _ c.in-Err-make_log.not.status c.in-Ok.lines.1.items c.refuse.result (omega (arith, c.refused-refused.ensures, c.if-refused-ge-MOST.false)) (omega (arith, c.if-refused-ge-MOST.false)) c.refuse.ensures c.in-Err-make_log.ensures.fuse

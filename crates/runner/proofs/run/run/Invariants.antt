@@ -1,21 +1,18 @@
 use Rattle.std.proofs.Common.{◌≤◌, List}
 use Rattle.wal_record.specs.declared.record.Record.{Record}
-use Rattle.runner.specs.Damaged.{LeavesAlone}
-use Rattle.runner.specs.Causes.{IsCycled}
 use Rattle.line_reader.specs.Lines.{to_come}
 use Rattle.runner.specs.LogDisk.{View, IsWhole, seen}
-use Rattle.runner.specs.Turns.{Last, Turn, begin_stage}
+use Rattle.runner.specs.Turns.{Start, Turn, begin_stage}
 use Rattle.runner.specs.Machine.{Out}
+use Rattle.runner.specs.Vault.{Beside}
 use Rattle.runner.specs.Clause.{Between}
 use Rattle.runner.proofs.run.run.Given as goal
 
 abbrev pub invariant-loop : goal.invariant-loop
 invariant-loop g l = record {
-  turns : (v : View g.L.Disk.tells) (start : Last) → Out (seen g.L.Disk v) l.fn.disk (begin_stage start)
-      → (turns : List Turn) × Between (IsWhole v) start (Out (seen g.L.Disk v) l.disk) (to_come l.fn.input (g.S.Source.left l.fn.source)) (g.K.Sink.told l.fn.sink) l.input turns (g.S.Source.left l.source) (g.K.Sink.told l.sink);
+  turns : (v : View g.L.Disk.tells) (start : Start) → Out g.L.Disk.tells (seen g.L.Disk v) l.fn.disk (begin_stage start)
+      → (turns : List Turn) × Between (IsWhole v) start (Beside g.V.Vault l.fn.vault l.vault (Out g.L.Disk.tells (seen g.L.Disk v) l.disk)) (to_come l.fn.input (g.S.Source.left l.fn.source)) (g.K.Sink.told l.fn.sink) l.input turns (g.S.Source.left l.source) (g.K.Sink.told l.sink);
   source : g.S.Source.faults l.fn.source ≤ g.S.Source.faults l.source;
   sink : g.K.Sink.faults l.fn.sink ≤ g.K.Sink.faults l.sink;
   log : g.L.Disk.own l.fn.disk ≤ g.L.Disk.own l.disk;
-  vault : IsCycled g.V.Vault.tells g.V.Vault.told g.V.Vault.faults l.fn.vault l.vault;
-  alone : LeavesAlone g.L.Disk l.fn.disk l.disk;
 }

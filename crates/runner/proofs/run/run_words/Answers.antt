@@ -3,32 +3,35 @@ use Rattle.runner.specs.declared.status.Status.TheVariants as statuses
 use Rattle.media.specs.Cause.{Rose}
 use Rattle.media.specs.Fused.{Fused}
 use Rattle.runner.specs.LogDisk.{Whole, seen}
+use Rattle.runner.specs.Bytes.{Unknown}
+use Rattle.runner.specs.Turns.{Start}
 use Rattle.runner.proofs.Fused.{asked, begun_fused, ended_fused}
 use Rattle.runner.proofs.Runs.{not_called, not_generated, no_buffer, ran_whole}
 use Rattle.runner.proofs.run.run_words.Goals as goal
 
 pub returns-in-Memory-clause-headline : goal.returns-in-Memory-clause-headline
-returns-in-Memory-clause-headline g c = λ v start keeps. no_buffer (seen g.L.Disk v) start c.args.devices.log _ _ keeps
+returns-in-Memory-clause-headline g c = λ v start keeps known. no_buffer g.L.Disk.tells (seen g.L.Disk v) g.V.Vault start c.args.devices.log c.args.devices.vault _ _ keeps known
 
 pub returns-in-Usage-clause-headline : goal.returns-in-Usage-clause-headline
-returns-in-Usage-clause-headline g c = λ v start keeps. not_called (seen g.L.Disk v) start c.args.devices.log _ _ keeps
+returns-in-Usage-clause-headline g c = λ v start keeps known. not_called g.L.Disk.tells (seen g.L.Disk v) g.V.Vault start c.args.devices.log c.args.devices.vault _ _ keeps known
 
 pub returns-in-Generate-clause-headline : goal.returns-in-Generate-clause-headline
-returns-in-Generate-clause-headline g c = λ v start keeps. not_generated (seen g.L.Disk v) start c.args.devices.log _ _ keeps
+returns-in-Generate-clause-headline g c = λ v start keeps known. not_generated g.L.Disk.tells (seen g.L.Disk v) g.V.Vault start c.args.devices.log c.args.devices.vault _ _ keeps known
 
 pub returns-in-Err-new-clause-headline : goal.returns-in-Err-new-clause-headline
-returns-in-Err-new-clause-headline g c = λ v start keeps. no_buffer (seen g.L.Disk v) start c.args.devices.log _ _ keeps
+returns-in-Err-new-clause-headline g c = λ v start keeps known. no_buffer g.L.Disk.tells (seen g.L.Disk v) g.V.Vault start c.args.devices.log c.args.devices.vault _ _ keeps known
 
 pub returns-clause-headline : goal.returns-clause-headline
-returns-clause-headline g c = λ v start keeps.
-    ran_whole (seen g.L.Disk v) start c.into_inner.result (g.S.Source.left c.args.source.now) (g.S.Source.left c.run-status.new.source) (g.K.Sink.told c.args.sink.now) (g.K.Sink.told c.run-status.new.sink) c.in-Ok-new.input c.run-status.new.input c.run-status.result.0 c.in-Ok-new.ensures
-    (ended_fused g.L.Disk v c.run-status.result.1 c.into_inner.result c.into_inner.ensures start _ _ _ _ _ c.run-status.result.0 (c.run-status.ensures.headline v start (begun_fused g.L.Disk v c.new-2.result c.args.devices.log c.new-2.ensures start keeps)))
+returns-clause-headline g c = λ v start keeps known.
+    ran_whole g.L.Disk.tells (seen g.L.Disk v) g.V.Vault start c.into_inner.result c.args.devices.vault c.run-status.new.vault (g.S.Source.left c.args.source.now) (g.S.Source.left c.run-status.new.source) (g.K.Sink.told c.args.sink.now) (g.K.Sink.told c.run-status.new.sink) c.in-Ok-new.input c.run-status.new.input c.run-status.result.0 c.in-Ok-new.ensures
+    (ended_fused g.L.Disk g.V.Vault c.args.devices.vault c.run-status.new.vault v c.run-status.result.1 c.into_inner.result c.into_inner.ensures start _ _ _ _ _ c.run-status.result.0 (c.run-status.ensures.headline v start (begun_fused g.L.Disk v c.new-2.result c.args.devices.log c.new-2.ensures start keeps known)))
 
 pub returns-clause-complete : goal.returns-clause-complete
-returns-clause-complete g c = λ call t start keeps source sink own.
-    let h = c.run-status.ensures.headline (Whole t) start (begun_fused g.L.Disk (Whole t) c.new-2.result c.args.devices.log c.new-2.ensures start (λ w. keeps)) in
-    let e = ended_fused g.L.Disk (Whole t) c.run-status.result.1 c.into_inner.result c.into_inner.ensures start _ _ _ _ _ c.run-status.result.0 h in
-    asked (seen g.L.Disk (Whole t)) start c.into_inner.result _ _ _ _ _ c.run-status.result.0 e tt c.run-status.ensures.called
+returns-clause-complete g c = λ call t last keeps source sink own.
+    let start : Start = record { last = last; bytes = Unknown } in
+    let h = c.run-status.ensures.headline (Whole t) start (begun_fused g.L.Disk (Whole t) c.new-2.result c.args.devices.log c.new-2.ensures start (λ w. keeps) tt) in
+    let e = ended_fused g.L.Disk g.V.Vault c.args.devices.vault c.run-status.new.vault (Whole t) c.run-status.result.1 c.into_inner.result c.into_inner.ensures start _ _ _ _ _ c.run-status.result.0 h in
+    asked (seen g.L.Disk (Whole t)) g.V.Vault start c.into_inner.result c.args.devices.vault c.run-status.new.vault _ _ _ _ _ c.run-status.result.0 g.L.Disk.tells e tt c.run-status.ensures.called
     (λ is. source (c.run-status.ensures.cause.source is))
     (λ is. sink (c.run-status.ensures.cause.sink is))
     (λ is. own (subst (λ (n : ℕ). Rose (g.L.Disk.faults c.args.devices.log) n) (ap (λ (d : g.row.L.Denot). g.L.Disk.faults d) (sym c.into_inner.ensures)) (subst (λ (f : Fused g.row.L.Denot). Rose (g.L.Disk.faults f.inner) (g.L.Disk.faults c.run-status.result.1.inner)) c.new-2.ensures (c.run-status.ensures.cause.log is))))

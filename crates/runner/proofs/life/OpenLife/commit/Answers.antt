@@ -13,7 +13,7 @@ returns-in-Ok-clause-ok g c = λ v s h.
     did_end (seen g.L.Disk v) s _ _ h (commands.Commit c.args.name.now) c.in-Some.at c.in-Ok.out.items (sym c.ended.ensures ∙ c.in-Some.is) (lawful_here (seen g.L.Disk v) s _ _ h c.args.name.now named.0 named.1 named.2) refl c.in-Ok.ensures
 
 pub returns-clause-err : goal.returns-clause-err
-returns-clause-err g c = err_map c.commit_open.result _ _ (λ status k v s h. k v c.args.line s h) c.commit_open.ensures.err
+returns-clause-err g c = err_map c.commit_open.result _ _ (λ status k v s h. k c.args.line v s h) c.commit_open.ensures.err
 
 pub returns-then-self-ge-LIMIT-clause-err : goal.returns-then-self-ge-LIMIT-clause-err
 returns-then-self-ge-LIMIT-clause-err g c = λ v s h. leaves_here (seen g.L.Disk v) s _ _ h

@@ -59,7 +59,7 @@ returns-then-refused-clause-ok g c = λ v s h.
     (fused_after M c.args.self.now.log.log.device new.device (IsErrAnd c.flush_to.result IsLogFault) blames s.armed h.fused) c.requires.failed
 
 pub returns-in-Err-LogFault-clause-err : goal.returns-in-Err-LogFault-clause-err
-returns-in-Err-LogFault-clause-err g c = λ v line s h.
+returns-in-Err-LogFault-clause-err g c = λ line v s h.
     let M = seen g.L.Disk v in
     let named = is_named _ c.args.name.now c.requires.active in
     let z = named.0 in

@@ -1,0 +1,83 @@
+-- What is known of the bytes of a log disk stays so.
+use Rattle.std.proofs.Common.{◌≡◌, ◌<◌, ◌++◌, ◌∷◌, ℕ, List, [], Result, Ok, Err, refl, sym, ap, subst, ◌∙◌, ◌⊎◌, ⊎_elim, arith, length}
+use Rattle.std.specs.Prelude.{IfOk, IfErr, MatchResult}
+use Rattle.media.specs.Crash.{Only, NoMore}
+use Rattle.media.specs.Kept.{Kept}
+use Rattle.media.specs.declared.disk.Disk.{Ghosts}
+use Rattle.log_blocks.specs.Log.{Block, StandsFor, open_gate}
+use Rattle.log_blocks.specs.LogState.{LogState, IsDurable}
+use Rattle.log_blocks.specs.Opening.{IsBadAt}
+use Rattle.runner.specs.Bytes.{Bytes, Unknown, Gated, Bad, IsFormatted, IsGated, IsBad, Known, MayMake, MayOpen, StaysKnown, Allows}
+use Rattle.runner.proofs.Openings.{OneLog, NeverBad}
+
+-- where nothing is known, no disk breaks it
+pub known_none : {D : Type 0} (tells : Type 0) (L : Ghosts D) (b : Bytes) (disk : D) → MayMake b → Known tells L b disk
+known_none tells L Unknown disk may = tt
+known_none tells L _ disk may = absurd may
+
+module _ {D : Type 0} (tells : Type 0) (L : Ghosts D) (old new : D) where
+  same_gate : L.told new ≡ L.told old → ((c : Kept) → L.may_leave new c → IsFormatted c) → IsGated L.told L.may_leave old → IsGated L.told L.may_leave new
+  same_gate same crash g = record { now = subst IsFormatted (sym same) g.now; crash = crash }
+
+  -- no byte changes, and a crash leaves nothing else
+  pub known_by : (tells → L.told new ≡ L.told old) → NoMore L.may_leave old new → StaysKnown tells L old new
+  known_by same more Unknown h = tt
+  known_by same more Gated (t, g) = (t, same_gate (same t) (λ c left. g.crash c (more c left)) g)
+  known_by same more (Bad k) (t, b) = (t, record { now = same t ∙ b.now; only = λ c left. b.only c (more c left); block = b.block; byte = b.byte; bad = b.bad })
+
+  -- no byte changes, and nothing waits for a sync
+  pub known_only : (tells → L.told new ≡ L.told old) → (tells → Only (L.told new) (L.may_leave new)) → StaysKnown tells L old new
+  known_only same only Unknown h = tt
+  known_only same only Gated (t, g) = (t, same_gate (same t) (λ c left. subst IsFormatted (sym (only t c left ∙ same t)) g.now) g)
+  known_only same only (Bad k) (t, b) = (t, record { now = same t ∙ b.now; only = λ c left. only t c left ∙ same t ∙ b.now; block = b.block; byte = b.byte; bad = b.bad })
+
+  -- behind a stop
+  pub known_behind : (tells → L.may_leave old (L.told new)) → (tells → Only (L.told new) (L.may_leave new)) → StaysKnown tells L old new
+  known_behind may only Unknown h = tt
+  known_behind may only Gated (t, g) = let now = g.crash (L.told new) (may t) in (t, record { now = now; crash = λ c left. subst IsFormatted (sym (only t c left)) now })
+  known_behind may only (Bad k) (t, b) =
+      let now = b.only (L.told new) (may t) in
+      (t, record { now = now; only = λ c left. only t c left ∙ now; block = b.block; byte = b.byte; bad = b.bad })
+
+-- an empty log is behind no open gate
+not_gated : (k : Kept) → StandsFor [] k → IsFormatted k → ⊥
+not_gated k s f = ⊎_elim (λ short. omega (arith, short.0, f.long)) (λ h. h.closed (same h.gate h.rest (sym h.bytes ∙ f.gate))) s.bytes
+  where
+    same : (gate : ℕ) (rest : List ℕ) → gate ∷ rest ≡ open_gate ∷ f.rest → gate ≡ open_gate
+    same gate rest e = cc
+
+-- a bad disk has an open gate, and more behind it
+module _ {D : Type 0} (tells : Type 0) (L : Ghosts D) (disk : D) (log : LogState D) (never : NeverBad) (found : tells → (bs : List Block) × IsDurable L.told L.may_leave log bs) (same : tells → L.told log.device ≡ L.told disk) where
+  not_bad : (k : Kept) → tells → IsBad L.told L.may_leave k disk → ⊥
+  not_bad k t b =
+      let d = found t in
+      never d.0 b.block b.byte (L.told log.device) d.1.stands (subst (IsBadAt b.block b.byte) (sym (same t ∙ b.now)) b.bad)
+
+  -- a log was read
+  pub allows_open : Allows tells L disk MayOpen
+  allows_open Unknown h = tt
+  allows_open Gated h = tt
+  allows_open (Bad k) (t, b) = not_bad k t b
+
+  -- the log that was read is empty
+  pub allows_make : (tells → IsDurable L.told L.may_leave log []) → Allows tells L disk MayMake
+  allows_make none Unknown h = tt
+  allows_make none Gated (t, g) = not_gated (L.told log.device) (none t).stands (subst IsFormatted (sym (same t)) g.now)
+  allows_make none (Bad k) (t, b) = not_bad k t b
+
+-- behind a replay
+pub replayed_known : {D : Type 0} (L : Ghosts D) (disk : D) (old new : LogState D) → (L.tells → (bs : List Block) × IsDurable L.told L.may_leave old bs) → (L.tells → L.told old.device ≡ L.told disk)
+    → (L.tells → (bs : List Block) → IsDurable L.told L.may_leave old bs → IsDurable L.told L.may_leave new bs) → (L.tells → L.told new.device ≡ L.told old.device) → StaysKnown L.tells L disk new.device
+replayed_known L disk old new found same durable told = known_only L.tells L disk new.device (λ t. told t ∙ same t) (λ t. let d = found t in (durable t d.0 d.1).only)
+
+-- where nothing can be known of a disk, what is known of it stays so of any other
+pub known_unless : {D : Type 0} (tells : Type 0) (L : Ghosts D) (disk left : D) → Allows tells L disk MayMake → StaysKnown tells L disk left
+known_unless tells L disk left none b h = known_none tells L b left (none b h)
+
+pub ok_all : {A B : Type 0} (x : Result A B) (P : A → Type 0) → ((a : A) → P a) → IfOk x P
+ok_all (Ok a) P p = p a
+ok_all (Err b) P p = tt
+
+pub match_map : {A B : Type 0} (x : Result A B) (P P' : A → Type 0) (Q Q' : B → Type 0) → ((a : A) → P a → P' a) → ((b : B) → Q b → Q' b) → IfOk x P → IfErr x Q → MatchResult x P' Q'
+match_map (Ok a) P P' Q Q' p q h k = p a h
+match_map (Err b) P P' Q Q' p q h k = q b k
