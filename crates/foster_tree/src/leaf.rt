@@ -148,7 +148,7 @@ fn step<N: Life, J: Entering<N>, P: Pages<N, J>, R: Wait>(
 }
 
 /// Puts the page in hand back, and brings the one to which it leads.
-fn fetch<N: Life, J: Entering<N>, P: Pages<N, J>, R: Wait>(
+pub fn fetch<N: Life, J: Entering<N>, P: Pages<N, J>, R: Wait>(
     rt: &R,
     alloc: Global,
     pages: &mut P,
@@ -177,7 +177,7 @@ fn fetch<N: Life, J: Entering<N>, P: Pages<N, J>, R: Wait>(
 }
 
 /// Brings two pages anew that don't agree, one after the other.
-fn mend<N: Life, J: Entering<N>, P: Pages<N, J>, R: Wait>(
+pub fn mend<N: Life, J: Entering<N>, P: Pages<N, J>, R: Wait>(
     rt: &R,
     alloc: Global,
     pages: &mut P,

@@ -27,7 +27,7 @@ mod taking;
 mod value;
 mod way;
 
-pub use leaf::find_leaf;
+pub use leaf::{fetch, find_leaf, mend};
 pub use scan::scan_leafs;
 pub use seeing::{see_image, see_page};
 pub use taking::take;

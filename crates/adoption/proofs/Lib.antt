@@ -1,0 +1,10 @@
+pub mod PlacedRow
+pub mod BothPages
+pub mod AdoptedChild
+pub mod Composing
+pub mod Alone
+pub mod TidySteps
+pub mod Slots
+pub mod TidyAdoptions
+pub mod TreeCalls
+pub mod TidyDescents
