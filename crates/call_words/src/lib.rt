@@ -11,6 +11,3 @@ mod refusal;
 
 pub use call::{Call, Mode, call_of};
 pub use refusal::Refusal;
-
-#[cfg(test)]
-mod tests;

@@ -165,9 +165,22 @@ fn list_record<K: Sink>(
     sink: &mut K,
 ) -> Result<usize, Halt> {
     let (record, length) = record_in(alloc, bytes, byte, walk)?;
-    write_line(sink, record_line(alloc, lsn, &record)?)?;
-    if walk.add(lsn, &record)? {
-        Ok(length)
+    list_found(alloc, lsn, &record, byte, walk, sink)?;
+    Ok(length)
+}
+
+/// Lists a record, which begins at this byte of the block.
+fn list_found<K: Sink>(
+    alloc: Global,
+    lsn: Lsn,
+    record: &Record,
+    byte: u64,
+    walk: &mut Walk,
+    sink: &mut K,
+) -> Result<(), Halt> {
+    write_line(sink, record_line(alloc, lsn, record)?)?;
+    if walk.add(lsn, record)? {
+        Ok(())
     } else {
         Err(walk.bad_at(byte))
     }

@@ -18,6 +18,32 @@ struct Chunk<F> {
     written: bool,
 }
 
+impl<F: OpenFile + Read + Write + Seek> Chunk<F> {
+    /// Reads bytes from a place in it on.
+    fn read(&mut self, place: u64, out: &mut [u8]) -> io::Result<()>
+        ensures { length out.new ≡ length out.old }
+    {
+        self.file.seek(SeekFrom::Start(place))?;
+        self.file.read_exact(out)
+    }
+
+    /// Writes bytes from a place in it on.
+    fn write(&mut self, place: u64, bytes: &[u8]) -> io::Result<()> {
+        self.written = true;
+        self.file.seek(SeekFrom::Start(place))?;
+        self.file.write_all(bytes)
+    }
+
+    /// Makes what was written durable.
+    fn sync(&mut self) -> io::Result<()> {
+        if self.written {
+            self.file.sync_all()?;
+            self.written = false;
+        }
+        Ok(())
+    }
+}
+
 /// The chunk files, of which those that were written, and one more, are open.
 #[derive(Drop)]
 pub(crate) struct Chunks<'a, R: Files> {
@@ -75,9 +101,7 @@ impl<'a, R: Files> Chunks<'a, R> {
         let place = at % CHUNK;
         let count = within(place, out.len());
         let i = self.opened(at / CHUNK, false)?;
-        let chunk = &mut self.files[i];
-        chunk.file.seek(SeekFrom::Start(place))?;
-        chunk.file.read_exact(&mut out[..count])?;
+        self.files[i].read(place, &mut out[..count])?;
         Ok(count)
     }
 
@@ -89,29 +113,29 @@ impl<'a, R: Files> Chunks<'a, R> {
         let place = at % CHUNK;
         let count = within(place, bytes.len());
         let i = self.opened(at / CHUNK, true)?;
-        let chunk = &mut self.files[i];
-        chunk.written = true;
         if fresh && place == 0 {
-            chunk.file.set_len(0)?;
+            self.files[i].file.set_len(0)?;
         }
-        chunk.file.seek(SeekFrom::Start(place))?;
-        chunk.file.write_all(&bytes[..count])?;
+        self.files[i].write(place, &bytes[..count])?;
         Ok(count)
     }
 
     /// Makes all that was written durable.
     pub(crate) fn sync(&mut self) -> io::Result<()> {
         for chunk in self.files.iter_mut() {
-            if chunk.written {
-                chunk.file.sync_all()?;
-                chunk.written = false;
-            }
+            chunk.sync()?;
         }
+        self.sync_names()?;
+        self.close_all_but_last()
+    }
+
+    /// Makes the names that were made durable.
+    fn sync_names(&mut self) -> io::Result<()> {
         if self.named {
             self.folder.sync()?;
             self.named = false;
         }
-        self.close_all_but_last()
+        Ok(())
     }
 
     /// Removes the chunk files that end at or before an offset, as far as they can be removed.

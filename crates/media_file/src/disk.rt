@@ -39,12 +39,8 @@ impl<'a, R: Files> Model for FileDisk<'a, R> {
 impl<'a, R: Files> FileDisk<'a, R> {
     /// The disk in this folder, blank where the folder has no log.
     pub fn open(folder: Folder<'a, R>) -> io::Result<FileDisk<'a, R>> {
-        let start = start_in(&folder)?;
         let chunks = Chunks::new(folder.again()?);
-        let len = len_from(&chunks, start)?;
-        if start > len || len >= 1 << 63 {
-            return Err(io::Error::from(ErrorKind::InvalidData));
-        }
+        let (start, len) = extent_in(&folder, &chunks)?;
         Ok(FileDisk {
             folder,
             chunks,
@@ -53,6 +49,18 @@ impl<'a, R: Files> FileDisk<'a, R> {
             faults: Faults::none(),
         })
     }
+}
+
+/// The offsets of the first kept byte and behind the last one.
+fn extent_in<R: Files>(folder: &Folder<'_, R>, chunks: &Chunks<'_, R>) -> io::Result<(u64, u64)>
+    ensures { IfOk result (λ at. (at.0 ≤ at.1) × (at.1 < 2 ^ 63)) }
+{
+    let start = start_in(folder)?;
+    let len = len_from(chunks, start)?;
+    if start > len || len >= 1 << 63 {
+        return Err(io::Error::from(ErrorKind::InvalidData));
+    }
+    Ok((start, len))
 }
 
 /// The offset of the first kept byte, 0 where no file says it.
@@ -133,38 +141,29 @@ impl<'a, R: Files> Disk for FileDisk<'a, R> {
         } else {
             left as usize
         };
-        match self.chunks.read(at, &mut buf[..count]) {
-            Ok(()) => Ok(count),
-            Err(_) => Err(self.faults.fail()),
-        }
+        let outcome = self.chunks.read(at, &mut buf[..count]);
+        self.faults.told(outcome)?;
+        Ok(count)
     }
 
     fn write_at(&mut self, at: u64, bytes: &[u8]) -> Result<(), Failed> {
-        match self.chunks.write(at, bytes, self.len) {
-            Ok(()) => {
-                self.len = self.len.max(at + bytes.len() as u64);
-                Ok(())
-            }
-            Err(_) => Err(self.faults.fail()),
-        }
+        let outcome = self.chunks.write(at, bytes, self.len);
+        self.faults.told(outcome)?;
+        self.len = self.len.max(at + bytes.len() as u64);
+        Ok(())
     }
 
     fn sync(&mut self) -> Result<(), Failed> {
-        match self.chunks.sync() {
-            Ok(()) => Ok(()),
-            Err(_) => Err(self.faults.fail()),
-        }
+        let outcome = self.chunks.sync();
+        self.faults.told(outcome)
     }
 
     fn discard(&mut self, upto: u64) -> Result<(), Failed> {
-        match keep_from(&self.folder, upto) {
-            Ok(()) => {
-                self.chunks.forget(self.start, upto);
-                self.start = upto;
-                Ok(())
-            }
-            Err(_) => Err(self.faults.fail()),
-        }
+        let outcome = keep_from(&self.folder, upto);
+        self.faults.told(outcome)?;
+        self.chunks.forget(self.start, upto);
+        self.start = upto;
+        Ok(())
     }
 
     fn power_cycle(&mut self, _keep: u64) {}

@@ -2,7 +2,7 @@
 ghost use Rattle.std.specs.Prelude.{◌≤◌, length, IfOk, IsTrue, OnOk};
 
 use std::alloc::{AllocError, Global};
-use std::fs::{OpenFile, OpenOptions};
+use std::fs::{OpenFile, OpenOptions, ReadDir};
 use std::io::{ErrorKind, Read, Write};
 use std::rt::Files;
 use std::{fs, io};
@@ -52,16 +52,22 @@ impl<'a, R: Files> Folder<'a, R> {
     /// The folder of this name within it, which is made where it isn't there and may be.
     pub fn inner(&self, name: &str) -> io::Result<Folder<'a, R>> {
         let path = self.place(name)?;
-        if self.writes && !fs::exists(self.rt, path.as_str())? {
-            fs::create_dir(self.rt, path.as_str())?;
-            self.sync()?;
-        }
+        self.make_folder(path.as_str())?;
         Ok(Folder {
             rt: self.rt,
             alloc: self.alloc,
             path,
             writes: self.writes,
         })
+    }
+
+    /// Makes a folder within it, where none is there and one may be made.
+    fn make_folder(&self, path: &str) -> io::Result<()> {
+        if !self.writes || fs::exists(self.rt, path)? {
+            return Ok(());
+        }
+        fs::create_dir(self.rt, path)?;
+        self.sync()
     }
 
     /// What allocates for the folder's names.
@@ -87,16 +93,7 @@ impl<'a, R: Files> Folder<'a, R> {
 
     /// The file of this name, None where it isn't there.
     pub(crate) fn find(&self, name: &str) -> io::Result<Option<R::File>> {
-        match self.open(name, false) {
-            Ok(file) => Ok(Some(file)),
-            Err(error) => {
-                if error.kind() == ErrorKind::NotFound {
-                    Ok(None)
-                } else {
-                    Err(error)
-                }
-            }
-        }
+        found(self.open(name, false))
     }
 
     /// Makes the names in it durable. Where it is read alone there is nothing to do.
@@ -112,11 +109,16 @@ impl<'a, R: Files> Folder<'a, R> {
     pub(crate) fn put(&self, name: &str, bytes: &[u8]) -> io::Result<()> {
         self.may_change()?;
         let beside = format!(in self.alloc; "{}/{}.new", self.path, name)?;
-        let mut file = fs::create(self.rt, beside.as_str())?;
-        file.write_all(bytes)?;
-        file.sync_all()?;
+        self.put_file(beside.as_str(), bytes)?;
         let path = self.place(name)?;
         fs::rename(self.rt, beside.as_str(), path.as_str())
+    }
+
+    /// Makes a file of these bytes, which are durable then.
+    fn put_file(&self, path: &str, bytes: &[u8]) -> io::Result<()> {
+        let mut file = fs::create(self.rt, path)?;
+        file.write_all(bytes)?;
+        file.sync_all()
     }
 
     /// Removes the file of this name.
@@ -142,23 +144,32 @@ impl<'a, R: Files> Folder<'a, R> {
     where
         R: AllocGlobal + Clone + Drop,
     {
-        let mut names = Vec::new(self.alloc);
-        let entries = match fs::read_dir(self.rt, self.path.as_str()) {
-            Ok(entries) => entries,
-            Err(error) => {
-                return if error.kind() == ErrorKind::NotFound {
-                    Ok(names)
-                } else {
-                    Err(error)
-                };
-            }
-        };
-        for entry in entries {
-            let entry = entry?;
-            names.push(String::from_str(self.alloc, entry.file_name())?)?;
+        match found(fs::read_dir(self.rt, self.path.as_str()))? {
+            Some(entries) => names_of(self.alloc, entries),
+            None => Ok(Vec::new(self.alloc)),
         }
-        Ok(names)
     }
+}
+
+/// What a call found, None where it isn't there.
+fn found<T: Drop>(outcome: io::Result<T>) -> io::Result<Option<T>> {
+    match outcome {
+        Ok(it) => Ok(Some(it)),
+        Err(error) if error.kind() == ErrorKind::NotFound => Ok(None),
+        Err(error) => Err(error),
+    }
+}
+
+/// The names of a folder's files.
+fn names_of<R: Files + AllocGlobal + Clone + Drop>(
+    alloc: Global,
+    entries: ReadDir<R, Global>,
+) -> io::Result<Vec<String>> {
+    let mut names = Vec::new(alloc);
+    for entry in entries {
+        names.push(String::from_str(alloc, entry?.file_name())?)?;
+    }
+    Ok(names)
 }
 
 /// Reads until the buffer is full or the file ends.

@@ -24,6 +24,3 @@ pub use folder::Folder;
 pub use pages::FilePages;
 pub use streams::{StreamSink, StreamSource};
 pub use vault::FileVault;
-
-#[cfg(test)]
-mod tests;

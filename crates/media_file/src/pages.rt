@@ -98,31 +98,23 @@ impl<F: io::Read + Write + Seek + OpenFile + Drop> PageDevice for FilePages<F> {
     ghost newest_told = { λ d p image is. none-some image is };
 
     fn read(&mut self, page: PageNo, out: &mut PageBytes) -> Result<(), Failed> {
-        match read_page(&mut self.file, page, out) {
-            Ok(()) => Ok(()),
-            Err(_) => Err(self.faults.fail()),
-        }
+        let outcome = read_page(&mut self.file, page, out);
+        self.faults.told(outcome)
     }
 
     fn write(&mut self, page: PageNo, bytes: &PageBytes) -> Result<(), Failed> {
-        match write_page(&mut self.file, page, bytes) {
-            Ok(()) => Ok(()),
-            Err(_) => Err(self.faults.fail()),
-        }
+        let outcome = write_page(&mut self.file, page, bytes);
+        self.faults.told(outcome)
     }
 
     fn replace(&mut self) -> Result<(), Failed> {
-        match self.file.set_len(0) {
-            Ok(()) => Ok(()),
-            Err(_) => Err(self.faults.fail()),
-        }
+        let outcome = self.file.set_len(0);
+        self.faults.told(outcome)
     }
 
     fn spoil(&mut self, page: PageNo) -> Result<(), Failed> {
-        match write_page(&mut self.file, page, &[0u8; 4096]) {
-            Ok(()) => Ok(()),
-            Err(_) => Err(self.faults.fail()),
-        }
+        let outcome = write_page(&mut self.file, page, &[0u8; 4096]);
+        self.faults.told(outcome)
     }
 
     fn fuse(&mut self, _n: Option<u64>) {}

@@ -5,7 +5,7 @@ ghost use Rattle.std.specs.Io.{ReadsAtMost};
 use crate::faults::Faults;
 use crate::folder::{Folder, read_full};
 use media::{Failed, Vault};
-use std::alloc::AllocError;
+use std::alloc::{AllocError, Global};
 use std::io;
 use std::io::{Seek, SeekFrom};
 use std::marker::Model;
@@ -41,13 +41,8 @@ impl<'a, R: Files> FileVault<'a, R> {
     where
         R: AllocGlobal + Clone + Drop,
     {
-        let mut objects = Vec::new(self.folder.alloc());
-        for name in self.folder.names()?.iter() {
-            if let Some(object) = object_of(name.as_str()) {
-                objects.push(object)?;
-            }
-        }
-        Ok(objects)
+        let names = self.folder.names()?;
+        Ok(objects_of(self.folder.alloc(), names.as_slice())?)
     }
 
     /// The name of an object's file.
@@ -66,33 +61,61 @@ impl<'a, R: Files> FileVault<'a, R> {
         ensures { ReadsAtMost result buf.new }
     {
         match self.folder.find(self.file_of(name)?.as_str())? {
-            Some(mut file) => {
-                file.seek(SeekFrom::Start(from))?;
-                read_full(&mut file, buf)
-            }
+            Some(mut file) => read_from(&mut file, from, buf),
             None => Ok(0),
         }
     }
 }
 
+/// Reads from an offset on until the buffer is full or the file ends.
+fn read_from<F: io::Read + Seek>(file: &mut F, from: u64, buf: &mut [u8]) -> io::Result<usize>
+    ensures { ReadsAtMost result buf.new }
+{
+    file.seek(SeekFrom::Start(from))?;
+    read_full(file, buf)
+}
+
+/// The objects whose files have these names.
+fn objects_of(alloc: Global, names: &[String]) -> Result<Vec<ObjectName>, AllocError> {
+    let mut objects = Vec::new(alloc);
+    for name in names {
+        if let Some(object) = object_of(name.as_str()) {
+            objects.push(object)?;
+        }
+    }
+    Ok(objects)
+}
+
 /// The object whose file has this name.
 fn object_of(name: &str) -> Option<ObjectName> {
     match name.split_once('-')? {
-        ("run", id) => Some(ObjectName {
-            kind: ObjectKind::Run,
-            id: number_in(id.as_bytes())?,
-            part: 0,
-        }),
-        ("bak", rest) => {
-            let (id, part) = rest.split_once('-')?;
-            Some(ObjectName {
-                kind: ObjectKind::Backup,
-                id: number_in(id.as_bytes())?,
-                part: u32::try_from(number_in(part.as_bytes())?).ok()?,
-            })
-        }
+        ("run", id) => run_of(id),
+        ("bak", rest) => backup_of(rest),
         _ => None,
     }
+}
+
+/// The run with the number that a text spells.
+fn run_of(id: &str) -> Option<ObjectName> {
+    Some(ObjectName {
+        kind: ObjectKind::Run,
+        id: number_in(id.as_bytes())?,
+        part: 0,
+    })
+}
+
+/// The part of a backup whose numbers a text spells.
+fn backup_of(text: &str) -> Option<ObjectName> {
+    let (id, part) = text.split_once('-')?;
+    Some(ObjectName {
+        kind: ObjectKind::Backup,
+        id: number_in(id.as_bytes())?,
+        part: part_of(part)?,
+    })
+}
+
+fn part_of(text: &str) -> Option<u32> {
+    u32::try_from(number_in(text.as_bytes())?).ok()
 }
 
 impl<'a, R: Files> Vault for FileVault<'a, R> {
@@ -114,24 +137,18 @@ impl<'a, R: Files> Vault for FileVault<'a, R> {
     ghost fuses = { ⊥ };
 
     fn put(&mut self, name: ObjectName, bytes: &[u8]) -> Result<(), Failed> {
-        match self.put_object(name, bytes) {
-            Ok(()) => Ok(()),
-            Err(_) => Err(self.faults.fail()),
-        }
+        let outcome = self.put_object(name, bytes);
+        self.faults.told(outcome)
     }
 
     fn sync(&mut self) -> Result<(), Failed> {
-        match self.folder.sync() {
-            Ok(()) => Ok(()),
-            Err(_) => Err(self.faults.fail()),
-        }
+        let outcome = self.folder.sync();
+        self.faults.told(outcome)
     }
 
     fn get(&mut self, name: ObjectName, from: u64, buf: &mut [u8]) -> Result<usize, Failed> {
-        match self.get_object(name, from, buf) {
-            Ok(count) => Ok(count),
-            Err(_) => Err(self.faults.fail()),
-        }
+        let outcome = self.get_object(name, from, buf);
+        self.faults.told(outcome)
     }
 
     fn power_cycle(&mut self) {}

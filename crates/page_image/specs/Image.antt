@@ -4,6 +4,7 @@ use Rattle.std.specs.Int.{w8, w32, w64}
 use Rattle.sha2.specs.Sha256.{sha256}
 use Rattle.wal_record.specs.Spelling.{number_bytes, state_bytes}
 use Rattle.wal_record.specs.declared.page.PageState.{PageState}
+use Rattle.page_image.specs.declared.layout.TheConstants.{BODY_BYTES}
 
 -- of all bytes but the first 32 (FIPS 180-4)
 abbrev pub digest_of : List ℕ → List ℕ
@@ -11,7 +12,7 @@ digest_of bytes = sha256 (drop 32 bytes)
 
 -- zero bytes behind these, up to the end of a page without its digest
 abbrev pub padded : List ℕ → List ℕ
-padded bytes = bytes ++ replicate (4064 - length bytes) 0
+padded bytes = bytes ++ replicate (BODY_BYTES - length bytes) 0
 
 -- the format's number, the page's number and its LSN
 abbrev pub head_bytes : ℕ → ℕ → List ℕ

@@ -2,24 +2,27 @@
 ghost use Rattle.std.specs.Prelude.{◌≡◌, ◌≤◌, ◌<◌, ◌+◌, ◌++◌, [], length};
 ghost use Rattle.std.specs.Int.{w8, w16, w32, w64};
 ghost use Rattle.wal_record.specs.Spelling.{number_bytes, text_bytes, value_bytes};
+ghost use Rattle.page_image.specs.declared.layout.TheConstants.{BODY_BYTES};
 
+use crate::layout::BODY_BYTES;
 use arrayvec::ArrayVec;
 use std::marker::Model;
 
-/// The bytes written so far, at most 4,064. It takes no memory.
+/// The bytes written so far, at most [`BODY_BYTES`]. It takes no memory.
 #[derive(Drop)]
 pub struct Draft {
-    bytes: ArrayVec<u8, 4064>,
+    bytes: ArrayVec<u8, BODY_BYTES>,
 }
 
 impl Model for Draft {
     ghost use Rattle.std.specs.Prelude.{List, ℕ, ◌≤◌, length};
+    ghost use Rattle.page_image.specs.declared.layout.TheConstants.{BODY_BYTES};
 
     ghost Value = { List ℕ };
 
     ghost view = { λ d. d.bytes.items };
 
-    ghost invariant = { λ d. length d.bytes.items ≤ 4064 };
+    ghost invariant = { λ d. length d.bytes.items ≤ BODY_BYTES };
 }
 
 impl Draft {
@@ -35,14 +38,14 @@ impl Draft {
     /// Its bytes.
     pub fn as_bytes(&self) -> &[u8]
         ensures bytes { result.now ≡ self.now }
-        ensures fits { length result.now ≤ 4064 }
+        ensures fits { length result.now ≤ BODY_BYTES }
     {
         self.bytes.as_slice()
     }
 
     /// Appends bytes.
     pub fn put(&mut self, piece: &[u8])
-        requires { length self.old + length piece.now ≤ 4064 }
+        requires { length self.old + length piece.now ≤ BODY_BYTES }
         ensures bytes { self.new ≡ self.old ++ piece.now }
         ensures len { length self.new ≡ length self.old + length piece.now }
     {
@@ -55,7 +58,7 @@ impl Draft {
     /// Appends a byte.
     #[tactic(auto, unfolding(wal_record::specs::Spelling::number_bytes))]
     pub fn put_u8(&mut self, n: u8)
-        requires { length self.old + 1 ≤ 4064 }
+        requires { length self.old + 1 ≤ BODY_BYTES }
         ensures bytes { self.new ≡ self.old ++ number_bytes w8 n }
         ensures len { length self.new ≡ length self.old + 1 }
     {
@@ -65,7 +68,7 @@ impl Draft {
     /// Appends a number in two bytes.
     #[tactic(auto, unfolding(wal_record::specs::Spelling::number_bytes))]
     pub fn put_u16(&mut self, n: u16)
-        requires { length self.old + 2 ≤ 4064 }
+        requires { length self.old + 2 ≤ BODY_BYTES }
         ensures bytes { self.new ≡ self.old ++ number_bytes w16 n }
         ensures len { length self.new ≡ length self.old + 2 }
     {
@@ -75,7 +78,7 @@ impl Draft {
     /// Appends a number in four bytes.
     #[tactic(auto, unfolding(wal_record::specs::Spelling::number_bytes))]
     pub fn put_u32(&mut self, n: u32)
-        requires { length self.old + 4 ≤ 4064 }
+        requires { length self.old + 4 ≤ BODY_BYTES }
         ensures bytes { self.new ≡ self.old ++ number_bytes w32 n }
         ensures len { length self.new ≡ length self.old + 4 }
     {
@@ -85,7 +88,7 @@ impl Draft {
     /// Appends a number in eight bytes.
     #[tactic(auto, unfolding(wal_record::specs::Spelling::number_bytes))]
     pub fn put_u64(&mut self, n: u64)
-        requires { length self.old + 8 ≤ 4064 }
+        requires { length self.old + 8 ≤ BODY_BYTES }
         ensures bytes { self.new ≡ self.old ++ number_bytes w64 n }
         ensures len { length self.new ≡ length self.old + 8 }
     {
@@ -96,7 +99,7 @@ impl Draft {
     #[tactic(auto, unfolding(wal_record::specs::Spelling::text_bytes))]
     pub fn put_text(&mut self, text: &[u8])
         requires short { length text.now < 256 }
-        requires room { length self.old + 1 + length text.now ≤ 4064 }
+        requires room { length self.old + 1 + length text.now ≤ BODY_BYTES }
         ensures bytes { self.new ≡ self.old ++ text_bytes text.now }
         ensures len { length self.new ≡ length self.old + 1 + length text.now }
     {
@@ -108,7 +111,7 @@ impl Draft {
     #[tactic(auto, unfolding(wal_record::specs::Spelling::value_bytes))]
     pub fn put_value(&mut self, value: &[u8])
         requires short { length value.now ≤ 256 }
-        requires room { length self.old + 2 + length value.now ≤ 4064 }
+        requires room { length self.old + 2 + length value.now ≤ BODY_BYTES }
         ensures bytes { self.new ≡ self.old ++ value_bytes value.now }
         ensures len { length self.new ≡ length self.old + 2 + length value.now }
     {

@@ -12,6 +12,7 @@
 mod digest;
 mod draft;
 mod fault;
+mod layout;
 mod opening;
 mod sealed;
 mod sealing;
@@ -21,6 +22,3 @@ pub use fault::PageFault;
 pub use opening::open_page;
 pub use sealed::Sealed;
 pub use sealing::seal;
-
-#[cfg(test)]
-mod tests;

@@ -11,6 +11,7 @@ ghost use Rattle.page_image.specs.Reading.{is_format, is_page_number, is_zero, z
 
 use crate::digest::sha_of;
 use crate::fault::PageFault;
+use crate::layout::DIGEST_BYTES;
 use crate::sealed::Sealed;
 use media::PageBytes;
 use state_codec::{FieldFault, number_at, state_at, u8_at, u32_at, u32_in_front};
@@ -27,7 +28,7 @@ pub fn open_page(alloc: Global, bytes: &PageBytes, page: PageNo) -> Result<Seale
     if !verifies(bytes) {
         return Err(PageFault::Digest);
     }
-    let (_, body) = bytes.split_at(32);
+    let (_, body) = bytes.split_at(DIGEST_BYTES);
     if number_in(body) != page {
         return Err(PageFault::Number);
     }
@@ -40,11 +41,11 @@ pub fn open_page(alloc: Global, bytes: &PageBytes, page: PageNo) -> Result<Seale
     }
 }
 
-/// Whether the first 32 bytes are the digest of the others.
+/// Whether the bytes in front are the digest of the others.
 fn verifies(bytes: &PageBytes) -> bool
     ensures { (result ≡ true) ↔ Verifies bytes.now }
 {
-    let (digest, body) = bytes.split_at(32);
+    let (digest, body) = bytes.split_at(DIGEST_BYTES);
     let right = sha_of(body);
     digest == right.as_slice()
 }

@@ -3,9 +3,11 @@ ghost use Rattle.std.specs.Prelude.{◌≡◌, ◌++◌, ◌≤◌, ◌+◌, len
 ghost use Rattle.wal_record.specs.State.{KeepsState};
 ghost use Rattle.wal_record.specs.Spelling.{state_bytes};
 ghost use Rattle.page_image.specs.Image.{head_bytes, padded, image_bytes, digest_of, sealed_body};
+ghost use Rattle.page_image.specs.declared.layout.TheConstants.{BODY_BYTES};
 
 use crate::digest::sha_of;
 use crate::draft::Draft;
+use crate::layout::{DIGEST_BYTES, IMAGE_BYTES};
 use crate::writing::put_state;
 use media::PageBytes;
 use store_model::{Lsn, PageNo};
@@ -36,11 +38,11 @@ fn drafted(state: &PageState, page: PageNo, lsn: Lsn) -> Draft
 
 /// These bytes with zero bytes behind them, and their digest in front.
 fn framed(body: &[u8]) -> PageBytes
-    requires { length body.now ≤ 4064 }
+    requires { length body.now ≤ BODY_BYTES }
     ensures { result ≡ sealed_body (padded body.now) }
 {
-    let mut bytes = [0u8; 4096];
-    put(&mut bytes, 32, body);
+    let mut bytes = [0u8; IMAGE_BYTES];
+    put(&mut bytes, DIGEST_BYTES, body);
     let digest = digest_of(&bytes);
     put(&mut bytes, 0, &digest);
     bytes
@@ -49,7 +51,7 @@ fn framed(body: &[u8]) -> PageBytes
 fn digest_of(bytes: &PageBytes) -> [u8; 32]
     ensures { result ≡ digest_of bytes.now }
 {
-    let (_, body) = bytes.split_at(32);
+    let (_, body) = bytes.split_at(DIGEST_BYTES);
     sha_of(body)
 }
 

@@ -21,6 +21,3 @@ pub use line::command_of;
 pub use name::Name;
 pub use token::is_plain;
 pub use word::{cut, first_word};
-
-#[cfg(test)]
-mod tests;

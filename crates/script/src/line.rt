@@ -9,7 +9,7 @@ use crate::name::Name;
 use crate::request::{request_of_one, request_of_three, request_of_two};
 use crate::word::cut;
 use std::alloc::{AllocError, Global};
-use store_model::{Request, number_in};
+use store_model::{LEAST_LIMIT, MOST_PAGES, Request, number_in};
 
 #[tactic(auto, unfolding(crate::specs::Line::upkeep))]
 fn upkeep(word: &[u8]) -> Option<Command>
@@ -58,13 +58,15 @@ fn with_number(word: &[u8], first: &[u8]) -> Option<Command>
     ensures { result ≡ with_number word.now first.now }
 {
     if word == b"format".as_slice() {
-        number_from(8, 16_384, first).map(|limit| Command::Format { limit: Some(limit) })
+        number_from(LEAST_LIMIT, MOST_PAGES, first).map(|limit| Command::Format {
+            limit: Some(limit),
+        })
     } else if word == b"help".as_slice() {
         number_from(1, 1_000_000, first).map(|steps| Command::Help { steps })
     } else if word == b"stop".as_slice() {
         number_in(first).map(|keep| Command::Stop { keep: Some(keep) })
     } else if word == b"damage".as_slice() {
-        number_from(1, 16_384, first).map(|page| Command::Damage { page })
+        number_from(1, MOST_PAGES, first).map(|page| Command::Damage { page })
     } else if word == b"worker".as_slice() {
         number_from(1, 1_000, first).map(|transactions| Command::Worker { transactions })
     } else {

@@ -1,7 +1,7 @@
 //! Images worked out by hand from the table of fields, with digests that another program computed.
-use crate::digest::sha_of;
-use crate::{PageFault, Sealed, open_page, seal};
 use media::PageBytes;
+use page_image::{PageFault, Sealed, open_page, seal};
+use sha2::{Digest, Sha256};
 use std::alloc::Global;
 use std::test::Fail;
 use store_model::PageNo;
@@ -31,6 +31,13 @@ const FULL_DIGEST: &[u8] =
     b"\xd9\x1a\xdb\xdf\x98j\xb5\x838\x9f\xd1\xf5\x86\x86\xe4\xff\xab#\x9b3\xb6`U\xb5\xbf]C\xabXR\x22\xbf";
 
 const KEYS: &[u8] = b"abcdefghijklmno";
+
+/// The digest of these bytes.
+fn sha_of(body: &[u8]) -> [u8; 32] {
+    let mut hasher = Sha256::new();
+    hasher.update(body);
+    hasher.finalize()
+}
 
 /// Lays bytes over the first ones of others.
 fn lay(over: &mut [u8], bytes: &[u8]) {
