@@ -1,0 +1,17 @@
+//! The vault of a life, by what a pass has seen: an object that the log names reads as the log says.
+//!
+//! A record says that a backup of a segment, or an archive run, is durable. So it names an object, and what stands in the log
+//! before it determines the object's bytes: the pages' images at the LSNs that the record tells, or the records of the
+//! run's range that name pages (`specs/Named`). Whoever reads an object, to repair a page or to restore a segment (Graefe, Guy
+//! and Sauer 2015), gets exactly these bytes.
+//!
+//! [`Objects`] is the vault of a life, whether one thread owns it or threads share it under a lock. [`OwnObjects`] is one
+//! that a thread owns, over any vault of media. It has the right to maintenance, without which no record names an object; so
+//! at each moment it knows all objects that are named.
+#![tactic(auto)]
+
+mod objects;
+mod own_objects;
+
+pub use objects::Objects;
+pub use own_objects::OwnObjects;
