@@ -1,17 +1,17 @@
 -- What a caller knows where a call finds the life ended, wants memory, or meets a fault of the log disk.
 use Rattle.std.proofs.Common.{◌≡◌, ℕ, ◌+◌, ◌<◌, List, [], length, Option, Some, None, refl, sym, ap, ◌∙◌, subst, inl, inr, arith}
-use Rattle.std.specs.Prelude.{◌⊎◌, IfSome, IsTrue, is_some}
+use Rattle.std.specs.Prelude.{◌⊎◌, IfSome, IsTrue, is_some, IfErr, Result, Ok, Err}
 use Rattle.front.specs.Seen.{PassSeen}
 use Rattle.store_model.specs.declared.fault.Fault.{Fault}
 use Rattle.store_model.specs.declared.fault.Fault.TheVariants as faults
 use Rattle.wal_record.specs.declared.record.Record.{Record}
 use Rattle.wal_record.specs.declared.entry.Entry.{Entry}
 use Rattle.life_history.specs.Kept.{counted_more}
-use Rattle.page_ops.specs.Causes.{IsOpen, MeetsNoEnd, EndsBy, FailsToEnter, FailsToFlush}
+use Rattle.page_ops.specs.Causes.{Ends, IsOpen, MeetsNoEnd, EndsBy, FailsToEnter, FailsToFlush}
 use Rattle.page_ops.specs.Claims.{Claims}
 use Rattle.page_ops.specs.Names.{LedgerName}
 use Rattle.page_ops.specs.Seeing.{Account, Counted, known, Keeps, Enters, of_sessions}
-use Rattle.journal.specs.Ends.{IsToldEnd, IsStopped, IsFailed}
+use Rattle.journal.specs.Ends.{EndsCall, IsToldEnd, IsStopped, IsFailed, IsUnread}
 
 kept_end : (was : Option ℕ) (at : ℕ) → (was ≡ None) ⊎ (was ≡ Some at) → IfSome was (λ x. Some at ≡ Some x)
 kept_end None at is = tt
@@ -146,3 +146,25 @@ stopped_refuses log_faults other a0 a1 _ is = absurd is
 pub told_refuses : (log_faults : LedgerName) (a0 a1 : Account) (f : Fault) → IsToldEnd log_faults a0 a1 f → FailsToFlush f
 told_refuses log_faults a0 a1 (faults.Ended at) is = tt
 told_refuses log_faults a0 a1 _ is = absurd is
+
+-- ---- calls of the log's disk
+
+none_more : (a : Account) → a ≡ counted_more a 0
+none_more a =
+    let own : a.entries.amount ≡ a.entries.amount + 0 = omega arith in
+    let belonging : a.session_entries.amount ≡ a.session_entries.amount + 0 = omega arith in
+    λ i. record a { entries = record { parts = a.entries.parts; amount = own i }; session_entries = record { parts = a.session_entries.parts; amount = belonging i } }
+
+module _ (ended : Option ℕ) (before after : ℕ) (a0 a1 a2 : Account) (same : a1 ≡ a0) (goes : IsOpen a0) where
+  pub called : {A : Type 0} (opens : List Record → Type 0) (entries sessions log_faults : LedgerName) (s0 s1 : PassSeen Entry) (x0 x1 : Claims) (result : Result A Fault) → Enters opens entries sessions (known a0 s0 x0) [] (known a1 s1 x1)
+      → EndsCall ended before after a1 a2 result → Enters opens entries sessions (known a0 s0 x0) [] (known a2 s1 x1)
+  called opens entries sessions log_faults s0 s1 x0 x1 (Ok x) e g = subst (λ (a : Account). Enters opens entries sessions (known a0 s0 x0) [] (known a s1 x1)) (sym g.counts) e
+  called opens entries sessions log_faults s0 s1 x0 x1 (Err faults.LogFault) e b = failed opens entries sessions log_faults a0 a1 a2 s0 s1 x0 x1 0 [] e (none_more a1 ∙ ap (λ (a : Account). counted_more a 0) same) goes.0 b.failed
+  called opens entries sessions log_faults s0 s1 x0 x1 (Err _) e g = subst (λ (a : Account). Enters opens entries sessions (known a0 s0 x0) [] (known a s1 x1)) (sym g.counts) e
+
+  pub called_ends : {A : Type 0} (opens : List Record → Type 0) (log_faults made : LedgerName) (h : List Entry) (result : Result A Fault) → EndsCall ended before after a1 a2 result → IfErr result IsUnread → Ends opens log_faults made a0 a2 h result
+  called_ends opens log_faults made h (Ok x) g unread = (goes, subst IsOpen (sym (g.counts ∙ same)) goes)
+  called_ends opens log_faults made h (Err faults.LogFault) b unread = failed_ends a0 a1 a2 0 (none_more a1 ∙ ap (λ (a : Account). counted_more a 0) same) goes b.failed
+  called_ends opens log_faults made h (Err faults.Memory) g unread = subst (MeetsNoEnd a0) (sym (g.counts ∙ same)) (record { ended = refl; amount = refl })
+  called_ends opens log_faults made h (Err (faults.LogBad block byte)) g unread = (goes, subst IsOpen (sym (g.counts ∙ same)) goes)
+  called_ends opens log_faults made h (Err _) g unread = absurd unread

@@ -5,5 +5,6 @@ pub mod Ending
 pub mod Entering
 pub mod Living
 pub mod Locking
+pub mod Lookup
 pub mod Starting
 pub mod Grouping

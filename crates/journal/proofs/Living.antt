@@ -28,7 +28,10 @@ use Rattle.life_history.specs.Kept.{commit_entry}
 use Rattle.life_history.proofs.Grouped.{log_group}
 use Rattle.page_ops.specs.Groups.{group_entries}
 use Rattle.listed_log.specs.Listed.{HoldsEnd, IsLogWith}
+use Rattle.journal.specs.Ends.{EndsCall, GoesOn}
 use Rattle.journal.specs.Kept.{IsOfLife, EndsByFault, IsKept}
+use Rattle.page_ops.specs.Seeing.{Account}
+use Rattle.store_model.specs.declared.fault.Fault.TheVariants as answers
 use Rattle.journal.specs.Locks.{AreHeld}
 use Rattle.journal.specs.Groups.{IsNext}
 use Rattle.journal.proofs.Locking.{held_same}
@@ -81,6 +84,7 @@ module _ {D : Type 0} (opens : List Record → Type 0) (tells : Type 0) (told : 
         records = λ opening stands. subst (λ (l : List Record). IsLogWith tells told may_leave l m s) (sym (log opening)) (k.records opening stands);
         locks = subst (λ (l : List Entry). AreHeld l t') (sym now) locks;
         losers = k.losers;
+        telling = k.telling;
         places = record {
           commits = let c = k.places.commits in omega (arith, c, live);
           numbers = λ opening stands. let n = k.places.numbers opening stands in omega (arith, n, live, ap (λ (l : List Record). length l) (log opening));
@@ -96,6 +100,7 @@ module _ {D : Type 0} (opens : List Record → Type 0) (tells : Type 0) (told : 
         records = λ opening stands. subst (λ (x : Listing). IsLogWith tells told may_leave (life_log opening h) m' x) (sym listing) (same_blocks tells told may_leave (life_log opening h) m m' s (k.records opening stands) same);
         locks = k.locks;
         losers = k.losers;
+        telling = k.telling;
         places = record {
           commits = let c = k.places.commits in omega (arith, c, ap (λ (x : Managed D). x.spare) room);
           numbers = k.places.numbers;
@@ -114,6 +119,7 @@ module _ {D : Type 0} (opens : List Record → Type 0) (tells : Type 0) (told : 
         records = λ opening stands. subst (λ (l : List Record). IsLogWith tells told may_leave l m' s') (sym (log opening)) (roomy.records opening stands);
         locks = λ l. subst (λ (ls : List Held). table.Holds t l ↔ IsAmong (held l.range l.mode) ls) (sym (ap (λ x. taken_locks x l.tx) now ∙ taken_push h (entries.Began session tx) l.tx)) (k.locks l);
         losers = k.losers;
+        telling = k.telling;
         places = record {
           commits = let c = k.places.commits in let one = ap (λ (x : Managed D). x.spare) room in let more = live.0 in omega (arith, c, one, more);
           numbers = λ opening stands. let n = (k.records opening stands).next in let most = live.1 in omega (arith, n, few, most, ap (λ (l : List Record). length l) (log opening));
@@ -131,6 +137,7 @@ module _ {D : Type 0} (opens : List Record → Type 0) (tells : Type 0) (told : 
         records = λ opening stands. subst (λ (l : List Record). IsLogWith tells told may_leave l m' s') (sym (log opening)) (records opening stands);
         locks = λ l. subst (λ (ls : List Held). table.Holds t l ↔ IsAmong (held l.range l.mode) ls) (sym (ap (λ x. taken_locks x l.tx) now ∙ locks_group h lsn recs said still l.tx)) (k.locks l);
         losers = k.losers;
+        telling = k.telling;
         places = record {
           commits = let c = k.places.commits in let same = live.0 in omega (arith, c, spare, same);
           numbers = λ opening stands.
@@ -161,6 +168,7 @@ module _ {D : Type 0} (opens : List Record → Type 0) (tells : Type 0) (told : 
         records = λ opening stands. subst (λ (l : List Record). IsLogWith tells told may_leave l m' s') (sym (log opening)) (records opening stands);
         locks = subst (λ (l : List Entry). AreHeld l t') (sym now) (released t' lsn tx prev free);
         losers = k.losers;
+        telling = k.telling;
         places = record {
           commits = let c = k.places.commits in omega (arith, c, spare, live);
           numbers = λ opening stands.
@@ -180,6 +188,7 @@ life_flush opens tells told may_leave h m m' s s' t mark mark' durable k runs sa
   records = λ opening stands. same (life_log opening h) (k.records opening stands);
   locks = k.locks;
   losers = k.losers;
+  telling = k.telling;
   places = record { commits = subst (λ n. live_count h ≤ n) (sym spare) k.places.commits; numbers = k.places.numbers };
   durable = λ opening stands tell _.
       let more = rises (life_log opening h) (k.records opening stands) tell runs in
@@ -248,6 +257,7 @@ module _ {D : Type 0} (opens : List Record → Type 0) (tells : Type 0) (told : 
       records = records;
       locks = k.life.locks;
       losers = k.life.losers;
+      telling = k.life.telling;
       places = record { commits = let c = k.life.places.commits in omega (arith, c, spare); numbers = k.life.places.numbers };
       durable = λ opening stands tell runs. subst (λ ps. mark ≤ durable_lsn ps) (sym places) (k.life.durable opening stands tell (sym ended ∙ runs));
     };
@@ -261,6 +271,49 @@ module _ {D : Type 0} (opens : List Record → Type 0) (tells : Type 0) (told : 
   -- where nothing is entered, the locks may stand otherwise in their table
   pub kept_locks : h' ≡ h → table.HoldsTheSame t t' → IsKept opens tells told may_leave h' m s t' mark faults'
   kept_locks now held = subst (λ (x : List Entry × ℕ). IsKept opens tells told may_leave x.0 m s t' mark x.1) (λ i. (sym now i, sym same i)) (record {
-    life = record { records = k.life.records; locks = held_same h t k.life.locks t' held; losers = k.life.losers; places = k.life.places; durable = k.life.durable };
+    life = record { records = k.life.records; locks = held_same h t k.life.locks t' held; losers = k.life.losers; telling = k.life.telling; places = k.life.places; durable = k.life.durable };
     ends = k.ends;
   })
+
+-- a call of the log's disk that enters nothing
+goes_on : (was ended : Option ℕ) (h : List Entry) (faults before faults' : ℕ) (old new : Account) → EndsByFault was h faults → was ≡ None → before ≡ faults → GoesOn ended before faults' old new → EndsByFault ended h faults'
+goes_on was ended h faults before faults' old new k runs same g = record {
+  acknowledged = λ _. k.acknowledged runs;
+  none = λ _. g.faults ∙ same ∙ k.none runs;
+  one = λ over. absurd (cc (over, ap is_some g.runs));
+}
+
+ends_call : {A : Type 0} (was ended : Option ℕ) (h : List Entry) (faults before faults' : ℕ) (old new : Account) (result : Result A Fault) → EndsByFault was h faults → was ≡ None → before ≡ faults → EndsCall ended before faults' old new result → EndsByFault ended h faults'
+ends_call was ended h faults before faults' old new (Ok x) k runs same g = goes_on was ended h faults before faults' old new k runs same g
+ends_call was ended h faults before faults' old new (Err answers.LogFault) k runs same b = ends_failed ended h before faults' b.over b.faults
+ends_call was ended h faults before faults' old new (Err _) k runs same g = goes_on was ended h faults before faults' old new k runs same g
+
+pub kept_call : {D A : Type 0} (opens : List Record → Type 0) (tells : Type 0) (told : D → Kept) (may_leave : D → Kept → Type 0) (h h' : List Entry) (m m' : Managed D) (s s' : Listing) (t : RangeLocks) (mark faults before faults' : ℕ)
+    → IsKept opens tells told may_leave h m s t mark faults → h' ≡ h → before ≡ faults → m.log.ended ≡ None → ((rs : List Record) → IsLogWith tells told may_leave rs m s → IsLogWith tells told may_leave rs m' s') → m'.spare ≡ m.spare
+    → ((rs : List Record) → IsLogWith tells told may_leave rs m s → tells → m.log.ended ≡ None → durable_lsn m.log.places ≤ durable_lsn m'.log.places)
+    → (old new : Account) (result : Result A Fault) → EndsCall m'.log.ended before faults' old new result → IsKept opens tells told may_leave h' m' s' t mark faults'
+kept_call opens tells told may_leave h h' m m' s s' t mark faults before faults' k now same runs records spare rises old new result ends =
+    subst (λ (l : List Entry). IsKept opens tells told may_leave l m' s' t mark faults') (sym now) (record {
+      life = life_flush opens tells told may_leave h m m' s s' t mark mark (durable_lsn m'.log.places) k.life runs records spare rises refl (inl refl);
+      ends = ends_call m.log.ended m'.log.ended h faults before faults' old new result k.ends runs same ends;
+    })
+
+-- passes are told how far it is durable
+pub kept_told : {D : Type 0} (opens : List Record → Type 0) (tells : Type 0) (told : D → Kept) (may_leave : D → Kept → Type 0) (h : List Entry) (m : Managed D) (s : Listing) (t : RangeLocks) (mark mark' durable faults : ℕ)
+    → IsKept opens tells told may_leave h m s t mark faults → durable ≡ durable_lsn m.log.places → (mark' ≡ mark) ⊎ (mark' ≡ durable) → IsKept opens tells told may_leave h m s t mark' faults
+kept_told opens tells told may_leave h m s t mark mark' durable faults k is marked = record {
+  life = record {
+    records = k.life.records;
+    locks = k.life.locks;
+    losers = k.life.losers;
+    telling = k.life.telling;
+    places = k.life.places;
+    durable = λ opening stands tell runs.
+        let was = k.life.durable opening stands tell runs in
+        elim marked [
+          | inl old ↦ omega (arith, old, was)
+          | inr new ↦ omega (arith, new, is)
+        ];
+  };
+  ends = k.ends;
+}

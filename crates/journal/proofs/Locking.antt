@@ -1,8 +1,8 @@
 -- A lock that is held, and one that is refused: what the lock table answers is what a legal history asks for, where the
 -- table holds exactly the locks that were taken.
 use Rattle.std.proofs.Common.{◌≡◌, ◌≢◌, ℕ, zero, suc, eqb, cond, ◌<◌, List, [], ◌∷◌, ◌++◌, length, get_or, Bool, true, false, Option, Some, None, refl, sym, ap, ◌∙◌, subst, inl, inr, arith, append-nil, Ordering, Less, Equal, Greater}
-use Rattle.std.specs.Prelude.{◌↔◌, ◌&&◌, ◌||◌, not, IsTrue}
-use Rattle.std.specs.List.{list_any}
+use Rattle.std.specs.Prelude.{◌↔◌, ◌&&◌, ◌||◌, not, filter, IsTrue}
+use Rattle.std.specs.List.{list_any, range_with_len}
 use Rattle.std.specs.Cmp.{nat_cmp_is}
 use Rattle.std.specs.Cmp.Lexicographic.{slice_cmp, nat_list_cmp_total}
 use Rattle.std.specs.Ordering.{nat_cmp, is_gt, is_lt, ordering_then, ordering_reverse}
@@ -12,7 +12,8 @@ use Rattle.store_model.specs.Range.{Interval, overlap, is_below}
 use Rattle.store_model.specs.declared.range.Mode.{Mode}
 use Rattle.store_model.specs.declared.range.Mode.TheVariants.{Shared, Exclusive}
 use Rattle.books.specs.Rights.{SessionClaim}
-use Rattle.wal_record.specs.History.{Live, phase, is_live, life_log}
+use Rattle.wal_record.specs.Chains.{finishes, greatest}
+use Rattle.wal_record.specs.History.{Live, log_of, phase, is_live, life_log}
 use Rattle.wal_record.specs.Legal.{held, IsLegal}
 use Rattle.wal_record.specs.Locks.{Held, locks_step, taken_locks, loser_locks, locks, is_exclusive, conflict, blocks}
 use Rattle.wal_record.specs.OpenWrites.{is_loser, open_writes}
@@ -33,7 +34,7 @@ use Rattle.range_lock.specs.declared.rival.Rival.{Rival}
 use Rattle.range_lock.proofs.Holding.{any_among, among_any}
 use Rattle.range_lock.proofs.Texts.{above_is, tied_is}
 use Rattle.page_ops.specs.Claims.{SessionAgrees}
-use Rattle.page_ops.specs.Outcomes.{IsFirst, IsFirstConflict}
+use Rattle.page_ops.specs.Outcomes.{IsFirst, IsFirstConflict, losers_left}
 use Rattle.page_ops.specs.Seeing.{IsConsistent}
 use Rattle.life_history.proofs.Own.{consistent_entry}
 use Rattle.journal.specs.Locks.{AreHeld, HasNoLosers, AreAcknowledged}
@@ -252,3 +253,13 @@ module _ (opens : List Record → Type 0) (h : List Entry) (c : IsConsistent ope
 
     pub conflict_told : (opening : List Record) → opens opening → IsFirstConflict (locks opening (h ++ refusal ∷ []) r.holder) (held a.range a.mode) r.range
     conflict_told opening stands = is_first h t k a r f _ (locks_taken opening (h ++ refusal ∷ []) r.holder (none opening stands r.holder) ∙ taken_push h refusal r.holder)
+
+-- ---- losers
+
+none_chosen : (f : ℕ → Bool) (xs : List ℕ) → ((x : ℕ) → f x ≡ false) → filter f xs ≡ []
+none_chosen f [] none = refl
+none_chosen f (x ∷ xs) none = ap (λ (b : Bool). cond b (x ∷ filter f xs) (filter f xs)) (none x) ∙ none_chosen f xs none
+
+-- where there were none, none is left
+pub none_left : (opening : List Record) (h : List Entry) → ((t : ℕ) → is_loser opening t ≡ false) → losers_left opening h ≡ []
+none_left opening h none = ap (filter (λ (t : ℕ). not (list_any (finishes t) (log_of h)))) (none_chosen (is_loser opening) (range_with_len 1 (greatest opening)) none)

@@ -11,6 +11,10 @@ use Rattle.wal_record.specs.declared.entry.Entry.{Entry}
 use Rattle.listed_log.specs.Listed.{IsLogWith}
 use Rattle.journal.specs.Locks.{AreHeld, HasNoLosers, AreAcknowledged}
 
+-- a log with which the life may have begun is known only where its disk tells what it keeps
+abbrev pub IsTold : (List Record → Type 0) → Type 0 → Type 0
+IsTold opens tells = (opening : List Record) → opens opening → tells
+
 -- whatever log the life began with, the journal's log and its listing are those of the life
 abbrev pub AreRecords : {D : Type 0} → (List Record → Type 0) → Type 0 → (D → Kept) → (D → Kept → Type 0) → List Entry → Managed D → Listing → Type 0
 AreRecords opens tells told may_leave h m s = (opening : List Record) → opens opening → IsLogWith tells told may_leave (life_log opening h) m s
@@ -26,6 +30,7 @@ pub record IsOfLife {D : Type 0} (opens : List Record → Type 0) (tells : Type 
   pub records : AreRecords opens tells told may_leave h m s
   pub locks : AreHeld h t
   pub losers : HasNoLosers opens
+  pub telling : IsTold opens tells
   pub places : HasPlaces opens h m.spare
   pub durable : (opening : List Record) → opens opening → tells → m.log.ended ≡ None → mark ≤ durable_lsn m.log.places
 

@@ -3,3 +3,4 @@ pub mod Ends
 pub mod Kept
 pub mod Locks
 pub mod Groups
+pub mod Lookups

@@ -1,17 +1,25 @@
 //! How a life ends: by a fault of its log disk. And what a call does before it enters anything.
-ghost use Rattle.std.specs.Prelude.{◌≡◌, ◌⊎◌, ◌<◌, ◌≤◌, ◌+◌, ◌-◌, ◌^◌, None, is_some, true, IfErr, OnErr, OnOk};
-ghost use Rattle.journal.specs.Ends.{IsFailed, IsStopped, IsToldEnd};
+ghost use Rattle.std.specs.Prelude.{◌≡◌, ◌⊎◌, ◌<◌, ◌≤◌, ◌+◌, ◌-◌, ◌^◌, List, Some, None, is_some, true, IfOk, IfErr, OnErr, OnOk};
+ghost use Rattle.journal.specs.Ends.{EndsCall, IsFailed, IsStopped, IsToldEnd, IsUnread};
+ghost use Rattle.journal.specs.Lookups.{HasSpelledRecord, IsFoundIn};
+ghost use Rattle.listed_log.specs.Listed.{IsLogWith};
+ghost use Rattle.log_blocks.specs.LogState.{durable_lsn};
+ghost use Rattle.log_manager.specs.Managed.{IsNoBadLog, first_kept};
 ghost use Rattle.page_ops.specs.Causes.{IsOpen};
+ghost use Rattle.store_model.specs.declared.fault.Fault.TheVariants as answers;
+ghost use Rattle.wal_record.specs.Checkpoints.{recycle_point};
+ghost use Rattle.wal_record.specs.declared.record.Record.{Record};
 
 use crate::journal::MOST;
 use front::{Board, Mark, Pass};
 use life_history::Counts;
 use listed_log::ListedLog;
 use media::Disk;
-use page_ops::{Life, LogFaults};
+use page_ops::{Found, Life, LogFaults};
+use std::alloc::Global;
 use std::sync::ledger::Book;
 use store_model::{Fault, Lsn};
-use wal_record::Entry;
+use wal_record::{Entry, Record};
 
 /// The life goes on, as far as the counts know and the log says. Else it has ended, and the counts know that then.
 pub(crate) fn check_open<L: Disk, N: Life>(
@@ -69,11 +77,10 @@ pub(crate) fn note_fault<L: Disk, N: Life>(
     ensures total { faults.new.total ≡ faults.old.total + 1 }
     ensures failed { IsFailed counts.old counts.new }
 {
-    faults.add(&mut counts.log_faults, 1);
     let Some(at) = log.ended() else {
         unreachable!()
     };
-    counts.end(at);
+    counts.fail(faults, at);
 }
 
 /// The pass has then seen that the log is durable up to this LSN, or to a higher one that passes were told before.
@@ -96,5 +103,65 @@ pub(crate) fn tell_durable<N: Life>(
         *marked = durable;
     } else {
         mark.meet(board, pass);
+    }
+}
+
+/// The record of an LSN that the log keeps, or the standing run that has it where the log has forgotten it. It wants memory
+/// where neither has it. A fault of the log's disk is counted.
+pub(crate) fn find<L: Disk, N: Life>(
+    log: &mut ListedLog<L>,
+    faults: &mut Book<LogFaults<N>>,
+    counts: &mut Counts<N>,
+    alloc: Global,
+    lsn: Lsn,
+) -> Result<Found, Fault>
+    requires runs { log.old.log.log.ended ≡ None }
+    ensures found { (rs : List Record) → IsLogWith L.tells L.told L.may_leave rs log.old.log log.old.listing → L.tells → IfOk result (IsFoundIn rs lsn) × IfErr result IsNoBadLog }
+    ensures spelling { IfOk result HasSpelledRecord }
+    ensures same { (rs : List Record) → IsLogWith L.tells L.told L.may_leave rs log.old.log log.old.listing → IsLogWith L.tells L.told L.may_leave rs log.new.log log.new.listing }
+    ensures places { (log.new.log.spare ≡ log.old.log.spare) × (log.new.log.log.places ≡ log.old.log.log.places) }
+    ensures unread { IfErr result IsUnread }
+    ensures ends { EndsCall log.new.log.log.ended faults.old.total faults.new.total counts.old counts.new result }
+{
+    if lsn == 0 || lsn > log.last() {
+        return Err(Fault::Memory);
+    }
+    if lsn < log.first_kept() {
+        return match log.listing().run_at(lsn) {
+            Some(run) => Ok(Found::Run(run)),
+            None => Err(Fault::Memory),
+        };
+    }
+    match log.read(alloc, lsn) {
+        Ok(found) => Ok(Found::Record(found)),
+        Err(fault) => {
+            if matches!(fault, Fault::LogFault) {
+                note_fault(log, faults, counts);
+            }
+            Err(fault)
+        }
+    }
+}
+
+/// Forgets the blocks of the log that nothing needs. A fault of its disk is counted.
+pub(crate) fn recycle_log<L: Disk, N: Life>(
+    log: &mut ListedLog<L>,
+    faults: &mut Book<LogFaults<N>>,
+    counts: &mut Counts<N>,
+) -> Result<Lsn, Fault>
+    requires runs { log.old.log.log.ended ≡ None }
+    ensures needed { (rs : List Record) → IsLogWith L.tells L.told L.may_leave rs log.old.log log.old.listing → IfOk result (λ lsn. (lsn ≡ first_kept log.old.log.log) ⊎ (lsn ≤ recycle_point rs)) }
+    ensures same { (rs : List Record) → IsLogWith L.tells L.told L.may_leave rs log.old.log log.old.listing → IsLogWith L.tells L.told L.may_leave rs log.new.log log.new.listing }
+    ensures rises { (rs : List Record) → IsLogWith L.tells L.told L.may_leave rs log.old.log log.old.listing → L.tells → log.old.log.log.ended ≡ None → durable_lsn log.old.log.log.places ≤ durable_lsn log.new.log.log.places }
+    ensures spare { log.new.log.spare ≡ log.old.log.spare }
+    ensures unread { IfErr result (λ fault. fault ≡ answers.LogFault) }
+    ensures ends { EndsCall log.new.log.log.ended faults.old.total faults.new.total counts.old counts.new result }
+{
+    match log.recycle() {
+        Ok(lsn) => Ok(lsn),
+        Err(_) => {
+            note_fault(log, faults, counts);
+            Err(Fault::LogFault)
+        }
     }
 }

@@ -23,6 +23,7 @@ ghost use Rattle.wal_record.specs.State.{is_child};
 ghost use Rattle.wal_record.specs.declared.entry.Entry.{Entry};
 ghost use Rattle.wal_record.specs.declared.record.Record.{Record};
 ghost use Rattle.journal.specs.Declined.{IsDeclined, IsTaken};
+ghost use Rattle.journal.specs.Kept.{IsTold};
 ghost use Rattle.journal.specs.Locks.{HasNoLosers};
 ghost use Rattle.journal.specs.Groups.{EntersFilled, EntersNow, GroupFollows, IsNext, IsNextPage};
 
@@ -52,13 +53,13 @@ pub(crate) const MOST: u64 = 1 << 62;
 /// The log, the locks and the history of a life. Contracts see it as the history.
 #[derive(Drop)]
 pub struct Journal<'a, L: Disk, N: Life> {
-    log: ListedLog<L>,
+    pub(crate) log: ListedLog<L>,
     locks: RangeLocks,
-    history: History<'a, N>,
-    mark: Mark<Entry, N>,
+    pub(crate) history: History<'a, N>,
+    pub(crate) mark: Mark<Entry, N>,
     // Up to which LSN passes were told that the log is durable.
-    marked: Lsn,
-    faults: Book<LogFaults<N>>,
+    pub(crate) marked: Lsn,
+    pub(crate) faults: Book<LogFaults<N>>,
     // The right to the page that the next group makes which makes one, where it was opened already.
     made: Option<PageRight<N>>,
 }
@@ -77,7 +78,8 @@ impl<'a, L: Disk, N: Life> Model for Journal<'a, L, N> {
 
 impl<'a, L: Disk, N: Life> Journal<'a, L, N> {
     /// The journal of a life that has just begun, with a log that hasn't ended and that has the records of the opening log,
-    /// among which there are no losers. No fault of the disk was counted, and no pass was told what is durable.
+    /// among which there are no losers. No fault of the disk was counted, and no pass was told what is durable. An opening log
+    /// is known only where the disk tells what it keeps.
     pub fn start(
         alloc: Global,
         log: ListedLog<L>,
@@ -91,6 +93,7 @@ impl<'a, L: Disk, N: Life> Journal<'a, L, N> {
         requires few { (opening : List Record) → N.opens opening → length opening ≤ 2 ^ 62 }
         requires records { (opening : List Record) → N.opens opening → IsLogWith L.tells L.told L.may_leave opening log.log log.listing }
         requires losers { HasNoLosers N.opens }
+        requires telling { IsTold N.opens L.tells }
         ensures { result ≡ [] }
     {
         Journal {
@@ -281,6 +284,8 @@ impl<'a, L: Disk, N: Life> Journal<'a, L, N> {
         pass: &mut Pass<Entry, N>,
         counts: &mut Counts<N>,
     ) -> Result<(), Fault>
+        ensures same { self.new ≡ self.old }
+        ensures pass { pass.new.log ≡ self.old }
         ensures seen { Looks N.opens N.entries N.session_entries counts.old pass.old counts.new pass.new }
         ensures durable { OnOk result ((opening : List Record) → N.opens opening → min lsn (length (life_log opening pass.new.log)) ≤ pass.new.durable) }
         ensures refused { IfErr result FailsToFlush }

@@ -26,7 +26,11 @@
 //! 4. [`Journal::commit`] takes no memory. It enters the Commit, gives the locks back, makes the log durable up to it, and
 //!    only then enters that it is acknowledged. [`Journal::flush`] makes the log durable alone.
 //! 5. [`Journal::refuse`] enters that a request is declined, since its operator gives no value.
-//! 6. A fault of the log disk ends the life. From then on each call that enters or flushes tells that, and enters
+//! 6. [`Journal::read`] gives the record of an LSN, or the standing archive run that has it where the log has forgotten it.
+//!    [`Journal::listing`] is what is known of the life's log. [`Journal::repaired`] enters the repair of a page of which an
+//!    image was written since the last loss. [`Journal::recycle`] makes the log durable and forgets the blocks of it that
+//!    nothing needs.
+//! 7. A fault of the log disk ends the life. From then on each call that enters or flushes tells that, and enters
 //!    nothing; through one account it is always the same LSN.
 //!
 //! A group that isn't built yet is refused as one that wants memory, which the traits allow; so is one that restores a
@@ -36,6 +40,7 @@
 mod ends;
 mod filling;
 mod journal;
+mod reading;
 mod taken;
 
 pub use journal::Journal;

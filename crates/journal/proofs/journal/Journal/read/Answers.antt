@@ -1,0 +1,46 @@
+use Rattle.std.proofs.Common.{List, ◌≡◌, ◌≤◌, [], sym, ap, ◌∙◌, arith, subst}
+use Rattle.log_blocks.specs.LogState.{durable_lsn}
+use Rattle.page_ops.specs.Causes.{IsOpen}
+use Rattle.page_ops.specs.Claims.{no_claims}
+use Rattle.page_ops.specs.Seeing.{Account, Enters, known}
+use Rattle.wal_record.specs.History.{life_log}
+use Rattle.journal.proofs.Ending.{called, called_ends, told_stops, stopped_ends}
+use Rattle.journal.proofs.Living.{kept_call}
+use Rattle.journal.proofs.Lookup.{found_told, unread_told}
+use Rattle.journal.proofs.journal.Journal.read.Goals as goal
+
+pub returns-in-Err-clause-ends : goal.returns-in-Err-clause-ends
+returns-in-Err-clause-ends g c = stopped_ends _ g.N.Life.log_faults _ _ _ _ _ _ c.look.ensures.counts (told_stops g.N.Life.log_faults _ _ _ c.in-Err.ensures.ended)
+
+pub invariant_of-self : goal.invariant_of-self
+invariant_of-self g c =
+    let k = c.self.invariant.1 in
+    let read = c.find.ensures in (
+      c.self.invariant.0,
+      kept_call g.N.Life.opens g.L.Disk.tells g.L.Disk.told g.L.Disk.may_leave c.self.inside.history c.look.new.self c.self.inside.log.log c.find.new.log.log c.self.inside.log.listing c.find.new.log.listing c.self.inside.locks c.self.inside.marked c.self.inside.faults.total
+          c.check_open.new.faults.total c.find.new.faults.total k c.look.ensures.same c.check_open.ensures.total c.in-Ok.ensures.open.0 read.same read.places.0 (λ rs has tells runs. subst (λ ps. durable_lsn c.self.inside.log.log.log.places ≤ durable_lsn ps) (sym read.places.1) (omega arith))
+          c.check_open.new.counts c.find.new.counts c.find.result read.ends,
+    )
+
+pub returns-in-Ok-clause-seen : goal.returns-in-Ok-clause-seen
+returns-in-Ok-clause-seen g c =
+    let look = c.look.ensures in
+    let first = c.in-Ok.ensures.open in
+    let seen = subst (λ (a : Account). Enters g.N.Life.opens g.N.Life.entries g.N.Life.session_entries (known c.args.counts.now c.args.pass.now no_claims) [] (known a c.look.new.pass no_claims)) (sym first.1) look.seen in
+    called _ _ _ _ _ _ (first.1 ∙ look.counts) (subst IsOpen look.counts first.2) g.N.Life.opens g.N.Life.entries g.N.Life.session_entries g.N.Life.log_faults c.args.pass.now c.look.new.pass no_claims no_claims c.find.result seen c.find.ensures.ends
+
+pub returns-in-Ok-clause-ends : goal.returns-in-Ok-clause-ends
+returns-in-Ok-clause-ends g c =
+    let look = c.look.ensures in
+    let first = c.in-Ok.ensures.open in
+    called_ends _ _ _ _ _ _ (first.1 ∙ look.counts) (subst IsOpen look.counts first.2) g.N.Life.opens g.N.Life.log_faults g.N.Life.made c.look.new.pass.log c.find.result c.find.ensures.ends c.find.ensures.unread
+
+pub returns-in-Ok-clause-found : goal.returns-in-Ok-clause-found
+returns-in-Ok-clause-found g c =
+    let k = c.self.invariant.1.life in
+    found_told g.N.Life.opens c.look.new.pass.log c.self.inside.history c.look.ensures.pass c.args.lsn c.find.result c.find.ensures.spelling (λ opening stands. c.find.ensures.found (life_log opening c.self.inside.history) (k.records opening stands) (k.telling opening stands))
+
+pub returns-in-Ok-clause-refused : goal.returns-in-Ok-clause-refused
+returns-in-Ok-clause-refused g c =
+    let k = c.self.invariant.1.life in
+    unread_told g.N.Life.opens c.look.new.pass.log c.self.inside.history c.look.ensures.pass c.args.lsn c.find.result c.find.ensures.unread (λ opening stands. c.find.ensures.found (life_log opening c.self.inside.history) (k.records opening stands) (k.telling opening stands))
