@@ -2,7 +2,7 @@
 use crate::bytes::{LOG, bytes_of};
 use inspection::{Halt, Totals, inspect_log};
 use media_mem::{MemDisk, MemSink};
-use std::alloc::Global;
+use std::alloc::{AllocError, Global};
 use std::test::Fail;
 
 const LINES: &str = "\
@@ -46,16 +46,20 @@ fn each_kind_of_record_has_its_line(rt: HostRuntime) -> Result<(), Fail> {
     let alloc = rt.alloc();
     let mut sink = MemSink::new(alloc);
     let outcome = inspected(alloc, &bytes_of(alloc, LOG)?, &mut sink)?;
-    assert_eq!(rt;
-        outcome,
-        Ok(Totals {
-            blocks: 3,
-            records: 16,
-            last: 16
-        })
-    );
+    let totals = Totals {
+        blocks: 3,
+        records: 16,
+        last: 16,
+    };
+    assert!(rt; outcome == Ok(totals));
     assert!(rt; sink.bytes() == LINES.as_bytes());
     Ok(())
+}
+
+/// Whether this is the fault that is found in a log of these bytes.
+fn has_fault(alloc: Global, bytes: &[u8], fault: Halt) -> Result<bool, Fail> {
+    let outcome = inspected(alloc, bytes, &mut MemSink::new(alloc))?;
+    Ok(outcome == Err(fault))
 }
 
 /// A byte that is changed, and the fault that this is.
@@ -134,22 +138,24 @@ const CHANGES: [Change; 8] = [
     },
 ];
 
+/// Whether the fault of a change is found.
+fn is_found(alloc: Global, change: &Change) -> Result<bool, Fail> {
+    let mut bytes = bytes_of(alloc, LOG)?;
+    if let Some(byte) = bytes.get_mut(change.place) {
+        *byte = change.byte;
+    }
+    let fault = Halt::Block {
+        block: change.block,
+        byte: change.fault,
+        at: change.at,
+    };
+    has_fault(alloc, &bytes, fault)
+}
+
 #[test]
 fn the_first_fault_is_named_by_block_and_byte(rt: HostRuntime) -> Result<(), Fail> {
-    let alloc = rt.alloc();
     for change in &CHANGES {
-        let mut bytes = bytes_of(alloc, LOG)?;
-        match bytes.get_mut(change.place) {
-            Some(byte) => *byte = change.byte,
-            None => return Err(Fail::from("a place")),
-        }
-        let outcome = inspected(alloc, &bytes, &mut MemSink::new(alloc))?;
-        let halt = Halt::Block {
-            block: change.block,
-            byte: change.fault,
-            at: change.at,
-        };
-        assert_eq!(rt; outcome, Err(halt));
+        assert!(rt; is_found(rt.alloc(), change)?);
     }
     Ok(())
 }
@@ -161,47 +167,58 @@ fn a_block_that_is_cut_is_named(rt: HostRuntime) -> Result<(), Fail> {
     for (less, byte) in [(1, 249), (2, 23), (230, 19)] {
         let kept = bytes.len().saturating_sub(less);
         let cut = bytes.get(..kept).unwrap_or_default();
-        let outcome = inspected(alloc, cut, &mut MemSink::new(alloc))?;
-        assert_eq!(rt;
-            outcome,
-            Err(Halt::Block {
-                block: 2,
-                byte,
-                at: 312
-            })
-        );
+        let fault = Halt::Block {
+            block: 2,
+            byte,
+            at: 312,
+        };
+        assert!(rt; has_fault(alloc, cut, fault)?, "{less} bytes less");
     }
     Ok(())
 }
 
-#[test]
-fn a_device_that_fails_is_no_fault_of_the_log(rt: HostRuntime) -> Result<(), Fail> {
-    let alloc = rt.alloc();
+/// Whether a disk whose first call fails is told apart from a fault.
+fn tells_the_disk(alloc: Global) -> Result<bool, AllocError> {
     let disk = MemDisk::failing(alloc, vec![in alloc; 1]?);
     let (_disk, outcome) = inspect_log(alloc, disk, &mut MemSink::new(alloc));
-    assert_eq!(rt; outcome, Err(Halt::Device));
+    Ok(outcome == Err(Halt::Device))
+}
+
+/// The same of a sink.
+fn tells_the_sink(alloc: Global) -> Result<bool, Fail> {
     let mut full = MemSink::failing(alloc, vec![in alloc; 1]?);
     let outcome = inspected(alloc, &bytes_of(alloc, LOG)?, &mut full)?;
-    assert_eq!(rt; outcome, Err(Halt::Sink));
-    Ok(())
+    Ok(outcome == Err(Halt::Sink))
 }
 
 #[test]
+fn a_device_that_fails_is_no_fault_of_the_log(rt: HostRuntime) -> Result<(), Fail> {
+    assert!(rt; tells_the_disk(rt.alloc())?);
+    assert!(rt; tells_the_sink(rt.alloc())?);
+    Ok(())
+}
+
+/// Whether a fault is told so.
+fn is_told(alloc: Global, fault: &Halt, text: &str) -> Result<bool, AllocError> {
+    let told = format!(in alloc; "{fault}")?;
+    Ok(told.as_str() == text)
+}
+
+/// A file has 1 MiB of the log.
+#[test]
 fn a_fault_is_named_by_the_file_in_which_its_byte_stands(rt: HostRuntime) -> Result<(), Fail> {
-    let alloc = rt.alloc();
-    let near = Halt::Block {
-        block: 7,
-        byte: 9,
-        at: 1048566,
-    };
-    assert!(rt; format!(in alloc; "{near}")?.as_str() == "bad log-0 block=7 byte=9");
-    let far = Halt::Block {
-        block: 7,
-        byte: 9,
-        at: 1048567,
-    };
-    assert!(rt; format!(in alloc; "{far}")?.as_str() == "bad log-1 block=7 byte=9");
-    let page = Halt::Page { page: 2, byte: 37 };
-    assert!(rt; format!(in alloc; "{page}")?.as_str() == "bad pages.dat page=2 byte=37");
+    for (at, text) in [
+        (1048566, "bad log-0 block=7 byte=9"),
+        (1048567, "bad log-1 block=7 byte=9"),
+    ] {
+        let fault = Halt::Block {
+            block: 7,
+            byte: 9,
+            at,
+        };
+        assert!(rt; is_told(rt.alloc(), &fault, text)?, "{at}");
+    }
+    let fault = Halt::Page { page: 2, byte: 37 };
+    assert!(rt; is_told(rt.alloc(), &fault, "bad pages.dat page=2 byte=37")?);
     Ok(())
 }

@@ -1,10 +1,9 @@
 //! Folders that aren't there, or may not be changed.
 use media::{Disk, Failed};
 use media_file::{FileDisk, FilePages, FileVault, Folder};
-use std::alloc::AllocError;
+use std::fs;
 use std::rt::Files;
 use std::test::Fail;
-use std::{fs, io};
 
 /// Makes a new folder.
 pub fn made(rt: &HostRuntime, path: &str) -> Result<(), Fail> {
@@ -13,11 +12,16 @@ pub fn made(rt: &HostRuntime, path: &str) -> Result<(), Fail> {
     Ok(())
 }
 
+/// The log of the folder, where it opens.
+pub fn log_of<'a, R: Files>(folder: &Folder<'a, R>) -> Option<FileDisk<'a, R>> {
+    FileDisk::open(folder.again().ok()?).ok()
+}
+
 /// Whether a log, pages and a vault open in the folder.
-fn opens<R: Files>(folder: &Folder<'_, R>) -> Result<[bool; 3], AllocError> {
-    let log = FileDisk::open(folder.again()?).is_ok();
+fn opens<R: Files>(folder: &Folder<'_, R>) -> [bool; 3] {
+    let log = log_of(folder).is_some();
     let pages = FilePages::open(folder).is_ok();
-    Ok([log, pages, FileVault::open(folder).is_ok()])
+    [log, pages, FileVault::open(folder).is_ok()]
 }
 
 /// Writes on a blank disk.
@@ -29,22 +33,19 @@ fn write<L: Disk>(disk: &mut L) -> Result<(), Failed> {
 }
 
 /// Where the log of the folder ends, whether it is written then, and its count of faults behind that.
-fn written<R: Files>(folder: &Folder<'_, R>) -> io::Result<(u64, bool, u64)> {
-    let mut disk = FileDisk::open(folder.again()?)?;
+fn written<R: Files>(folder: &Folder<'_, R>) -> Option<(u64, bool, u64)> {
+    let mut disk = log_of(folder)?;
     let len = disk.len();
     let is_written = write(&mut disk).is_ok();
-    Ok((len, is_written, disk.faults()))
+    Some((len, is_written, disk.faults()))
 }
 
+/// Its log reads as a blank disk.
 #[test]
 fn no_folder_has_no_devices(rt: HostRuntime) -> Result<(), Fail> {
     let folder = Folder::new(&rt, rt.alloc(), "media_file_tests_nowhere")?;
-    assert_eq!(rt;
-        opens(&folder)?,
-        [true, false, false],
-        "its log reads as a blank disk"
-    );
-    assert_eq!(rt; written(&folder)?, (0, false, 1));
+    assert!(rt; opens(&folder) == [true, false, false]);
+    assert!(rt; written(&folder) == Some((0, false, 1)));
     Ok(())
 }
 
@@ -52,19 +53,24 @@ fn no_folder_has_no_devices(rt: HostRuntime) -> Result<(), Fail> {
 fn a_file_is_no_folder(rt: HostRuntime) -> Result<(), Fail> {
     fs::write(&rt, "media_file_tests_file", b"text".as_slice())?;
     let folder = Folder::new(&rt, rt.alloc(), "media_file_tests_file")?;
-    assert_eq!(rt; opens(&folder)?, [false, false, false]);
+    assert!(rt; opens(&folder) == [false, false, false]);
     fs::remove_file(&rt, "media_file_tests_file")?;
     Ok(())
 }
 
+/// How many objects the vault of the folder has.
+fn objects<R: Files + AllocGlobal + Clone + Drop>(folder: &Folder<'_, R>) -> Option<usize> {
+    let vault = FileVault::open(folder).ok()?;
+    Some(vault.objects().ok()?.len())
+}
+
 #[test]
 fn a_folder_for_reading_is_not_changed(rt: HostRuntime) -> Result<(), Fail> {
-    let path = "media_file_tests_reading";
-    made(&rt, path)?;
-    let folder = Folder::for_reading(&rt, rt.alloc(), path)?;
-    assert_eq!(rt; opens(&folder)?, [true, false, true]);
-    assert_eq!(rt; written(&folder)?, (0, false, 1));
-    assert!(rt; FileVault::open(&folder)?.objects()?.is_empty());
-    fs::remove_dir(&rt, path)?;
+    made(&rt, "media_file_tests_reading")?;
+    let folder = Folder::for_reading(&rt, rt.alloc(), "media_file_tests_reading")?;
+    assert!(rt; opens(&folder) == [true, false, true]);
+    assert!(rt; written(&folder) == Some((0, false, 1)));
+    assert!(rt; objects(&folder) == Some(0));
+    fs::remove_dir(&rt, "media_file_tests_reading")?;
     Ok(())
 }

@@ -1,16 +1,17 @@
 //! The log disk.
-use crate::folders::made;
+use crate::folders::{log_of, made};
 use crate::watched::{Watch, Watched};
 use media::{Disk, Failed};
 use media_file::{FileDisk, Folder};
+use std::alloc::{AllocError, Global};
+use std::fs;
 use std::rt::Files;
 use std::test::Fail;
-use std::{fs, io};
 
 /// How many bytes a chunk file has.
 const CHUNK: u64 = 1 << 20;
 
-/// A call of a disk that has to pass, or what the disk has to give.
+/// A call of a disk that has to pass, or what the disk or its folder has to give.
 #[derive(Clone, Copy)]
 enum Step<'a> {
     Write(u64, &'a [u8]),
@@ -20,6 +21,10 @@ enum Step<'a> {
     Four(u64, [u8; 4]),
     /// Where its bytes begin and end.
     Spans(u64, u64),
+    /// A file is put beside.
+    PutFile(&'a str, &'a [u8]),
+    /// There is no such file.
+    NoFile(&'a str),
 }
 
 /// Writes where the disk has bytes, or ends.
@@ -49,31 +54,47 @@ fn discard<R: Files>(disk: &mut FileDisk<'_, R>, upto: u64) -> Result<(), Failed
 }
 
 /// Whether a step comes out so.
-fn is_right<R: Files>(disk: &mut FileDisk<'_, R>, step: Step<'_>) -> bool {
+fn is_right<R: Files>(rt: &R, disk: &mut FileDisk<'_, R>, step: Step<'_>) -> bool {
     match step {
         Step::Write(at, bytes) => write(disk, at, bytes).is_ok(),
         Step::Sync => disk.sync().is_ok(),
         Step::Discard(upto) => discard(disk, upto).is_ok(),
         Step::Four(at, bytes) => four(disk, at) == Ok(bytes),
         Step::Spans(start, end) => disk.start() == start && disk.len() == end,
+        Step::PutFile(path, bytes) => fs::write(rt, path, bytes).is_ok(),
+        Step::NoFile(path) => !fs::exists(rt, path).unwrap_or(true),
     }
 }
 
-/// Opens the log of a folder and makes these steps. The first that doesn't come out so, counted from 0.
-fn first_wrong<R: Files>(folder: &Folder<'_, R>, steps: &[Step<'_>]) -> io::Result<Option<usize>> {
-    let mut disk = FileDisk::open(folder.again()?)?;
-    Ok(steps.iter().position(|step| !is_right(&mut disk, *step)))
+/// Opens the log of a folder and makes these steps. Whether each comes out so.
+fn are_right<R: Files>(rt: &R, folder: &Folder<'_, R>, steps: &[Step<'_>]) -> bool {
+    match log_of(folder) {
+        Some(mut disk) => steps.iter().all(|step| is_right(rt, &mut disk, *step)),
+        None => false,
+    }
+}
+
+/// The same in a new folder, with an opening for each list of steps.
+fn holds(rt: &HostRuntime, path: &str, openings: &[&[Step<'_>]]) -> Result<bool, Fail> {
+    made(rt, path)?;
+    let folder = Folder::new(rt, rt.alloc(), path)?;
+    let right = openings.iter().all(|steps| are_right(rt, &folder, steps));
+    fs::remove_dir_all(rt, path)?;
+    Ok(right)
+}
+
+/// So many bytes, which count up to 250 and on from 0.
+fn counting(alloc: Global, length: u64) -> Result<Vec<u8>, AllocError> {
+    let mut bytes = Vec::new(alloc);
+    for i in 0..length {
+        bytes.push((i % 251) as u8)?;
+    }
+    Ok(bytes)
 }
 
 #[test]
 fn a_log_goes_on_over_chunks_and_openings(rt: HostRuntime) -> Result<(), Fail> {
-    let path = "media_file_tests_log";
-    made(&rt, path)?;
-    let folder = Folder::new(&rt, rt.alloc(), path)?;
-    let mut long = Vec::new(rt.alloc());
-    for i in 0..CHUNK + 3 {
-        long.push((i % 251) as u8)?;
-    }
+    let long = counting(rt.alloc(), CHUNK + 3)?;
     let writes = [
         Step::Spans(0, 0),
         Step::Write(0, &long),
@@ -81,34 +102,20 @@ fn a_log_goes_on_over_chunks_and_openings(rt: HostRuntime) -> Result<(), Fail> {
         Step::Sync,
         Step::Spans(0, CHUNK + 3),
     ];
-    assert_eq!(rt; first_wrong(&folder, &writes)?, None);
     let reads = [
         Step::Spans(0, CHUNK + 3),
         Step::Four(CHUNK - 2, *b"abcd"),
         Step::Four(251, [0, 1, 2, 3]),
         Step::Discard(CHUNK + 1),
+        Step::NoFile("media_file_tests_log/log-0"),
     ];
-    assert_eq!(rt; first_wrong(&folder, &reads)?, None);
-    fs::remove_dir_all(&rt, path)?;
-    Ok(())
-}
-
-#[test]
-fn a_log_goes_on_behind_a_front_that_was_dropped(rt: HostRuntime) -> Result<(), Fail> {
-    let path = "media_file_tests_front";
-    made(&rt, path)?;
-    let folder = Folder::new(&rt, rt.alloc(), path)?;
-    let long = Vec::from_elem(rt.alloc(), b'z', CHUNK as usize + 3)?;
-    let steps = [Step::Write(0, &long), Step::Discard(CHUNK + 1)];
-    assert_eq!(rt; first_wrong(&folder, &steps)?, None);
-    assert!(rt; !fs::exists(&rt, "media_file_tests_front/log-0")?);
-    let steps = [
+    let more = [
         Step::Spans(CHUNK + 1, CHUNK + 3),
         Step::Write(CHUNK + 3, b"fg"),
-        Step::Four(CHUNK + 1, *b"zzfg"),
+        Step::Four(CHUNK + 1, *b"defg"),
     ];
-    assert_eq!(rt; first_wrong(&folder, &steps)?, None);
-    fs::remove_dir_all(&rt, path)?;
+    let right = holds(&rt, "media_file_tests_log", &[&writes, &reads, &more])?;
+    assert!(rt; right);
     Ok(())
 }
 
@@ -116,59 +123,49 @@ fn a_log_goes_on_behind_a_front_that_was_dropped(rt: HostRuntime) -> Result<(), 
 fn a_chunk_that_was_cut_ends_the_log_and_what_lies_behind_goes(
     rt: HostRuntime,
 ) -> Result<(), Fail> {
-    let path = "media_file_tests_cut";
-    made(&rt, path)?;
-    let folder = Folder::new(&rt, rt.alloc(), path)?;
-    assert_eq!(rt; first_wrong(&folder, &[Step::Write(0, b"ab")])?, None);
-    fs::write(&rt, "media_file_tests_cut/log-1", b"stray".as_slice())?;
-    let rest = Vec::from_elem(rt.alloc(), b'z', CHUNK as usize - 2)?;
-    let steps = [
+    let rest = counting(rt.alloc(), CHUNK - 2)?;
+    let cut = [
+        Step::Write(0, b"ab"),
+        Step::PutFile("media_file_tests_cut/log-1", b"stray"),
+    ];
+    let more = [
         Step::Spans(0, 2),
         Step::Write(2, &rest),
         Step::Write(CHUNK, b"c"),
     ];
-    assert_eq!(rt; first_wrong(&folder, &steps)?, None);
-    let steps = [Step::Spans(0, CHUNK + 1)];
-    assert_eq!(rt; first_wrong(&folder, &steps)?, None);
-    fs::remove_dir_all(&rt, path)?;
+    let last = [Step::Spans(0, CHUNK + 1)];
+    let right = holds(&rt, "media_file_tests_cut", &[&cut, &more, &last])?;
+    assert!(rt; right);
     Ok(())
 }
 
 #[test]
 fn a_start_that_is_no_number_is_no_log(rt: HostRuntime) -> Result<(), Fail> {
-    let path = "media_file_tests_start";
-    made(&rt, path)?;
-    fs::write(&rt, "media_file_tests_start/log.start", b"1x".as_slice())?;
-    assert!(rt; FileDisk::open(Folder::new(&rt, rt.alloc(), path)?).is_err());
-    fs::remove_dir_all(&rt, path)?;
+    let steps = [Step::PutFile("media_file_tests_start/log.start", b"1x")];
+    let opens = holds(&rt, "media_file_tests_start", &[&steps, &[]])?;
+    assert!(rt; !opens);
     Ok(())
 }
 
-/// Opens the log of a folder and makes these steps. The first that doesn't come out so, or behind which other files were
-/// synced, or another folder, than so often.
-fn first_unsynced<R: Files>(
-    folder: Folder<'_, R>,
+/// Opens the log of a folder that is watched and makes these steps. Whether each comes out so, and files and folders were
+/// synced so often behind it.
+fn syncs<R: Files>(
+    rt: &R,
+    folder: &Folder<'_, R>,
     watch: &Watch,
     steps: &[(Step<'_>, u64, u64)],
-) -> io::Result<Option<usize>> {
-    let mut disk = FileDisk::open(folder)?;
-    Ok(
-        steps.iter().position(|(step, files, folders)| {
-            !is_right(&mut disk, *step) || watch.syncs() != (*files, *folders)
+) -> bool {
+    match log_of(folder) {
+        Some(mut disk) => steps.iter().all(|(step, files, folders)| {
+            is_right(rt, &mut disk, *step) && watch.syncs() == (*files, *folders)
         }),
-    )
+        None => false,
+    }
 }
 
 /// The chunk is new at first, so the folder is synced too. The start is durable at once.
 #[test]
 fn a_sync_syncs_what_was_written_and_a_new_name_once(rt: HostRuntime) -> Result<(), Fail> {
-    let watch = Watch::new();
-    let files = Watched {
-        rt: &rt,
-        watch: &watch,
-    };
-    let path = "media_file_tests_syncs";
-    made(&rt, path)?;
     let steps = [
         (Step::Write(0, b"abc"), 0, 0),
         (Step::Sync, 1, 1),
@@ -177,33 +174,36 @@ fn a_sync_syncs_what_was_written_and_a_new_name_once(rt: HostRuntime) -> Result<
         (Step::Sync, 2, 1),
         (Step::Discard(2), 3, 2),
     ];
-    let folder = Folder::new(&files, rt.alloc(), path)?;
-    assert_eq!(rt; first_unsynced(folder, &watch, &steps)?, None);
-    fs::remove_dir_all(&rt, path)?;
-    Ok(())
-}
-
-#[test]
-fn short_writes_are_gone_on_with(rt: HostRuntime) -> Result<(), Fail> {
     let watch = Watch::new();
     let files = Watched {
         rt: &rt,
         watch: &watch,
     };
-    let path = "media_file_tests_short";
-    made(&rt, path)?;
-    let mut bytes = Vec::new(rt.alloc());
-    for i in 0..3500u64 {
-        bytes.push((i % 251) as u8)?;
-    }
+    made(&rt, "media_file_tests_syncs")?;
+    let folder = Folder::new(&files, rt.alloc(), "media_file_tests_syncs")?;
+    assert!(rt; syncs(&files, &folder, &watch, &steps));
+    fs::remove_dir_all(&rt, "media_file_tests_syncs")?;
+    Ok(())
+}
+
+/// A file takes 1,000 bytes at a time.
+#[test]
+fn short_writes_are_gone_on_with(rt: HostRuntime) -> Result<(), Fail> {
+    let bytes = counting(rt.alloc(), 3500)?;
     let steps = [
-        Step::Write(0, &bytes),
-        Step::Spans(0, 3500),
-        Step::Four(3263, [0, 1, 2, 3]),
+        (Step::Write(0, &bytes), 0, 0),
+        (Step::Spans(0, 3500), 0, 0),
+        (Step::Four(3263, [0, 1, 2, 3]), 0, 0),
     ];
-    let folder = Folder::new(&files, rt.alloc(), path)?;
-    assert_eq!(rt; first_wrong(&folder, &steps)?, None);
-    fs::remove_dir_all(&rt, path)?;
+    let watch = Watch::new();
+    let files = Watched {
+        rt: &rt,
+        watch: &watch,
+    };
+    made(&rt, "media_file_tests_short")?;
+    let folder = Folder::new(&files, rt.alloc(), "media_file_tests_short")?;
+    assert!(rt; syncs(&files, &folder, &watch, &steps));
+    fs::remove_dir_all(&rt, "media_file_tests_short")?;
     Ok(())
 }
 
@@ -229,10 +229,10 @@ fn a_write_without_room_fails_and_is_counted(rt: HostRuntime) -> Result<(), Fail
         rt: &rt,
         watch: &watch,
     };
-    let path = "media_file_tests_full";
-    made(&rt, path)?;
-    let mut disk = FileDisk::open(Folder::new(&files, rt.alloc(), path)?)?;
-    assert_eq!(rt; written_twice(&mut disk, &watch)?, (1, 2, *b"bghi", 1));
-    fs::remove_dir_all(&rt, path)?;
+    made(&rt, "media_file_tests_full")?;
+    let mut disk = FileDisk::open(Folder::new(&files, rt.alloc(), "media_file_tests_full")?)?;
+    let seen = written_twice(&mut disk, &watch);
+    assert!(rt; seen == Ok((1, 2, *b"bghi", 1)));
+    fs::remove_dir_all(&rt, "media_file_tests_full")?;
     Ok(())
 }

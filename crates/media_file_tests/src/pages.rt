@@ -2,9 +2,9 @@
 use crate::folders::made;
 use media::{PageBytes, PageDevice};
 use media_file::{FilePages, Folder};
+use std::fs;
 use std::rt::Files;
 use std::test::Fail;
-use std::{fs, io};
 
 /// A call of a device that has to pass, or what the device has to give.
 #[derive(Clone, Copy)]
@@ -33,20 +33,27 @@ fn is_right<D: PageDevice>(device: &mut D, step: Step) -> bool {
     }
 }
 
-/// Opens the pages of a folder and makes these steps. The first that doesn't come out so, counted from 0.
-fn first_wrong<R: Files>(folder: &Folder<'_, R>, steps: &[Step]) -> io::Result<Option<usize>> {
-    let mut pages = FilePages::open(folder)?;
-    Ok(steps.iter().position(|step| !is_right(&mut pages, *step)))
+/// Opens the pages of a folder and makes these steps. Whether each comes out so.
+fn are_right<R: Files>(folder: &Folder<'_, R>, steps: &[Step]) -> bool {
+    match FilePages::open(folder) {
+        Ok(mut pages) => steps.iter().all(|step| is_right(&mut pages, *step)),
+        Err(_) => false,
+    }
+}
+
+/// The same in a new folder, with an opening for each list of steps.
+fn holds(rt: &HostRuntime, path: &str, openings: &[&[Step]]) -> Result<bool, Fail> {
+    made(rt, path)?;
+    let folder = Folder::new(rt, rt.alloc(), path)?;
+    let right = openings.iter().all(|steps| are_right(&folder, steps));
+    fs::remove_dir_all(rt, path)?;
+    Ok(right)
 }
 
 #[test]
 fn pages_are_read_as_they_were_written(rt: HostRuntime) -> Result<(), Fail> {
-    let path = "media_file_tests_pages";
-    made(&rt, path)?;
-    let folder = Folder::new(&rt, rt.alloc(), path)?;
-    let steps = [Step::Has(2, 0), Step::Write(3, 7)];
-    assert_eq!(rt; first_wrong(&folder, &steps)?, None);
-    let steps = [
+    let writes = [Step::Has(2, 0), Step::Write(3, 7)];
+    let more = [
         Step::Has(3, 7),
         Step::Has(2, 0),
         Step::Spoil(3),
@@ -56,29 +63,32 @@ fn pages_are_read_as_they_were_written(rt: HostRuntime) -> Result<(), Fail> {
         Step::Replace,
         Step::Has(3, 0),
     ];
-    assert_eq!(rt; first_wrong(&folder, &steps)?, None);
-    fs::remove_dir_all(&rt, path)?;
+    let right = holds(&rt, "media_file_tests_pages", &[&writes, &more])?;
+    assert!(rt; right);
     Ok(())
 }
 
-/// How many pages a folder has, and whether the second one has 100 bytes 7 and zero bytes behind them.
-fn cut_page<R: Files>(folder: &Folder<'_, R>) -> io::Result<(u64, bool)> {
-    let mut pages = FilePages::open(folder)?;
+/// How many pages a folder has, where the second one has 100 bytes 7 and zero bytes behind them.
+fn cut_pages<R: Files>(folder: &Folder<'_, R>) -> Option<u64> {
+    let mut pages = FilePages::open(folder).ok()?;
     let mut out: PageBytes = [1; 4096];
-    let is_read = pages.read(2, &mut out).is_ok();
-    let (front, rest) = out.split_at(100);
-    let is_right = front.iter().all(|byte| *byte == 7) && rest.iter().all(|byte| *byte == 0);
-    Ok((pages.count()?, is_read && is_right))
+    pages.read(2, &mut out).ok()?;
+    let mut right: PageBytes = [0; 4096];
+    right[..100].fill(7);
+    if out == right {
+        pages.count().ok()
+    } else {
+        None
+    }
 }
 
 #[test]
 fn what_a_cut_file_lacks_of_a_page_reads_as_zero_bytes(rt: HostRuntime) -> Result<(), Fail> {
-    let path = "media_file_tests_cut_page";
-    made(&rt, path)?;
-    let cut = Vec::from_elem(rt.alloc(), 7u8, 4096 + 100)?;
+    made(&rt, "media_file_tests_cut_page")?;
+    let cut = [7u8; 4096 + 100];
     fs::write(&rt, "media_file_tests_cut_page/pages.dat", cut.as_slice())?;
-    let folder = Folder::new(&rt, rt.alloc(), path)?;
-    assert_eq!(rt; cut_page(&folder)?, (2, true));
-    fs::remove_dir_all(&rt, path)?;
+    let folder = Folder::new(&rt, rt.alloc(), "media_file_tests_cut_page")?;
+    assert!(rt; cut_pages(&folder) == Some(2));
+    fs::remove_dir_all(&rt, "media_file_tests_cut_page")?;
     Ok(())
 }

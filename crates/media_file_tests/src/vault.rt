@@ -53,43 +53,55 @@ fn is_right<V: Vault>(vault: &mut V, step: Step<'_>) -> bool {
     }
 }
 
-/// Opens the vault of a folder and makes these steps. The first that doesn't come out so, counted from 0.
-fn first_wrong<R: Files>(folder: &Folder<'_, R>, steps: &[Step<'_>]) -> io::Result<Option<usize>> {
-    let mut vault = FileVault::open(folder)?;
-    Ok(steps.iter().position(|step| !is_right(&mut vault, *step)))
+/// Opens the vault of a folder and makes these steps. Whether each comes out so.
+fn are_right<R: Files>(folder: &Folder<'_, R>, steps: &[Step<'_>]) -> bool {
+    match FileVault::open(folder) {
+        Ok(mut vault) => steps.iter().all(|step| is_right(&mut vault, *step)),
+        Err(_) => false,
+    }
 }
 
 #[test]
 fn objects_are_replaced_as_a_whole(rt: HostRuntime) -> Result<(), Fail> {
-    let path = "media_file_tests_vault";
-    made(&rt, path)?;
-    let folder = Folder::new(&rt, rt.alloc(), path)?;
-    let steps = [
+    made(&rt, "media_file_tests_vault")?;
+    let folder = Folder::new(&rt, rt.alloc(), "media_file_tests_vault")?;
+    let puts = [
         Step::Has(RUN, 0, b""),
         Step::Put(RUN, b"a long object"),
         Step::Put(BACKUP, b"another"),
         Step::Put(RUN, b"short"),
         Step::Sync,
     ];
-    assert_eq!(rt; first_wrong(&folder, &steps)?, None);
-    let steps = [Step::Has(RUN, 2, b"ort"), Step::Has(BACKUP, 0, b"anoth")];
-    assert_eq!(rt; first_wrong(&folder, &steps)?, None);
-    assert!(rt; fs::exists(&rt, "media_file_tests_vault/vault/bak-3-2")?);
-    fs::remove_dir_all(&rt, path)?;
+    assert!(rt; are_right(&folder, &puts));
+    let gets = [Step::Has(RUN, 2, b"ort"), Step::Has(BACKUP, 0, b"anoth")];
+    assert!(rt; are_right(&folder, &gets));
+    assert!(rt; fs::exists(&rt, "media_file_tests_vault/vault/bak-3-2").unwrap_or(false));
+    fs::remove_dir_all(&rt, "media_file_tests_vault")?;
     Ok(())
 }
 
 /// Opens the vault of a folder, puts the run and syncs. How often files and folders were synced behind each.
-fn syncs_of<R: Files>(folder: &Folder<'_, R>, watch: &Watch) -> io::Result<[(u64, u64); 3]> {
-    let mut vault = FileVault::open(folder)?;
+fn syncs_of<R: Files>(folder: &Folder<'_, R>, watch: &Watch) -> Option<[(u64, u64); 3]> {
+    let mut vault = FileVault::open(folder).ok()?;
     let opened = watch.syncs();
-    let _outcome = vault.put(RUN, b"whole");
+    vault.put(RUN, b"whole").ok()?;
     let put = watch.syncs();
-    let _outcome = vault.sync();
-    Ok([opened, put, watch.syncs()])
+    vault.sync().ok()?;
+    Some([opened, put, watch.syncs()])
 }
 
-/// The folder of the vault is new at first. Behind a put that fails for want of room the object is as before.
+/// Behind a put that fails for want of room the object is as before.
+fn is_kept<R: Files>(folder: &Folder<'_, R>, watch: &Watch) -> bool {
+    watch.room.set(3);
+    let steps = [
+        Step::Fails(RUN, b"other"),
+        Step::Faults(1),
+        Step::Has(RUN, 0, b"whole"),
+    ];
+    are_right(folder, &steps)
+}
+
+/// The folder of the vault is new at first.
 #[test]
 fn an_object_is_durable_before_it_has_its_name(rt: HostRuntime) -> Result<(), Fail> {
     let watch = Watch::new();
@@ -97,18 +109,11 @@ fn an_object_is_durable_before_it_has_its_name(rt: HostRuntime) -> Result<(), Fa
         rt: &rt,
         watch: &watch,
     };
-    let path = "media_file_tests_objects";
-    made(&rt, path)?;
-    let folder = Folder::new(&files, rt.alloc(), path)?;
-    assert_eq!(rt; syncs_of(&folder, &watch)?, [(0, 1), (1, 1), (1, 2)]);
-    watch.room.set(3);
-    let steps = [
-        Step::Fails(RUN, b"other"),
-        Step::Faults(1),
-        Step::Has(RUN, 0, b"whole"),
-    ];
-    assert_eq!(rt; first_wrong(&folder, &steps)?, None);
-    fs::remove_dir_all(&rt, path)?;
+    made(&rt, "media_file_tests_objects")?;
+    let folder = Folder::new(&files, rt.alloc(), "media_file_tests_objects")?;
+    assert!(rt; syncs_of(&folder, &watch) == Some([(0, 1), (1, 1), (1, 2)]));
+    assert!(rt; is_kept(&folder, &watch));
+    fs::remove_dir_all(&rt, "media_file_tests_objects")?;
     Ok(())
 }
 
@@ -121,15 +126,21 @@ fn put_strays(rt: &HostRuntime, alloc: Global, path: &str) -> io::Result<()> {
     Ok(())
 }
 
+/// Whether the vault of the folder has the run alone.
+fn has_the_run<R: Files + AllocGlobal + Clone + Drop>(folder: &Folder<'_, R>) -> bool {
+    match FileVault::open(folder).and_then(|vault| vault.objects()) {
+        Ok(objects) => objects.as_slice() == [RUN].as_slice(),
+        Err(_) => false,
+    }
+}
+
 #[test]
 fn files_of_others_are_no_objects(rt: HostRuntime) -> Result<(), Fail> {
-    let path = "media_file_tests_strays";
-    made(&rt, path)?;
-    let folder = Folder::new(&rt, rt.alloc(), path)?;
-    assert_eq!(rt; first_wrong(&folder, &[Step::Put(RUN, b"whole")])?, None);
-    put_strays(&rt, rt.alloc(), path)?;
-    let objects = FileVault::open(&folder)?.objects()?;
-    assert_eq!(rt; objects.as_slice(), [RUN].as_slice());
-    fs::remove_dir_all(&rt, path)?;
+    made(&rt, "media_file_tests_strays")?;
+    let folder = Folder::new(&rt, rt.alloc(), "media_file_tests_strays")?;
+    assert!(rt; are_right(&folder, &[Step::Put(RUN, b"whole")]));
+    put_strays(&rt, rt.alloc(), "media_file_tests_strays")?;
+    assert!(rt; has_the_run(&folder));
+    fs::remove_dir_all(&rt, "media_file_tests_strays")?;
     Ok(())
 }
