@@ -1,0 +1,15 @@
+//! A journal that one thread owns, behind the traits.
+//!
+//! Descents, system transactions, pools and sessions know a journal by the traits of page_ops alone. [`OwnJournal`] is the
+//! journal of a life with a thread's shares of its ledgers, and meets [`page_ops::Entering`] and [`page_ops::Journaling`]:
+//! so whatever is proved over the traits holds of a store on this journal.
+//!
+//! Each call is one call of the journal, or one look at it and then what its listing tells: the ends of a page's traces,
+//! and whether its segment is unrestored. Such questions take no memory, and cost at most the logarithm of what is listed.
+#![tactic(auto)]
+
+mod asking;
+mod journaling;
+mod own;
+
+pub use own::OwnJournal;
