@@ -1,6 +1,6 @@
 -- Where no backup and no run is done, the same objects are named.
 use Rattle.std.proofs.Common.{◌≡◌, ℕ, List, [], ◌∷◌, ◌++◌, length, Bool, true, false, refl, sym, ap, ◌∙◌, subst, arith, inl, inr}
-use Rattle.std.specs.Prelude.{◌⊎◌, ◌||◌, ◌-◌, ◌≤◌, min, take, drop, Option, Some, Result, Ok, Err, IfOk, IfSome, IsSome, None}
+use Rattle.std.specs.Prelude.{◌⊎◌, ◌-◌, ◌≤◌, min, take, drop, Option, Some, Result, Ok, Err, IfOk, IfSome, IsSome, None}
 use Rattle.std.specs.List.{list_any}
 use Rattle.std.proofs.lemmas.List.Folds.{list_any-append}
 use Rattle.store_model.proofs.Bools.{or_left, or_right, not_both}
@@ -8,7 +8,7 @@ use Rattle.wal_record.specs.Legal.{IsLegal}
 use mathlib.Core.List.{IsPrefix}
 use Rattle.front.specs.Seen.{PassSeen}
 use Rattle.front.proofs.Keeping.{prefix_trans}
-use Rattle.media.specs.Objects.{Stored, Synced, bytes_of, SameObjects}
+use Rattle.media.specs.Objects.{Stored, bytes_of, SameObjects}
 use Rattle.store_model.specs.declared.object.ObjectName.{ObjectName}
 use Rattle.books.specs.Rights.{MaintClaim}
 use Rattle.wal_record.specs.Books.{maintenance_book}
@@ -21,7 +21,7 @@ use Rattle.claim_laws.proofs.Upkeep.{maintenance_law}
 use Rattle.page_ops.specs.Names.{LedgerName}
 use Rattle.page_ops.specs.Causes.{IsUntold}
 use Rattle.page_ops.specs.Claims.{Agree, Claims, MaintAgrees, no_claims}
-use Rattle.page_ops.specs.Seeing.{Account, Enters, IsConsistent, IsMoment, Looks, known}
+use Rattle.page_ops.specs.Seeing.{Account, Enters, IsConsistent, Looks, known}
 use Rattle.page_ops.proofs.Staying.{longer_log}
 use Rattle.named_objects.specs.Named.{Names, Tells, AreNamed, IsNamedPiece}
 

@@ -17,14 +17,14 @@ use store_model::{Fault, Lsn, PageNo};
 use wal_record::Record;
 
 /// The fault of a chain that no lawful log has: one that doesn't fall, or a record that can't be redone. It names no block.
-pub(crate) fn bad_chain() -> Fault
+pub fn bad_chain() -> Fault
     ensures { result ≡ faults.LogBad 0 0 }
 {
     Fault::LogBad { block: 0, byte: 0 }
 }
 
 /// The LSN of the record before this one that names the page, as this one tells it; 0 where it makes the page.
-fn previous(page: PageNo, entry: &Record) -> Lsn
+pub fn previous(page: PageNo, entry: &Record) -> Lsn
     ensures { result ≡ previous page entry.now }
 {
     match entry {

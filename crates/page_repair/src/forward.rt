@@ -13,7 +13,7 @@ use store_model::{Lsn, Memory, PageNo};
 use wal_record::{PageState, Record};
 
 /// Where a page is rebuilt from.
-pub(crate) fn start(base: Option<Sealed>) -> (Lsn, Option<PageState>)
+pub fn start(base: Option<Sealed>) -> (Lsn, Option<PageState>)
     ensures { (result.0 ≡ base_lsn base) × (result.1 ≡ base_state base) }
 {
     match base {
@@ -39,7 +39,7 @@ fn redo_one(
 }
 
 /// Redoes records, which stand last first, on a page: true where each could be.
-pub(crate) fn replay(
+pub fn replay(
     alloc: Global,
     page: PageNo,
     state: &mut Option<PageState>,

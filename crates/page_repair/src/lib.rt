@@ -19,7 +19,9 @@ mod own_images;
 mod rebuilding;
 mod supply;
 
+pub use back::{bad_chain, previous};
 pub use chain::Chain;
+pub use forward::{replay, start};
 pub use images::Images;
 pub use own_images::OwnImages;
 pub use rebuilding::rebuild;

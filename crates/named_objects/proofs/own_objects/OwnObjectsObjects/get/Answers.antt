@@ -1,4 +1,4 @@
-use Rattle.std.proofs.Common.{◌≡◌, Option, sym, ap, subst, ◌∙◌}
+use Rattle.std.proofs.Common.{◌≡◌, Option, sym, ap, subst}
 use Rattle.std.specs.Prelude.{◌⊎◌, IfSome, IsSome}
 use mathlib.Core.List.{IsPrefix}
 use Rattle.books.specs.Rights.{MaintClaim}

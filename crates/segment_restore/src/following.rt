@@ -1,0 +1,80 @@
+//! The chain of a page, asked of the journal.
+ghost use Rattle.std.specs.Prelude.{◌≡◌, ◌<◌, ◌≤◌, List, Some, reverse, IfOk, IfErr, OnOk};
+ghost use Rattle.chain_laws.specs.Steps.{named_between, previous};
+ghost use Rattle.page_ops.specs.Causes.{FailsToBring, MeetsNoEnd};
+ghost use Rattle.page_ops.specs.Claims.{no_claims};
+ghost use Rattle.page_ops.specs.Seeing.{IsConsistent, Looks, Upholds, is_none, known};
+ghost use Rattle.page_repair.specs.Rebuild.{AreSpelled};
+ghost use Rattle.page_repair.specs.Supplies.{IsHead};
+ghost use Rattle.segment_restore.specs.Faults.{no_faults};
+ghost use Rattle.wal_record.specs.Chains.{record_with};
+ghost use Rattle.wal_record.specs.History.{life_log};
+ghost use Rattle.wal_record.specs.Rules.{HasSpelling};
+ghost use Rattle.wal_record.specs.declared.record.Record.{Record};
+
+use front::Pass;
+use page_ops::{Entering, Found, Life, Rights};
+use page_repair::{bad_chain, previous};
+use std::alloc::Global;
+use std::sync::Wait;
+use store_model::{Fault, Lsn, PageNo};
+use wal_record::{Entry, Record};
+
+/// The record of an LSN, if it tells a lower one before it. So an untold chain ends, too. One that the log has forgotten wants
+/// memory.
+fn step<N: Life, J: Entering<N>, R: Wait>(
+    rt: &R,
+    alloc: Global,
+    journal: &mut J,
+    page: PageNo,
+    lsn: Lsn,
+    pass: &mut Pass<Entry, N>,
+) -> Result<Record, Fault>
+    requires named { IsHead N.opens pass.old.log page lsn }
+    ensures found { (opening : List Record) → N.opens opening → IfOk result (λ r. record_with (life_log opening pass.new.log) lsn ≡ Some r) }
+    ensures falls { IfOk result (λ r. previous page r < lsn) }
+    ensures spelled { IfOk result HasSpelling }
+    ensures seen { Looks N.opens N.entries N.session_entries (J.account journal.old) pass.old (J.account journal.new) pass.new }
+    ensures open { OnOk result (MeetsNoEnd (J.account journal.old) (J.account journal.new)) }
+    ensures refused { IfErr result (FailsToBring N.opens N.log_faults N.made no_faults no_faults (J.account journal.old) (J.account journal.new) pass.new.log) }
+{
+    let record = match journal.read(rt, alloc, lsn, pass) {
+        Ok(Found::Record(record)) => record,
+        Ok(Found::Run(_)) => return Err(Fault::Memory),
+        Err(fault) => return Err(fault),
+    };
+    if lsn <= previous(page, &record) {
+        return Err(bad_chain());
+    }
+    Ok(record)
+}
+
+/// The records of the page's chain from the head down to above this LSN, last first.
+pub(crate) fn follow<N: Life, J: Entering<N>, R: Wait>(
+    rt: &R,
+    alloc: Global,
+    journal: &mut J,
+    page: PageNo,
+    low: Lsn,
+    head: Lsn,
+    pass: &mut Pass<Entry, N>,
+) -> Result<Vec<Record>, Fault>
+    requires consistent { IsConsistent N.opens pass.old.log }
+    requires named { IsHead N.opens pass.old.log page head }
+    ensures records { (opening : List Record) → N.opens opening → IfOk result (λ records. records.items ≡ reverse (named_between (life_log opening pass.old.log) page low head)) }
+    ensures spelled { IfOk result (λ records. AreSpelled records.items) }
+    ensures entered { Upholds N.opens N.entries N.session_entries is_none (known (J.account journal.old) pass.old no_claims) (known (J.account journal.new) pass.new no_claims) }
+    ensures open { OnOk result (MeetsNoEnd (J.account journal.old) (J.account journal.new)) }
+    ensures refused { IfErr result (FailsToBring N.opens N.log_faults N.made no_faults no_faults (J.account journal.old) (J.account journal.new) pass.new.log) }
+{
+    let mut records = Vec::new(alloc);
+    let mut lsn = head;
+    journal.see(rt, &mut Rights::none(), pass);
+    while low < lsn {
+        let record = step(rt, alloc, journal, page, lsn, pass)?;
+        let before = previous(page, &record);
+        records.push(record)?;
+        lsn = before;
+    }
+    Ok(records)
+}
