@@ -4,11 +4,10 @@ use Rattle.media.specs.Objects.{Stored, Absent, Unsynced, Synced, MayLeave}
 use Rattle.media.specs.declared.vault.Vault as vaults
 use Rattle.script.specs.declared.command.Command.{Command}
 use Rattle.script.specs.declared.command.Command.TheVariants as commands
-use Rattle.store_model.specs.declared.object.ObjectName.{ObjectName}
 use Rattle.wal_record.specs.declared.entry.Entry.{Entry}
 use Rattle.wal_record.specs.declared.record.Record.{Record}
 use Rattle.runner.specs.Machine.{Adds}
-use Rattle.runner.specs.Turns.{End, Done, LogFault, Ended, Cut, Turn, Stage, FitsAt, Row, IsNoStop, stage_after, stage_step}
+use Rattle.runner.specs.Turns.{End, Done, LogFault, Ended, Cut, Stage, Row, IsNoStop, stage_after}
 use Rattle.runner.specs.Vault.{IsCycled, IsVault, Cycles, Beside}
 
 may_self : (x : Stored) → MayLeave x x

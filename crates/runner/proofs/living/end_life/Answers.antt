@@ -1,4 +1,4 @@
-use Rattle.std.proofs.Common.{rules, ◌∙◌, ◌≡◌, ◌∷◌, ◌++◌, [], sym}
+use Rattle.std.proofs.Common.{◌∙◌, ◌∷◌, ◌++◌, [], sym}
 use Rattle.script.specs.declared.command.Command.TheVariants as commands
 use Rattle.runner.specs.Turns.{stage}
 use Rattle.runner.specs.LogDisk.{IsWhole, seen}

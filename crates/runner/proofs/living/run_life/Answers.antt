@@ -1,4 +1,4 @@
-use Rattle.std.proofs.Common.{arith, ap, [], ◌∷◌, ◌++◌, ◌≤◌, ℕ, subst, sym}
+use Rattle.std.proofs.Common.{arith, ap, [], ◌∷◌, ◌++◌, subst, sym}
 use Rattle.std.proofs.KnownBytes.{Consumes-nil}
 use Rattle.runner.specs.declared.status.Status.TheVariants as statuses
 use Rattle.runner.specs.Clause.{Headline, Stopping}

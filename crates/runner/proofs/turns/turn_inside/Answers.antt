@@ -1,11 +1,11 @@
-use Rattle.std.proofs.Common.{rules, ◌∙◌, ◌≡◌, ℕ, Option, Ok, refl, sym, subst}
+use Rattle.std.proofs.Common.{rules, ◌∙◌, ℕ, Option, Ok, sym, subst}
 use Rattle.script.specs.declared.command.Command.{Command}
 use Rattle.runner.specs.declared.status.Status.TheVariants as statuses
 use Rattle.runner.specs.Turns.{stage}
 use Rattle.runner.specs.LogDisk.{IsWhole, seen}
 use Rattle.runner.specs.Vault.{Beside}
 use Rattle.runner.specs.Machine.{Within}
-use Rattle.runner.specs.Clause.{TakesCommand, Headline}
+use Rattle.runner.specs.Clause.{TakesCommand}
 use Rattle.runner.proofs.Lives.{known_in, safe_in}
 use Rattle.runner.proofs.Vaults.{adds_still}
 use Rattle.runner.proofs.Runs.{no_line, at_end, refused, went, fell, stops, all_written}
