@@ -1,5 +1,5 @@
 -- The page of a life that begins.
-use Rattle.std.proofs.Common.{◌≡◌, ℕ, List, [], sym, ap, ◌∙◌, arith, append-nil}
+use Rattle.std.proofs.Common.{◌≡◌, List, [], sym, ap, ◌∙◌, arith, append-nil}
 use Rattle.std.specs.Prelude.{◌-◌}
 use Rattle.media.specs.declared.disk.Disk.{Ghosts}
 use Rattle.held_leaf.specs.Leaf.{IsOnly}

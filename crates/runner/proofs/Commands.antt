@@ -51,7 +51,7 @@ use Rattle.runner.specs.Machine.{actives, IsFused, In, Runs, IsOver, LivesOn, Ad
 use Rattle.transcript.specs.Printing.{escaped, shown}
 use Rattle.runner.specs.Refusals.{RefusesAt, CutAt, HasNoPlace, IsRequestNotBuilt}
 use Rattle.runner.specs.Turns.{Turn, Life, Active, Stage, LeftBy, Done, LogFault, Ended, Commits, IsCutOff, IsLeftBy, history_of, IsEnd, IsEndedAt, lives_of, last_after, without, IsAid, HasRoom, IsRightLife, turn, stage_step, longer, is_known, is_lawful, no_life, tx_of, log_of_life, Answers, EndedRow, IsNoStop}
-use Rattle.runner.specs.Text.{lines, head}
+use Rattle.runner.specs.Text.{head}
 use Rattle.runner.specs.declared.session.Session.{Session}
 use Rattle.runner.specs.Standing.{Standing}
 use Rattle.runner.specs.declared.status.Status.{Status}

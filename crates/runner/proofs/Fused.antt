@@ -1,5 +1,5 @@
 -- The log disk in its fuse, and without it.
-use Rattle.std.proofs.Common.{◌≡◌, ◌≢◌, ℕ, ◌+◌, List, [], Option, Some, None, true, refl, sym, subst, inl, inr, length}
+use Rattle.std.proofs.Common.{◌≡◌, ◌≢◌, ℕ, ◌+◌, List, Option, Some, None, true, refl, sym, subst, inl, inr, length}
 use Rattle.std.proofs.lemmas.List.Elements.{All-nil}
 use Rattle.media.specs.Kept.{Kept}
 use Rattle.media.specs.Fused.{Fused}

@@ -1,5 +1,5 @@
 -- What is known of the bytes of a log disk stays so.
-use Rattle.std.proofs.Common.{◌≡◌, ◌<◌, ◌++◌, ◌∷◌, ℕ, List, [], Result, Ok, Err, refl, sym, ap, subst, ◌∙◌, ◌⊎◌, ⊎_elim, arith, length}
+use Rattle.std.proofs.Common.{◌≡◌, ◌∷◌, ℕ, List, [], Result, Ok, Err, sym, subst, ◌∙◌, ⊎_elim, arith}
 use Rattle.std.specs.Prelude.{IfOk, IfErr, MatchResult}
 use Rattle.media.specs.Crash.{Only, NoMore}
 use Rattle.media.specs.Kept.{Kept}
@@ -8,7 +8,7 @@ use Rattle.log_blocks.specs.Log.{Block, StandsFor, open_gate}
 use Rattle.log_blocks.specs.LogState.{LogState, IsDurable}
 use Rattle.log_blocks.specs.Opening.{IsBadAt}
 use Rattle.runner.specs.Bytes.{Bytes, Unknown, Gated, Bad, IsFormatted, IsGated, IsBad, Known, MayMake, MayOpen, StaysKnown, Allows}
-use Rattle.runner.proofs.Openings.{OneLog, NeverBad}
+use Rattle.runner.proofs.Openings.{NeverBad}
 
 -- where nothing is known, no disk breaks it
 pub known_none : {D : Type 0} (tells : Type 0) (L : Ghosts D) (b : Bytes) (disk : D) → MayMake b → Known tells L b disk

@@ -123,3 +123,7 @@ module _ {D : Type 0} (L : Ghosts D) where
     goes = h.goes;
     fuse = h.fused.fuse;
   }
+
+  -- of any disk nothing is known within a life
+  pub known_in : (T : Type 0) (s : Stage) (log : LogState D) (standing : Standing) → In L log standing s → (disk : D) → Known T L (bytes_after s.life s.bytes) disk
+  known_in T s log standing h disk = subst (λ (x : Option Life). Known T L (bytes_after x s.bytes) disk) (sym h.life) tt

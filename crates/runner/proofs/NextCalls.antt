@@ -1,10 +1,10 @@
 -- What one call leaves, as the next one finds it.
-use Rattle.std.proofs.Common.{◌≡◌, ℕ, List, Option, Some, true, refl, sym, ap, subst, ◌∙◌, ◌⊎◌, inl, inr, ◌++◌}
+use Rattle.std.proofs.Common.{◌≡◌, List, Option, refl, sym, ap, subst, ◌∙◌, ◌⊎◌, inl, inr}
 use Rattle.std.specs.List.{list_any}
 use Rattle.media.specs.declared.disk.Disk.{Ghosts}
 use Rattle.wal_record.specs.Left.{is_commit_of}
 use Rattle.wal_record.specs.declared.record.Record.{Record}
-use Rattle.runner.specs.LogDisk.{Keeps, Leaves}
+use Rattle.runner.specs.LogDisk.{Keeps}
 use Rattle.runner.specs.NextCall.{HandsOn, HasAcknowledged}
 use Rattle.runner.specs.Turns.{Last, Unsynced, LeftBy, Life, Stage, IsLeftBy, MayFind, MayBeLeft, last_after}
 use Rattle.runner.proofs.Lives.{holds_map}

@@ -1,5 +1,5 @@
 -- Openings and formats of a disk that keeps a log that may be found.
-use Rattle.std.proofs.Common.{◌≡◌, ◌≢◌, ℕ, zero, suc, ◌+◌, ◌<◌, ◌≤◌, true, List, [], ◌∷◌, ◌++◌, Option, refl, sym, ap, subst, ◌∙◌, arith, ◌⊎◌, inl, inr, ⊎_elim, append-nil, length, length-append, take, Result, Ok, Err}
+use Rattle.std.proofs.Common.{◌≡◌, ◌≢◌, ℕ, zero, suc, ◌+◌, ◌≤◌, true, List, [], ◌∷◌, ◌++◌, Option, refl, sym, ap, subst, ◌∙◌, arith, inl, inr, ⊎_elim, append-nil, length, length-append, take, Result, Ok, Err}
 use Rattle.std.specs.Prelude.{IfOk}
 use Rattle.media.specs.Crash.{NoMore}
 use Rattle.media.specs.Counted.{Blames}
@@ -30,7 +30,7 @@ use Rattle.runner.specs.Bytes.{IsFormatted}
 use Rattle.runner.specs.Causes.{Shows}
 use Rattle.runner.specs.Machine.{IsCalm}
 use Rattle.runner.specs.Openings.{IsMade, IsFirst, IsNotMade, IsNotBegun, IsBegun, IsFault, MadeStatus, ReadStatus, ReplayStatus}
-use Rattle.runner.specs.Turns.{Last, Life, LeftBy, IsLeftBy, Formatted, Unformatted, MayFind, MayBeLeft}
+use Rattle.runner.specs.Turns.{Last, Life, LeftBy, IsLeftBy, Unformatted, MayFind, MayBeLeft}
 use Rattle.runner.specs.Standing.{Standing}
 use Rattle.runner.specs.declared.status.Status.{Status}
 use Rattle.runner.specs.declared.status.Status.TheVariants as statuses

@@ -1,5 +1,4 @@
 -- What holds at the place of a run.
-use Rattle.std.proofs.Common.{ℕ}
 use Rattle.media.specs.declared.disk.Disk.{Ghosts}
 use Rattle.runner.specs.declared.at.At.{At}
 use Rattle.runner.specs.declared.at.At.TheVariants.{Outside, Inside}

@@ -1,6 +1,6 @@
 -- Rows of a leaf that are found by a search.
-use Rattle.std.proofs.Common.{◌≡◌, ℕ, suc, ◌<◌, ◌≤◌, true, false, List, [], sym, ap, subst, ◌∙◌, arith, length}
-use Rattle.std.specs.Prelude.{IsTrue, Option, option_and_then}
+use Rattle.std.proofs.Common.{◌≡◌, ℕ, true, false, List, [], sym, ap, subst, ◌∙◌, arith, length}
+use Rattle.std.specs.Prelude.{Option, option_and_then}
 use Rattle.std.proofs.lemmas.Option.{slice_get-get_or}
 use Rattle.wal_record.specs.State.{KeepsState, KeepsRows, own_part, live, live_value, rises, leaf_below}
 use Rattle.wal_record.specs.declared.page.LeafRow.{LeafRow}

@@ -1,6 +1,6 @@
 -- A run, turn by turn.
-use Rattle.std.proofs.Common.{◌≡◌, ◌≢◌, ◌≤◌, ℕ, ◌+◌, true, false, List, [], ◌∷◌, ◌++◌, Option, Some, None, Err, refl, sym, ap, subst, ◌∙◌, arith, inl, inr, append_assoc, append-nil, length, length-append}
-use Rattle.std.specs.Prelude.{◌⊎◌}
+use Rattle.std.proofs.Common.{◌≡◌, ◌≤◌, ℕ, ◌+◌, true, false, List, [], ◌∷◌, ◌++◌, Option, Some, None, Err, refl, sym, ap, subst, ◌∙◌, arith, inl, inr, append_assoc, append-nil, length, length-append}
+use Rattle.std.specs.Prelude.{◌⊎◌, codes}
 use Rattle.std.specs.List.{All}
 use Rattle.std.proofs.lemmas.List.Elements.{All-nil}
 use Rattle.std.specs.Io.KnownBytes.{Appends, Consumes, IsAtEnd, prepend_known}
@@ -25,7 +25,7 @@ use Rattle.runner.specs.Bytes.{Bytes, Known}
 use Rattle.runner.specs.LogDisk.{Leaves}
 use Rattle.runner.specs.Vault.{Beside, IsVault}
 use Rattle.runner.specs.Status.{cuts}
-use Rattle.runner.specs.Clause.{IsNext, IsPrefix, Partly, BadLine, Unlawful, OfCommand, NextLine, Ended, HandsBack, Headline, Between, TakesCommand}
+use Rattle.runner.specs.Clause.{IsNext, IsPrefix, Partly, BadLine, Unlawful, OfCommand, NextLine, Ended, HandsBack, Headline, Between, Stopping, TakesCommand}
 use Rattle.runner.proofs.Turning.{stage_push, text_push, fits_push, script_push}
 use Rattle.runner.proofs.Vaults.{vault_first}
 
@@ -181,6 +181,26 @@ module _ {D E : Type 0} (T : Type 0) (L : Ghosts D) (V : vaults.Ghosts E) (start
 
     said_here : (t : Turn) → t.command ≡ c → reads bytes ≡ Some t.command
     said_here t same = e ∙ ap (λ (x : Command). Some x) (sym same)
+
+    safe_holds : Beside V first vault (Safe T L disk) (stage start turns)
+    safe_holds = record { here = here; vault = b.holds.vault }
+
+    -- the line asks for a stop
+    pub stops : (keep : Option ℕ) (out : List ℕ) → c ≡ commands.Stop keep → out ≡ codes "stop\n" → new.lines ≡ old.lines + 1 → Stopping T L V start disk first vault left0 told0 new turns ln told keep out
+    stops keep out stop text lines_are = record {
+      text = text;
+      old = old;
+      left_old = lo;
+      before = record { read = b.read; script = b.script; taken = b.taken; count = b.count; size = b.size; within = b.within; most = b.most; fits = b.fits; holds = safe_holds; wrote = b.wrote };
+      most = most;
+      line = bytes;
+      took = took;
+      one = is;
+      said = e ∙ ap (λ (x : Command). Some x) stop;
+      size = size;
+      within = within;
+      count = lines_are;
+    }
 
     -- one turn more
     pub went : (H' : Stage → Type 0) (out : List ℕ) → new.lines ≡ old.lines + 1 → Adds L.tells H' (stage start turns) c out → (told' : Option (List ℕ)) → Appends told told' out

@@ -4,11 +4,10 @@ use Rattle.media.specs.Objects.{Stored, Absent, Unsynced, Synced, MayLeave}
 use Rattle.media.specs.declared.vault.Vault as vaults
 use Rattle.script.specs.declared.command.Command.{Command}
 use Rattle.script.specs.declared.command.Command.TheVariants as commands
-use Rattle.store_model.specs.declared.object.ObjectName.{ObjectName}
 use Rattle.wal_record.specs.declared.entry.Entry.{Entry}
 use Rattle.wal_record.specs.declared.record.Record.{Record}
 use Rattle.runner.specs.Machine.{Adds}
-use Rattle.runner.specs.Turns.{End, Done, LogFault, Ended, Cut, Turn, Stage, FitsAt, Row, IsNoStop, stage_after, stage_step}
+use Rattle.runner.specs.Turns.{End, Done, LogFault, Ended, Cut, Stage, Row, IsNoStop, stage_after}
 use Rattle.runner.specs.Vault.{IsCycled, IsVault, Cycles, Beside}
 
 may_self : (x : Stored) → MayLeave x x
@@ -88,3 +87,11 @@ module _ {E : Type 0} (V : vaults.Ghosts E) where
     holds = record { here = a.holds; vault = vault_after tells first old new s a.turn.command a.turn.entries a.turn.found a.turn.end a.fits.row (subst (λ (x : Command). Cycles V x old new) (sym a.is) cycles) h };
     lines = a.lines;
   }
+
+  still : (c : Command) (e : E) → IsNoStop c → Cycles V c e e
+  still (commands.Stop keep) e h = absurd h
+  still _ e h = refl
+
+  -- one that is no stop
+  pub adds_still : (tells : Type 0) (first vault : E) (H : Stage → Type 0) (s : Stage) (c : Command) (out : List ℕ) → IsNoStop c → IsVault V first vault s.cycled → Adds tells H s c out → Adds tells (Beside V first vault H) s c out
+  adds_still tells first vault H s c out go h a = adds_beside tells first vault vault H s c out (still c vault go) h a

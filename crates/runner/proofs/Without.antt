@@ -1,5 +1,5 @@
 -- What each command does where no life is open, over any stage.
-use Rattle.std.proofs.Common.{◌≡◌, ◌≢◌, ℕ, ◌+◌, ◌<◌, ◌≤◌, Bool, true, false, List, [], ◌∷◌, ◌++◌, Option, None, refl, sym, ap, subst, ◌∙◌, arith, ◌⊎◌, ⊎_elim, inl, append-nil, length}
+use Rattle.std.proofs.Common.{◌≡◌, ◌≢◌, ℕ, ◌<◌, ◌≤◌, Bool, true, false, List, [], ◌++◌, Option, None, refl, sym, ap, subst, ◌∙◌, arith, ⊎_elim, inl, append-nil, length}
 use Rattle.std.specs.Prelude.{codes, IsTrue, ◌^◌}
 use Rattle.std.specs.Fmt.{decimal}
 use Rattle.media.specs.Cause.{Rose}
@@ -20,20 +20,18 @@ use Rattle.script.specs.declared.command.Command.TheVariants as commands
 use Rattle.script.specs.declared.command.Device.{Device}
 use Rattle.script.specs.declared.command.Device.TheVariants.{Log}
 use Rattle.runner.specs.declared.at.At.{At}
-use Rattle.runner.specs.declared.at.At.TheVariants as places
 use Rattle.runner.specs.declared.at.Stepped.{Stepped}
 use Rattle.runner.specs.declared.at.Stepped.TheVariants as steps
 use Rattle.runner.specs.Standing.{Standing}
 use Rattle.runner.specs.declared.status.Status.{Status}
 use Rattle.runner.specs.declared.status.Status.TheVariants as statuses
-use Rattle.runner.specs.Bytes.{Bytes, Known, MayMake, MayOpen, StaysKnown, Allows}
+use Rattle.runner.specs.Bytes.{Known, MayMake, MayOpen, StaysKnown, Allows}
 use Rattle.runner.specs.Causes.{LifeCause, LogCause, SteppedCause, Shows, disk_at}
-use Rattle.runner.specs.LogDisk.{View, Whole, Form, IsWhole, seen, Keeps, HoldsOne, Leaves}
+use Rattle.runner.specs.LogDisk.{View, Whole, Form, IsWhole, seen, Keeps, Leaves}
 use Rattle.runner.specs.Machine.{actives, IsFused, Out, In, Safe, Adds, IsAt, Steps, Refuses}
 use Rattle.runner.specs.Openings.{Makes, IsMade, IsNotMade, IsBegun, IsNotBegun}
 use Rattle.runner.specs.Refusals.{RefusesAt}
 use Rattle.runner.specs.Turns.{Life, Stage, Last, Unformatted, Stopped, Done, LogFault, IsEnd, CallsLog, MayEnter, IsCutOff, IsOpenable, turn, room_of, no_life, is_lawful, last_after, bytes_after}
-use Rattle.runner.specs.Text.{lines}
 use Rattle.runner.proofs.Lists.{some_commits, commits_of_some, open_of_some, no_losers}
 use Rattle.runner.proofs.Commands.{runs_on}
 use Rattle.runner.proofs.Openings.{begun_keeps}

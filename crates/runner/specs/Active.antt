@@ -1,5 +1,5 @@
 -- The open transaction.
-use Rattle.std.specs.Prelude.{◌≡◌, ◌≤◌, ◌<◌, ◌+◌, ◌^◌, ℕ, List, [], ◌∷◌, Option, Some, None, is_some, Bool, true, false}
+use Rattle.std.specs.Prelude.{◌≡◌, ◌≤◌, ◌<◌, ◌+◌, ◌^◌, ℕ, List, Option, Some, None, is_some, Bool, true, false}
 use Rattle.wal_record.specs.declared.record.Record.{Record}
 use Rattle.life_laws.specs.Calm.{Opened}
 use Rattle.script.specs.Word.{same_text}

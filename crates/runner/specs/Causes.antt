@@ -9,6 +9,8 @@ use Rattle.runner.specs.declared.at.Stepped.{Stepped}
 use Rattle.runner.specs.declared.at.Stepped.TheVariants as steps
 use Rattle.runner.specs.declared.turns.Turned.{Turned}
 use Rattle.runner.specs.declared.turns.Turned.TheVariants as turns
+use Rattle.runner.specs.declared.turns.Passed.{Passed}
+use Rattle.runner.specs.declared.turns.Passed.TheVariants as passes
 use Rattle.runner.specs.declared.living.Lived.{Lived}
 use Rattle.runner.specs.declared.living.Lived.TheVariants as ways
 use Rattle.runner.specs.declared.status.Status.{Status}
@@ -75,6 +77,12 @@ abbrev pub TurnedCause : {D F : Type 0} → Ghosts D → (F → D) → D → ℕ
 TurnedCause L device disk source0 source1 sink0 sink1 (turns.Goes at) = L.own disk ≤ L.own (disk_at device at)
 TurnedCause L device disk source0 source1 sink0 sink1 (turns.Ends status left) = (L.own disk ≤ L.own left) × RunCause source0 source1 sink0 sink1 (L.own disk) (L.own left) status
     × Shows L left status × (status ≢ statuses.Usage) × (status ≢ statuses.NoGenerator)
+
+-- the same of a line within a life
+abbrev pub PassedCause : {D : Type 0} → Ghosts D → D → D → ℕ → ℕ → ℕ → ℕ → Passed → Type 0
+PassedCause L old new source0 source1 sink0 sink1 (passes.Ends status) = (L.own old ≤ L.own new) × RunCause source0 source1 sink0 sink1 (L.own old) (L.own new) status
+    × Shows L new status × (status ≢ statuses.Usage) × (status ≢ statuses.NoGenerator)
+PassedCause L old new source0 source1 sink0 sink1 _ = L.own old ≤ L.own new
 
 abbrev pub LivedCause : {D : Type 0} → Ghosts D → D → ℕ → ℕ → ℕ → ℕ → Lived D → Type 0
 LivedCause L disk source0 source1 sink0 sink1 (ways.Stopped left) = L.own disk ≤ L.own left

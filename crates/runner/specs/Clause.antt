@@ -1,5 +1,5 @@
 -- What a run promises.
-use Rattle.std.specs.Prelude.{◌≡◌, ◌≢◌, ◌<◌, ◌≤◌, ◌+◌, ℕ, List, [], ◌∷◌, ◌++◌, length, map, Option, Some, None, true, false, ◌⊎◌}
+use Rattle.std.specs.Prelude.{◌≡◌, ◌<◌, ◌≤◌, ◌+◌, ℕ, List, [], ◌∷◌, ◌++◌, length, map, Option, Some, None, true, false, ◌⊎◌, codes}
 use Rattle.std.specs.List.{All}
 use Rattle.std.specs.Io.KnownBytes.{Appends, Consumes, IsAtEnd, prepend_known}
 use Rattle.std.specs.declared.result.Result.{Result}
@@ -7,6 +7,7 @@ use Rattle.std.specs.declared.result.Result.TheVariants.{Ok, Err}
 use Rattle.media.specs.declared.disk.Disk.{Ghosts}
 use Rattle.media.specs.declared.vault.Vault as vaults
 use Rattle.script.specs.declared.command.Command.{Command}
+use Rattle.script.specs.declared.command.Command.TheVariants as commands
 use Rattle.script.specs.Line.{reads}
 use Rattle.line_reader.specs.Lines.{Reader, to_come, longest_script, IsBounded, IsLine, IsNoLine}
 use Rattle.line_reader.specs.Built.{is_built}
@@ -19,10 +20,12 @@ use Rattle.runner.specs.declared.status.Status.{Status}
 use Rattle.runner.specs.declared.status.Status.TheVariants as statuses
 use Rattle.runner.specs.declared.turns.Turned.{Turned}
 use Rattle.runner.specs.declared.turns.Turned.TheVariants as results
+use Rattle.runner.specs.declared.turns.Passed.{Passed}
+use Rattle.runner.specs.declared.turns.Passed.TheVariants as passes
 use Rattle.runner.specs.declared.living.Lived.{Lived}
 use Rattle.runner.specs.declared.living.Lived.TheVariants as ways
 use Rattle.runner.specs.LogDisk.{Leaves}
-use Rattle.runner.specs.Machine.{Out, IsAt}
+use Rattle.runner.specs.Machine.{Out, Safe, IsAt}
 use Rattle.runner.specs.Vault.{IsVault, Beside}
 
 -- the bytes are the lines of these commands
@@ -145,6 +148,27 @@ TakesCommand old new left_old left_new (Err e) = (rest : List ℕ) × Consumes (
 abbrev pub TurnedTo : {D E F : Type 0} → Type 0 → Ghosts D → vaults.Ghosts E → Start → (F → Stage → Type 0) → E → E → Option (List ℕ) → Option (List ℕ) → Reader → List Turn → Option (List ℕ) → Option (List ℕ) → Turned D F → Type 0
 TurnedTo tells L V start inside first vault left0 told0 reader turns left told (results.Goes at) = (t : Turn) × Between L.tells start (Beside V first vault (IsAt tells L inside at)) left0 told0 reader (turns ++ t ∷ []) left told
 TurnedTo tells L V start inside first vault left0 told0 reader turns left told (results.Ends status disk) = Headline tells L V start disk first vault left0 reader.pending left told0 told status
+
+-- The next line asks for a stop, and has been read; the turns are those before it.
+pub record Stopping {D E : Type 0} (tells : Type 0) (L : Ghosts D) (V : vaults.Ghosts E) (start : Start) (disk : D) (first vault : E) (left0 told0 : Option (List ℕ)) (reader : Reader) (turns : List Turn) (left told : Option (List ℕ)) (keep : Option ℕ) (out : List ℕ) : Type 0 where
+  pub text : out ≡ codes "stop\n"
+  pub old : Reader
+  pub left_old : Option (List ℕ)
+  pub before : Between L.tells start (Beside V first vault (Safe tells L disk)) left0 told0 old turns left_old told
+  pub most : IsBounded reader
+  pub line : List ℕ
+  pub took : Consumes (to_come old left_old) (to_come reader left) (line ++ 10 ∷ [])
+  pub one : IsLine line
+  pub said : reads line ≡ Some (commands.Stop keep)
+  pub size : reader.taken ≡ old.taken + length line + 1
+  pub within : reader.taken ≤ longest_script
+  pub count : reader.lines ≡ old.lines + 1
+
+-- one line within a life, which H knows then, behind which the run goes on, the machine is to stop, or the run has ended
+abbrev pub PassedTo : {D E : Type 0} → Type 0 → Ghosts D → vaults.Ghosts E → Start → (Stage → Type 0) → D → E → E → Option (List ℕ) → Option (List ℕ) → Reader → List Turn → Option (List ℕ) → Option (List ℕ) → Passed → Type 0
+PassedTo tells L V start H disk first vault left0 told0 reader turns left told passes.Goes = (t : Turn) × Between L.tells start (Beside V first vault H) left0 told0 reader (turns ++ t ∷ []) left told
+PassedTo tells L V start H disk first vault left0 told0 reader turns left told (passes.Stops keep lines) = Stopping tells L V start disk first vault left0 told0 reader turns left told keep lines.items
+PassedTo tells L V start H disk first vault left0 told0 reader turns left told (passes.Ends status) = Headline tells L V start disk first vault left0 reader.pending left told0 told status
 
 -- a life, which a stop has ended, or the run has ended in it
 abbrev pub LivedTo : {D E : Type 0} → Type 0 → Ghosts D → vaults.Ghosts E → Start → E → E → Option (List ℕ) → Option (List ℕ) → Reader → Option (List ℕ) → Option (List ℕ) → Lived D → Type 0

@@ -24,7 +24,7 @@ use Rattle.runner.specs.declared.status.Status.TheVariants as statuses
 use Rattle.runner.specs.Active.{opened_by}
 use Rattle.runner.specs.Bytes.{Known}
 use Rattle.runner.specs.Leaf.{rows_of}
-use Rattle.runner.specs.LogDisk.{Keeps, HoldsOne, Leaves, lsn_from}
+use Rattle.runner.specs.LogDisk.{Keeps, Leaves, lsn_from}
 use Rattle.runner.specs.Refusals.{RefusesAt}
 use Rattle.runner.specs.Text.{lines}
 use Rattle.runner.specs.Turns.{Turn, Life, Active, Stage, LeftBy, bytes_after, stage_step, FitsAt, IsRightLife, lives}

@@ -13,7 +13,7 @@ use Rattle.wal_record.specs.declared.record.Record.{Record}
 use Rattle.runner.specs.Standing.{Standing}
 use Rattle.runner.specs.declared.status.Status.{Status}
 use Rattle.runner.specs.declared.status.Status.TheVariants as statuses
-use Rattle.runner.specs.LogDisk.{Keeps, HoldsOne}
+use Rattle.runner.specs.LogDisk.{Keeps}
 use Rattle.runner.specs.Machine.{IsCalm}
 use Rattle.runner.specs.Refusals.{FindsLog, FindsUnbuilt}
 use Rattle.runner.specs.Turns.{Last, Formatted, Unformatted, MayFind}

@@ -12,7 +12,6 @@ use Rattle.wal_record.specs.declared.entry.Entry.{Entry}
 use Rattle.life_laws.specs.Calm.{only_leaf}
 use Rattle.life_laws.specs.Commands.{with_row}
 use Rattle.log_replay.specs.Unbuilt.{IsUnbuilt}
-use Rattle.script.specs.declared.command.Device.{Device}
 use Rattle.script.specs.declared.command.Device.TheVariants.{Log}
 use Rattle.script.specs.declared.command.Command.{Command}
 use Rattle.script.specs.declared.command.Command.TheVariants as commands

@@ -2,7 +2,6 @@
 use Rattle.std.specs.Prelude.{ℕ, List, [], ◌∷◌, ◌++◌, length, codes}
 use Rattle.std.specs.Fmt.{decimal}
 use Rattle.store_model.specs.Along.{along}
-use Rattle.store_model.specs.declared.request.Request.{Request}
 use Rattle.store_model.specs.declared.request.Request.TheVariants as requests
 use Rattle.store_model.specs.declared.reply.Reply.{Reply}
 use Rattle.store_model.specs.declared.reply.Reply.TheVariants as replies

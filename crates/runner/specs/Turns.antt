@@ -20,7 +20,6 @@ use Rattle.wal_record.specs.declared.entry.Entry.TheVariants.{Rec, Lock, Said, D
 use Rattle.log_laws.specs.Right.{IsRight, first_log}
 use Rattle.script.specs.Word.{same_text}
 use Rattle.runner.specs.Bytes.{Bytes, Unknown, MayMake, MayOpen}
-use Rattle.script.specs.declared.command.Device.{Device}
 use Rattle.script.specs.declared.command.Device.TheVariants.{Log}
 use Rattle.script.specs.declared.command.Command.{Command}
 use Rattle.script.specs.declared.command.Command.TheVariants as commands

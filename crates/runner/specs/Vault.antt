@@ -1,6 +1,6 @@
 -- What becomes of the vault in a run.
-use Rattle.std.specs.Prelude.{◌≡◌, ℕ, Bool, false}
-use Rattle.media.specs.Objects.{Stored, MayLeave}
+use Rattle.std.specs.Prelude.{◌≡◌, Bool, false}
+use Rattle.media.specs.Objects.{MayLeave}
 use Rattle.media.specs.declared.vault.Vault as vaults
 use Rattle.store_model.specs.declared.object.ObjectName.{ObjectName}
 use Rattle.script.specs.declared.command.Command.{Command}

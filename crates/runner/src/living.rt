@@ -5,7 +5,8 @@ ghost use Rattle.wal_record.specs.declared.record.Record.{Record};
 ghost use Rattle.runner.specs.LogDisk.{View, IsWhole, seen};
 ghost use Rattle.runner.specs.Turns.{Start, Turn};
 ghost use Rattle.runner.specs.Machine.{In, IsAt, Within, BeginsOn};
-ghost use Rattle.runner.specs.Clause.{Between, LivedTo};
+ghost use Rattle.line_reader.specs.Lines.{Reader};
+ghost use Rattle.runner.specs.Clause.{Between, LivedTo, Stopping};
 ghost use Rattle.runner.specs.Vault.{Beside};
 ghost use Rattle.runner.specs.Causes.{LivedCause, disk_at};
 
@@ -13,9 +14,10 @@ use crate::at::At;
 use crate::life::OpenLife;
 use crate::opened::Opened;
 use crate::status::Status;
-use crate::turns::{Turned, turn_inside};
+use crate::stop::cycled;
+use crate::turns::{Passed, turn_inside};
 use line_reader::Input;
-use media::{Disk, Sink, Source, Vault};
+use media::{Disk, Sink, Source, Vault, write_all};
 use operators::Operators;
 use page_ops::{Ground, Life, Tokens, Unnamed};
 use std::alloc::Global;
@@ -126,16 +128,44 @@ fn run_life<'a, N: Life, S: Source, K: Sink, V: Vault, L: Disk>(
 {
     let mut life = life;
     for _ in 0..u64::MAX {
-        match turn_inside(alloc, operators, input, source, sink, vault, life) {
-            Turned::Goes { at } => match at {
-                At::Outside { disk } => return Lived::Stopped { disk },
-                At::Inside { life: left } => life = left,
+        match turn_inside::<N, S, K, V, L>(alloc, operators, input, source, sink, &mut life) {
+            Passed::Goes => {}
+            Passed::Stops { keep, lines } => {
+                return end_life(sink, vault, life.log.into_device(), keep, lines);
+            }
+            Passed::Ends { status } => return Lived::Ends {
+                status,
+                disk: life.log.into_device(),
             },
-            Turned::Ends { status, disk } => return Lived::Ends { status, disk },
         }
     }
     Lived::Ends {
         status: Status::Memory,
         disk: life.log.into_device(),
+    }
+}
+
+/// The machine stops where a life was open, and the lines that say so are written.
+fn end_life<K: Sink, V: Vault, L: Disk>(
+    sink: &mut K,
+    vault: &mut V,
+    disk: L,
+    keep: Option<u64>,
+    lines: Vec<u8>,
+) -> Lived<L>
+    ensures turns { (v : View L.tells) (start : Start) (first : V) (left0 told0 : Option (List ℕ)) (reader : Reader) (turns : List Turn) (left : Option (List ℕ))
+        → Stopping L.tells (seen L.Disk v) V.Vault start disk first vault.old left0 told0 reader turns left (K.told sink.old) keep lines.items
+        → LivedTo L.tells (seen L.Disk v) V.Vault start first vault.new left0 told0 reader left (K.told sink.new) result }
+    ensures later { K.faults sink.old ≤ K.faults sink.new }
+    ensures cause { (source : ℕ) → LivedCause L.Disk disk source source (K.faults sink.old) (K.faults sink.new) result }
+{
+    let disk = cycled(disk, keep.unwrap_or(0));
+    vault.power_cycle();
+    match write_all(sink, &lines) {
+        Ok(()) => Lived::Stopped { disk },
+        Err(_) => Lived::Ends {
+            status: Status::SinkFault,
+            disk,
+        },
     }
 }

@@ -23,7 +23,7 @@ pub fn stop<L: Disk>(alloc: Global, disk: L, keep: Option<u64>) -> Result<(Vec<u
 }
 
 /// The disk after a stop of the machine, with its fuse renewed.
-fn cycled<L: Disk>(disk: L, keep: u64) -> L
+pub fn cycled<L: Disk>(disk: L, keep: u64) -> L
     ensures left { L.tells → L.may_leave disk (L.told result) }
     ensures durable { L.tells → Only (L.told result) (L.may_leave result) }
     ensures fuse { L.fuses → L.passes result ≡ None }

@@ -3,12 +3,13 @@ ghost use Rattle.std.specs.Prelude.{◌≡◌, ◌≤◌, ℕ, List, Option, IfE
 ghost use Rattle.line_reader.specs.Lines.{IsBounded};
 ghost use Rattle.runner.specs.LogDisk.{View, IsWhole, seen};
 ghost use Rattle.runner.specs.Turns.{Start, Turn};
-ghost use Rattle.runner.specs.Machine.{Out, In, Within};
-ghost use Rattle.runner.specs.Clause.{Between, TakesCommand, TurnedTo};
+ghost use Rattle.runner.specs.Machine.{Out, In};
+ghost use Rattle.runner.specs.Clause.{Between, PassedTo, TakesCommand, TurnedTo};
+ghost use Rattle.runner.specs.Machine.{Within};
 ghost use Rattle.runner.specs.Vault.{Beside, Cycles};
-ghost use Rattle.runner.specs.Causes.{LineCause, TurnedCause};
+ghost use Rattle.runner.specs.Causes.{LineCause, PassedCause, TurnedCause};
 
-use crate::at::{At, Stepped, disk_inside, disk_opened, step_inside};
+use crate::at::{At, Stepped, disk_opened};
 use crate::life::OpenLife;
 use crate::opened::Opened;
 use crate::outside;
@@ -25,6 +26,14 @@ use std::alloc::Global;
 pub enum Turned<L, F> {
     Goes { at: At<L, F> },
     Ends { status: Status, disk: L },
+}
+
+/// What a line of a life did: it was answered; it asks for a stop, with its lines; or it ended the run.
+#[derive(Drop)]
+pub enum Passed {
+    Goes,
+    Stops { keep: Option<u64>, lines: Vec<u8> },
+    Ends { status: Status },
 }
 
 /// One line where no life is open. The end of the input ends the run.
@@ -66,45 +75,44 @@ pub fn turn_outside<S: Source, K: Sink, V: Vault, L: Disk>(
     }
 }
 
-/// One line within a life. The end of the input ends the run.
+/// One line within a life. The end of the input ends the run. A stop is left to the caller, who has the life.
 pub fn turn_inside<'a, N: Life, S: Source, K: Sink, V: Vault, L: Disk>(
     alloc: Global,
     operators: &Operators,
     input: &mut Input,
     source: &mut S,
     sink: &mut K,
-    vault: &mut V,
-    life: OpenLife<'a, N, L>,
-) -> Turned<L, OpenLife<'a, N, L>>
-    ensures turns { (v : View L.tells) (start : Start) (first : V) (left told : Option (List ℕ)) (turns : List Turn)
-        → Between (IsWhole v) start (Beside V.Vault first vault.old (Within (seen L.Disk v) life.entry.log life.entry.leaf life.entry.transactions)) left told input.old turns (S.left source.old) (K.told sink.old)
-        → TurnedTo L.tells (seen L.Disk v) V.Vault start (λ life. Within (seen L.Disk v) life.log life.leaf life.transactions) first vault.new left told input.new turns (S.left source.new) (K.told sink.new) result }
+    life: &mut OpenLife<'a, N, L>,
+) -> Passed
+    ensures turns { (v : View L.tells) (start : Start) (first vault : V) (left told : Option (List ℕ)) (turns : List Turn)
+        → Between (IsWhole v) start (Beside V.Vault first vault (Within (seen L.Disk v) life.old.log life.old.leaf life.old.transactions)) left told input.old turns (S.left source.old) (K.told sink.old)
+        → PassedTo L.tells (seen L.Disk v) V.Vault start (Within (seen L.Disk v) life.new.log life.new.leaf life.new.transactions) life.new.log.log.device first vault left told input.new turns (S.left source.new) (K.told sink.new) result }
     ensures later { (S.faults source.old ≤ S.faults source.new) × (K.faults sink.old ≤ K.faults sink.new) }
-    ensures cause { TurnedCause L.Disk (λ life. life.log.log.device) life.entry.log.log.device (S.faults source.old) (S.faults source.new) (K.faults sink.old) (K.faults sink.new) result }
+    ensures cause { PassedCause L.Disk life.old.log.log.device life.new.log.log.device (S.faults source.old) (S.faults source.new) (K.faults sink.old) (K.faults sink.new) result }
 {
     let (command, line) = match next_command(alloc, input, source) {
         Ok(Some(next)) => next,
-        Ok(None) => return Turned::Ends {
+        Ok(None) => return Passed::Ends {
             status: Status::Done,
-            disk: life.log.into_device(),
         },
-        Err(status) => return Turned::Ends {
-            status,
-            disk: life.log.into_device(),
-        },
+        Err(status) => return Passed::Ends { status },
     };
-    match step_inside(alloc, operators, life, &command, line) {
-        Stepped::Goes { lines, at } => {
-            cycle(vault, &command);
-            match write_all(sink, &lines) {
-                Ok(()) => Turned::Goes { at },
-                Err(_) => Turned::Ends {
+    match &command {
+        Command::Stop { keep } => match transcript::stop_line(alloc) {
+            Ok(lines) => Passed::Stops { keep: *keep, lines },
+            Err(_) => Passed::Ends {
+                status: Status::Memory,
+            },
+        },
+        _ => match life.step(alloc, operators, &command, line) {
+            Ok(lines) => match write_all(sink, &lines) {
+                Ok(()) => Passed::Goes,
+                Err(_) => Passed::Ends {
                     status: Status::SinkFault,
-                    disk: disk_inside(at),
                 },
-            }
-        }
-        Stepped::Ends { status, disk } => Turned::Ends { status, disk },
+            },
+            Err(status) => Passed::Ends { status },
+        },
     }
 }
 

@@ -1,6 +1,5 @@
 use Rattle.std.proofs.Common.{◌≤◌, ℕ, List}
 use Rattle.std.specs.Prelude.{Option}
-use Rattle.wal_record.specs.declared.record.Record.{Record}
 use Rattle.runner.specs.Vault.{Beside}
 use Rattle.runner.specs.LogDisk.{View, IsWhole, seen}
 use Rattle.runner.specs.Turns.{Start, Turn}

@@ -1,4 +1,4 @@
-use Rattle.std.proofs.Common.{sym, subst, ◌∙◌, List, ◌∷◌, [], ◌++◌, ◌≤◌, length, arith}
+use Rattle.std.proofs.Common.{sym, subst, List, [], ◌≤◌, length, arith}
 use Rattle.log_manager.specs.Managed.{HasMore}
 use Rattle.log_manager.specs.Payload.{bytes_of}
 use Rattle.log_manager.specs.Records.{IsLogOf}

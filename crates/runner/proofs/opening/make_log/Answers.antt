@@ -1,4 +1,4 @@
-use Rattle.std.proofs.Common.{rules, sym, subst, arith, ◌≡◌}
+use Rattle.std.proofs.Common.{rules, sym, subst, arith}
 use Rattle.runner.specs.declared.status.Status.TheVariants as statuses
 use Rattle.runner.specs.Causes.{Shows}
 use Rattle.runner.specs.LogDisk.{seen}

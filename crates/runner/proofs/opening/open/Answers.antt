@@ -1,4 +1,4 @@
-use Rattle.std.proofs.Common.{sym, subst, ◌∙◌, ◌≡◌}
+use Rattle.std.proofs.Common.{sym, subst}
 use Rattle.runner.specs.Causes.{Shows}
 use Rattle.runner.specs.LogDisk.{seen}
 use Rattle.runner.specs.Openings.{IsNotBegun}

@@ -1,4 +1,4 @@
-use Rattle.std.proofs.Common.{sym, ap, subst, ◌∙◌, arith, ◌≡◌, ℕ}
+use Rattle.std.proofs.Common.{sym, ap, subst, ◌∙◌, arith, ℕ}
 use Rattle.wal_record.specs.Rules.{is_limit}
 use Rattle.runner.specs.Standing.{Beginning}
 use Rattle.runner.specs.LogDisk.{Form, seen}

@@ -1,4 +1,4 @@
-use Rattle.std.proofs.Common.{sym, ap, subst, ◌∙◌, arith, ◌≡◌, ◌++◌, ℕ}
+use Rattle.std.proofs.Common.{sym, ap, subst, ◌∙◌, arith, ◌++◌, ℕ}
 use Rattle.std.specs.Prelude.{codes}
 use Rattle.std.specs.Fmt.{decimal}
 use Rattle.runner.specs.Standing.{Beginning}

@@ -1,4 +1,4 @@
-use Rattle.std.proofs.Common.{rules, ◌∙◌, ◌≡◌}
+use Rattle.std.proofs.Common.{rules}
 use Rattle.runner.specs.Standing.{Beginning}
 use Rattle.runner.specs.LogDisk.{seen}
 use Rattle.runner.specs.Machine.{In}

@@ -1,4 +1,4 @@
-use Rattle.std.proofs.Common.{arith, [], ◌∷◌, ◌++◌, ◌≤◌, ℕ}
+use Rattle.std.proofs.Common.{arith, [], ◌∷◌, ◌++◌}
 use Rattle.std.proofs.KnownBytes.{Consumes-nil}
 use Rattle.runner.specs.LogDisk.{seen}
 use Rattle.runner.specs.Machine.{Out}

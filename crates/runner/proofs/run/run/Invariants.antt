@@ -1,5 +1,4 @@
 use Rattle.std.proofs.Common.{◌≤◌, List}
-use Rattle.wal_record.specs.declared.record.Record.{Record}
 use Rattle.line_reader.specs.Lines.{to_come}
 use Rattle.runner.specs.LogDisk.{View, IsWhole, seen}
 use Rattle.runner.specs.Turns.{Start, Turn, begin_stage}

@@ -1,5 +1,4 @@
-use Rattle.std.proofs.Common.{sym, ap, subst, ◌≡◌, ◌∙◌, ℕ}
-use Rattle.runner.specs.declared.status.Status.TheVariants as statuses
+use Rattle.std.proofs.Common.{sym, ap, subst, ℕ}
 use Rattle.media.specs.Cause.{Rose}
 use Rattle.media.specs.Fused.{Fused}
 use Rattle.runner.specs.LogDisk.{Whole, seen}

@@ -1,4 +1,3 @@
-use Rattle.std.proofs.Common.{◌∙◌, ◌≡◌}
 use Rattle.runner.specs.LogDisk.{seen}
 use Rattle.runner.proofs.Known.{known_behind}
 use Rattle.runner.proofs.Lives.{tells_of}

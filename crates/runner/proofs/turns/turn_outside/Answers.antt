@@ -1,4 +1,4 @@
-use Rattle.std.proofs.Common.{◌∙◌, ◌≡◌, ℕ, Option, Ok, sym, subst}
+use Rattle.std.proofs.Common.{◌∙◌, ℕ, Option, Ok, sym, subst}
 use Rattle.script.specs.declared.command.Command.{Command}
 use Rattle.runner.specs.declared.status.Status.TheVariants as statuses
 use Rattle.runner.specs.Turns.{stage}

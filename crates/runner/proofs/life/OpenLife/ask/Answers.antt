@@ -1,5 +1,4 @@
 use Rattle.std.proofs.Common.{refl, sym, subst, ◌∙◌}
-use Rattle.store_model.specs.declared.request.Request.TheVariants as requests
 use Rattle.script.specs.declared.command.Command.TheVariants as commands
 use Rattle.log_manager.specs.Managed.{Managed}
 use Rattle.runner.specs.LogDisk.{Leaves, seen}

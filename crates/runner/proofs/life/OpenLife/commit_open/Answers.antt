@@ -1,4 +1,4 @@
-use Rattle.std.proofs.Common.{refl, ap, subst, ◌∙◌, ◌++◌, ◌+◌, ℕ, List, Option, Some, ◌∷◌, [], arith, ◌≡◌}
+use Rattle.std.proofs.Common.{refl, ap, subst, ◌∙◌, ◌++◌, ◌+◌, List, Option, Some, ◌∷◌, [], arith}
 use Rattle.std.specs.Prelude.{IsErrAnd}
 use Rattle.media.specs.Counted.{Blames}
 use Rattle.log_blocks.specs.LogState.{LogState, Refused}

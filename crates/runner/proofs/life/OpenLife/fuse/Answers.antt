@@ -1,4 +1,4 @@
-use Rattle.std.proofs.Common.{rules, sym, subst, ◌∙◌}
+use Rattle.std.proofs.Common.{rules, sym, subst}
 use Rattle.script.specs.declared.command.Command.TheVariants as commands
 use Rattle.log_manager.specs.Managed.{Managed}
 use Rattle.log_manager.specs.Records.{IsLogOf}

@@ -1,4 +1,4 @@
-use Rattle.std.proofs.Common.{rules, refl, sym, ap, subst, ◌∙◌, ◌++◌, ℕ, ◌+◌, ◌≤◌, Bool, List, Option, Some, ◌∷◌, [], length}
+use Rattle.std.proofs.Common.{rules, refl, sym, ap, subst, ◌∙◌, ◌++◌, ℕ, ◌+◌, ◌≤◌, Bool, List, Option, Some, length}
 use Rattle.std.specs.Prelude.{codes}
 use Rattle.log_manager.specs.Managed.{Managed, HasMore}
 use Rattle.log_manager.specs.Payload.{bytes_of}
