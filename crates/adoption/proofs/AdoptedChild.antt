@@ -1,6 +1,6 @@
 -- An adoption asked for, and both pages behind it.
-use Rattle.std.proofs.Common.{◌≡◌, ℕ, ◌+◌, ◌<◌, ◌≤◌, ◌^◌, List, [], ◌∷◌, ◌++◌, length, Option, Some, None, Result, Ok, Err, Bool, true, false, eqb, sym, ap, subst, ◌∙◌, refl, arith, append-nil, inl, inr}
-use Rattle.std.specs.Prelude.{option_map, IfOk, IfSome, IsTrue, ◌||◌, ◌&&◌}
+use Rattle.std.proofs.Common.{◌≡◌, ℕ, ◌+◌, ◌≤◌, ◌^◌, List, [], ◌∷◌, ◌++◌, length, Option, Some, None, Result, Ok, Err, Bool, true, false, eqb, sym, ap, subst, ◌∙◌, refl, arith, append-nil, inl, inr}
+use Rattle.std.specs.Prelude.{option_map, IfOk, IsTrue, ◌||◌, ◌&&◌}
 use Rattle.std.specs.List.{list_all}
 use Rattle.std.proofs.lemmas.Bool.{cases_lt}
 use mathlib.Core.List.{IsPrefix}
@@ -14,7 +14,7 @@ use Rattle.wal_record.specs.State.{KeepsState, branch_rows, free_bytes}
 use Rattle.wal_record.specs.Chains.{head}
 use Rattle.wal_record.specs.History.{life_log}
 use Rattle.wal_record.specs.Images.{CanTakeChild, image}
-use Rattle.wal_record.specs.Sound.{AreLawful, IsLawful}
+use Rattle.wal_record.specs.Sound.{AreLawful}
 use Rattle.wal_record.specs.declared.page.PageState.{PageState}
 use Rattle.wal_record.specs.declared.page.Foster.{Foster}
 use Rattle.wal_record.specs.declared.page.Rows.TheVariants.{Branch}

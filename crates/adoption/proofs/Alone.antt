@@ -1,8 +1,6 @@
 -- Whoever enters alone finds nothing between its own entries.
 use Rattle.std.proofs.Common.{◌≡◌, ◌≢◌, ℕ, ◌+◌, ◌≤◌, Bool, true, List, [], ◌∷◌, ◌++◌, length, Option, Some, None, refl, sym, ap, subst, ◌∙◌, arith, length-append, inl, inr}
 use Rattle.std.specs.List.{list_all}
-use mathlib.Core.List.{IsPrefix}
-use Rattle.store_model.proofs.Bools.{both_true, and_true}
 use Rattle.store_model.specs.Along.{along}
 use Rattle.wal_record.specs.History.{log_of, life_log}
 use Rattle.wal_record.specs.Images.{image}

@@ -1,5 +1,5 @@
 -- Two pages in hand at any moment at which both rights agree, and behind a group of one record that was entered.
-use Rattle.std.proofs.Common.{◌≡◌, ◌≢◌, ℕ, List, [], ◌∷◌, ◌++◌, Option, Some, None, Bool, true, sym, ap, subst, ◌∙◌, refl}
+use Rattle.std.proofs.Common.{◌≡◌, List, Option, Some, true, ap, subst, ◌∙◌}
 use Rattle.std.specs.Prelude.{IfSome}
 use mathlib.Core.List.{IsPrefix}
 use Rattle.books.specs.Rights.{PageClaim}
@@ -15,7 +15,6 @@ use Rattle.wal_record.specs.declared.page.PageState.{PageState}
 use Rattle.wal_record.specs.declared.record.Record.{Record}
 use Rattle.wal_record.specs.declared.entry.Entry.{Entry}
 use Rattle.wal_record.proofs.Along.{AllAlong_less}
-use Rattle.claim_laws.specs.Entering.{IsAtRest}
 use Rattle.foster_laws.specs.InHand.{IsSeen}
 use Rattle.page_ops.specs.Claims.{PageAgrees, IsInRange}
 use Rattle.page_ops.specs.Hands.{Hand, IsInHand}

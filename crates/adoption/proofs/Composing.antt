@@ -1,7 +1,7 @@
 -- Calls one after the other: what they enter, and why the last one is refused.
-use Rattle.std.proofs.Common.{◌≡◌, ℕ, ◌≤◌, Bool, true, false, cond, List, [], ◌∷◌, ◌++◌, suc, refl, sym, ap, subst, ◌∙◌, arith, append-nil}
-use Rattle.std.specs.Prelude.{Result, Ok, Err, IfErr, OnOk, OnErr, IsTrue}
+use Rattle.std.proofs.Common.{◌≡◌, Bool, true, false, cond, List, [], ◌∷◌, ◌++◌, suc, refl, sym, ap, subst, ◌∙◌, arith, append-nil}
 use Rattle.std.specs.List.{list_all}
+use mathlib.Core.List.{IsPrefix}
 use Rattle.front.specs.Seen.{PassSeen}
 use Rattle.store_model.specs.declared.fault.Fault.{Fault}
 use Rattle.store_model.specs.declared.fault.Fault.TheVariants as faults
@@ -19,7 +19,6 @@ use Rattle.page_ops.specs.Names.{LedgerName}
 use Rattle.page_ops.specs.Seeing.{Account, Known, Enters, Upholds, is_upkeep, is_of_session, known, of_sessions}
 use Rattle.page_ops.proofs.Composing.{bring_then}
 use Rattle.page_ops.proofs.Gaining.{gains_of, goes_of, goes_self, goes_then, settled_of}
-use Rattle.foster_tree.specs.Nows.{KeepsDesk}
 use Rattle.foster_tree.proofs.Causing.{none_met, none_then}
 use Rattle.adoption.specs.Descents.{keeps_up, Standing, standing, known_by, GoesOn, Fails}
 
@@ -132,6 +131,9 @@ on_upheld opens ledger sessions x y u none kept = on_of x y (goes_of is_upkeep o
 pub on_kept : (opens : List Record → Type 0) (ledger sessions : LedgerName) (x y : Standing) → Upholds opens ledger sessions keeps_up (known_by x) (known_by y) → MeetsNoEnd x.account y.account → KeepsFaults x.desk.faults y.desk.faults → GoesOn x y
 on_kept opens ledger sessions x y u none kept = record { goes = goes_of keeps_up opens ledger sessions (known_by x) (known_by y) u; none = none; faults = kept }
 
+pub on_begins : (x y : Standing) → GoesOn x y → IsPrefix x.seen.log y.seen.log
+on_begins x y on = (on.goes.gained, sym on.goes.is)
+
 -- ---- refusals
 
 module _ (opens : List Record → Type 0) (log_faults made : LedgerName) (old new : Account) (h : List Entry) where
@@ -192,3 +194,8 @@ module _ (opens : List Record → Type 0) (ledger sessions log_faults made : Led
       let u = upheld_none opens ledger sessions keeps_up a a' s s' c c' n in
       fails_desk (standing d a s) d d' a' s' f (enter_fails opens log_faults made a a' s'.log d.faults f may why) (goes_of keeps_up opens ledger sessions (known a s no_claims) (known a' s' no_claims) u)
       (settled_of keeps_up opens ledger sessions (known a s no_claims) (known a' s' no_claims) u) (faults_self d.faults) same out
+
+  -- of a call that may have seen nothing
+  pub fails_goes : (x y : Standing) (f : Fault) → Goes is_upkeep (known_by x) (known_by y) → IsSettled opens ledger sessions y.account y.seen.log → FailsToBring opens log_faults made x.desk.faults y.desk.faults x.account y.account y.seen.log f
+      → KeepsFaults x.desk.faults y.desk.faults → y.desk.out ≡ 0 → Failed x y f
+  fails_goes x y f g settled why kept out = record { goes = goes_up (known_by x) (known_by y) g; settled = settled; why = why; faults = kept; out = out }

@@ -8,3 +8,8 @@ pub mod Slots
 pub mod TidyAdoptions
 pub mod TreeCalls
 pub mod TidyDescents
+pub mod PutBack
+pub mod MadeCalls
+pub mod FirstAdoptions
+pub mod ByRow
+pub mod ByFound

@@ -1,5 +1,5 @@
 -- The rows of a parent with one for a child that it takes.
-use Rattle.std.proofs.Common.{◌≡◌, ◌<◌, ◌≤◌, List, length, sym, ap, subst, ◌∙◌, arith, refl}
+use Rattle.std.proofs.Common.{◌≡◌, ◌≤◌, List, length, ap, subst, ◌∙◌, arith, refl}
 use Rattle.std.specs.Prelude.{Some, insert}
 use Rattle.store_model.proofs.Bools.{not_both}
 use Rattle.wal_record.specs.State.{branch_rows}
@@ -9,7 +9,7 @@ use Rattle.wal_record.specs.declared.page.BranchRow.{BranchRow}
 use Rattle.wal_record.specs.declared.page.Foster.{Foster}
 use Rattle.wal_record.specs.declared.page.Rows.{Rows}
 use Rattle.wal_record.specs.declared.page.Rows.TheVariants.{Branch}
-use Rattle.page_rows.specs.Rows.{IsSpot, BranchGap}
+use Rattle.page_rows.specs.Rows.{IsSpot}
 use Rattle.page_rows.specs.declared.spot.Spot.{Spot}
 use Rattle.page_rows.specs.declared.spot.Spot.TheVariants.{Here, Gap}
 use Rattle.page_rows.proofs.Changes.{child_is}

@@ -1,7 +1,7 @@
 -- The slot of a parent that was held against the child.
 use Rattle.std.proofs.Common.{◌≡◌, ℕ, List, Some, sym, ap, ◌∙◌}
 use Rattle.std.specs.Option.{option_map}
-use Rattle.wal_record.specs.Tree.{Fence, Pointer, fence_of}
+use Rattle.wal_record.specs.Tree.{Pointer, fence_of}
 use Rattle.wal_record.specs.declared.page.PageState.{PageState}
 use Rattle.tree_laws.proofs.Counts.{inside_some}
 use Rattle.foster_laws.specs.Descents.{CoversAt}

@@ -1,9 +1,7 @@
 -- Behind an adoption the path to the page from which the descent goes on is tidy.
-use Rattle.std.proofs.Common.{◌≡◌, ℕ, ◌+◌, ◌≤◌, Bool, true, false, cond, List, [], ◌∷◌, ◌++◌, Option, Some, None, refl, sym, ap, subst, ◌∙◌, arith}
-use Rattle.std.specs.Prelude.{IfSome, IsTrue, if◌then◌else◌}
-use mathlib.Core.List.{IsPrefix}
+use Rattle.std.proofs.Common.{◌≡◌, ℕ, ◌≤◌, Bool, true, false, cond, List, [], ◌∷◌, ◌++◌, Some, refl, sym, ap, subst, ◌∙◌}
+use Rattle.std.specs.Prelude.{if◌then◌else◌}
 use Rattle.front.specs.Seen.{PassSeen}
-use Rattle.store_model.specs.declared.fault.Fault.{Fault}
 use Rattle.wal_record.specs.State.{KeepsState, KeepsRows, branch_rows, has_within, own_part}
 use Rattle.wal_record.specs.History.{life_log}
 use Rattle.wal_record.specs.Images.{image}
@@ -17,7 +15,7 @@ use Rattle.wal_record.specs.declared.record.Record.TheVariants as kinds
 use Rattle.wal_record.specs.declared.entry.Entry.{Entry}
 use Rattle.wal_record.specs.declared.entry.Entry.TheVariants.{Rec}
 use Rattle.wal_record.proofs.Pushes.{lawful_front}
-use Rattle.foster_laws.specs.Enters.{AdoptEntered, HasFosterer}
+use Rattle.foster_laws.specs.Enters.{AdoptEntered}
 use Rattle.foster_laws.specs.Paths.{TidyTo}
 use Rattle.foster_laws.proofs.Entering.{adopt_enters}
 use Rattle.foster_laws.proofs.PathRecords.{path_adopt_law}
@@ -33,7 +31,6 @@ use Rattle.foster_tree.specs.Ways.{IsToChild}
 use Rattle.adoption.specs.Adoptions.{Leads, adopt_of, with_row_for, without_child}
 use Rattle.adoption.specs.Descents.{IsAlone, keeps_up}
 use Rattle.adoption.proofs.Alone.{alone_then, own_alone, same_images, tidy_looked}
-use Rattle.adoption.proofs.BothPages.{seen_of}
 use Rattle.adoption.proofs.Composing.{upheld_one}
 use Rattle.adoption.proofs.TidySteps.{goes_on_adopted}
 

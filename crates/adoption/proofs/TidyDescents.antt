@@ -1,10 +1,8 @@
 -- The path behind a descent, from page to page.
-use Rattle.std.proofs.Common.{◌≡◌, ℕ, Bool, true, false, List, Option, Some, None, sym, ap, subst, ◌∙◌}
-use Rattle.std.specs.Prelude.{IfSome, is_some}
-use Rattle.front.specs.Seen.{PassSeen}
+use Rattle.std.proofs.Common.{◌≡◌, ℕ, Bool, false, List, Some, sym, ap, subst, ◌∙◌}
+use Rattle.std.specs.Prelude.{is_some}
 use Rattle.wal_record.specs.History.{life_log}
 use Rattle.wal_record.specs.Images.{image, IsLeafOf}
-use Rattle.wal_record.specs.declared.page.PageState.{PageState}
 use Rattle.wal_record.specs.declared.record.Record.{Record}
 use Rattle.wal_record.specs.declared.entry.Entry.{Entry}
 use Rattle.foster_laws.specs.Paths.{TidyTo}

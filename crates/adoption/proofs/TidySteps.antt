@@ -1,34 +1,25 @@
 -- What each step of the descent says of the path behind it.
-use Rattle.std.proofs.Common.{◌≡◌, ◌≢◌, ℕ, ◌+◌, ◌<◌, ◌≤◌, Bool, true, false, cond, List, [], ◌∷◌, ◌++◌, length, Option, Some, None, refl, sym, ap, subst, ◌∙◌, arith}
-use Rattle.std.specs.Prelude.{Ok, is_some, if◌then◌else◌, IsTrue}
+use Rattle.std.proofs.Common.{◌≡◌, ℕ, ◌+◌, ◌<◌, Bool, true, false, cond, List, [], ◌∷◌, length, Option, Some, None, refl, sym, ap, ◌∙◌}
+use Rattle.std.specs.Prelude.{is_some}
 use Rattle.std.specs.Option.{option_map}
-use mathlib.Core.List.{IsPrefix}
-use Rattle.front.specs.Seen.{PassSeen}
 use Rattle.store_model.specs.Range.{is_below}
-use Rattle.wal_record.specs.State.{KeepsState, branch_rows, child_at, free_bytes, has_own, has_within, or_child, put_branch_row}
-use Rattle.wal_record.specs.History.{life_log}
+use Rattle.wal_record.specs.State.{branch_rows, child_at, free_bytes, has_within, or_child, put_branch_row}
 use Rattle.wal_record.specs.Images.{image, IsLeafOf}
-use Rattle.wal_record.specs.Sound.{AreLawful}
 use Rattle.wal_record.specs.declared.page.PageState.{PageState}
 use Rattle.wal_record.specs.declared.page.BranchRow.{BranchRow}
 use Rattle.wal_record.specs.declared.page.Foster.{Foster}
-use Rattle.wal_record.specs.declared.record.Adopt.{Adopt}
 use Rattle.wal_record.specs.declared.record.Record.{Record}
-use Rattle.wal_record.specs.declared.record.Record.TheVariants as kinds
-use Rattle.wal_record.specs.declared.entry.Entry.{Entry}
 use Rattle.tree_laws.proofs.Counts.{inside_some}
 use Rattle.tree_laws.proofs.Keys.{in_parts}
 use Rattle.tree_laws.proofs.Start.{missing}
 use Rattle.log_laws.proofs.Locked.{below_trans}
-use Rattle.foster_laws.specs.Enters.{AdoptEntered}
 use Rattle.foster_laws.specs.Paths.{TidyTo}
-use Rattle.foster_laws.specs.Tidy.{IsFull, Crowds, IsTidy}
+use Rattle.foster_laws.specs.Tidy.{IsFull, IsTidy}
 use Rattle.foster_laws.proofs.PathSteps.{path_begins_law, path_goes_on_law, path_ends_law}
-use Rattle.page_ops.specs.Hands.{Hand}
 use Rattle.foster_tree.specs.Ways.{IsWay, LeadsTo, IsToChild}
 use Rattle.foster_tree.specs.declared.way.Way.{Way}
 use Rattle.foster_tree.specs.declared.way.Way.TheVariants as ways
-use Rattle.adoption.specs.Adoptions.{adopt_of, with_row_for, without_child}
+use Rattle.adoption.specs.Adoptions.{with_row_for, without_child}
 use Rattle.adoption.specs.Descents.{may_adopt}
 
 none_there : (o : Option Foster) → is_some o ≡ false → o ≡ None

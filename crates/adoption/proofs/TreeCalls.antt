@@ -1,10 +1,10 @@
 -- What growths, splits and adoptions leave of what was known, and why they are refused.
-use Rattle.std.proofs.Common.{◌≡◌, ℕ, ◌<◌, ◌≤◌, Bool, true, false, List, [], ◌∷◌, ◌++◌, Option, Some, None, Result, Ok, Err, refl, sym, ap, subst, ◌∙◌, arith, append-nil}
-use Rattle.std.specs.Prelude.{IfErr, IfOk, IfSome, OnOk, is_some, nat_le, IsTrue}
+use Rattle.std.proofs.Common.{◌≡◌, ℕ, ◌<◌, ◌≤◌, true, false, List, Option, Some, None, Result, Ok, Err, refl, sym, ap, subst, ◌∙◌, arith, append-nil}
+use Rattle.std.specs.Prelude.{IfErr, IfSome, is_some, nat_le}
 use Rattle.std.proofs.lemmas.Bool.Decides.{nat_tests}
 use Rattle.front.specs.Seen.{PassSeen}
 use Rattle.store_model.specs.declared.fault.Fault.{Fault}
-use Rattle.wal_record.specs.State.{KeepsState, KeepsRows, branch_rows, free_bytes, own_part}
+use Rattle.wal_record.specs.State.{KeepsState, branch_rows, free_bytes}
 use Rattle.wal_record.specs.History.{life_log}
 use Rattle.wal_record.specs.Images.{image}
 use Rattle.wal_record.specs.declared.page.PageState.{PageState}
@@ -16,15 +16,15 @@ use Rattle.wal_record.specs.declared.entry.Entry.{Entry}
 use Rattle.wal_record.specs.declared.entry.Entry.TheVariants.{Rec}
 use Rattle.foster_laws.specs.Paths.{TidyTo}
 use Rattle.foster_laws.specs.Tidy.{IsFull}
-use Rattle.page_ops.specs.Causes.{Ends, FailsToEnter, MeetsNoEnd, NoOther}
+use Rattle.page_ops.specs.Causes.{Ends, FailsToEnter, NoOther}
 use Rattle.page_ops.specs.Claims.{Claims, no_claims}
 use Rattle.page_ops.specs.Desks.{Desk}
 use Rattle.page_ops.specs.Hands.{Hand}
 use Rattle.page_ops.specs.Names.{LedgerName}
-use Rattle.page_ops.specs.Seeing.{Account, Enters, Upholds, is_of_session, known}
+use Rattle.page_ops.specs.Seeing.{Account, Upholds, is_of_session, known}
 use Rattle.page_ops.proofs.Composing.{done_meets_none}
 use Rattle.page_ops.proofs.Gaining.{goes_self}
-use Rattle.smo.specs.Splits.{EntersMade, desk_after, grow_by, split_by}
+use Rattle.smo.specs.Splits.{EntersMade, desk_after, split_by}
 use Rattle.foster_tree.specs.Ways.{IsToChild}
 use Rattle.adoption.specs.Adoptions.{EntersAdoption, adopt_of, row_bytes}
 use Rattle.adoption.specs.Descents.{Fails, GoesOn, IsAlone, keeps_up, standing}

@@ -1,8 +1,7 @@
 -- The descent of a write: what it enters, what it leaves, and what it says of the path behind it.
-use Rattle.std.specs.Prelude.{◌≡◌, ◌≤◌, ℕ, List, length, Option, Some, None, is_some, Result, Bool, true, false, nat_le, IsTrue}
+use Rattle.std.specs.Prelude.{◌≡◌, ◌≤◌, ℕ, List, length, Some, is_some, Bool, true, false, nat_le}
 use Rattle.front.specs.Seen.{PassSeen}
 use Rattle.store_model.specs.declared.fault.Fault.{Fault}
-use Rattle.wal_record.specs.State.{has_within}
 use Rattle.wal_record.specs.History.{life_log}
 use Rattle.wal_record.specs.Images.{image}
 use Rattle.wal_record.specs.declared.page.PageState.{PageState}
