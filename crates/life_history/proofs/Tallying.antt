@@ -26,7 +26,7 @@ tallied_same h h' u r k same = subst (λ (l : List Entry). IsTallied l u r) (sym
 pub tallied_more : (h h' es : List Entry) (u r u' r' : ℕ) → IsTallied h u r → h' ≡ h ++ es → u' ≡ u + length (filter is_undo (log_of es)) → r' ≡ r + length (filter is_repaired es) → IsTallied h' u' r'
 tallied_more h h' es u r u' r' k now undone repaired =
     let log = ap (λ (l : List Entry). length (filter is_undo (log_of l))) now ∙ ap (λ (l : List Record). length (filter is_undo l)) (log_of-append h es) ∙ ap (λ (l : List Record). length l) (filter-append is_undo (log_of h) (log_of es))
-        ∙ length-append (filter is_undo (log_of h)) (filter is_undo (log_of es)) in
+    ∙ length-append (filter is_undo (log_of h)) (filter is_undo (log_of es)) in
     let all = ap (λ (l : List Entry). length (filter is_repaired l)) now ∙ ap (λ (l : List Entry). length l) (filter-append is_repaired h es) ∙ length-append (filter is_repaired h) (filter is_repaired es) in
     let was = k.undone in
     let were = k.repaired in

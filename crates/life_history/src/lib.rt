@@ -16,8 +16,11 @@
 //!    place.
 //! 4. [`History::enter_commit`] adds a transaction's commit, and [`History::acknowledge`] that it is acknowledged, with
 //!    which its session has no transaction any more. The room for both was made as it began.
+//! 5. [`History::enter_repaired`] adds that a page was repaired, which is no session's entry. [`History::undone`] and
+//!    [`History::repaired`] tell how many writes the life has undone and how many pages it has repaired.
 //!
-//! [`Counts`] are a thread's shares of the ledgers of its life, and what it knows of the life's end.
+//! [`Counts`] are a thread's shares of the ledgers of its life, what it knows of the life's end, and how many faults of the
+//! log disk it has counted.
 #![tactic(auto)]
 
 mod counts;
