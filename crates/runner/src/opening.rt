@@ -1,6 +1,6 @@
 //! Opening a life, and making the log that a life can open.
 ghost use Rattle.runner.specs.Bytes.{MayMake, MayOpen, StaysKnown, Allows};
-ghost use Rattle.std.specs.Prelude.{◌≡◌, ◌≤◌, ◌+◌, ℕ, List, [], None, length, IsTrue, IfOk, IfErr, OnOk, IsErrAnd, MatchResult};
+ghost use Rattle.std.specs.Prelude.{◌≡◌, ◌≤◌, ◌+◌, List, [], None, length, IsTrue, IfOk, IfErr, OnOk, IsErrAnd, MatchResult};
 ghost use Rattle.media.specs.Counted.{Blames};
 ghost use Rattle.log_blocks.specs.Log.{Block, first_lsn};
 ghost use Rattle.log_blocks.specs.LogState.{IsDurable};
