@@ -103,7 +103,8 @@ pub record HandsBack {D E : Type 0} (tells : Type 0) (L : Ghosts D) (V : vaults.
 
 -- The log disk was handed in as the start says, as disks of its type tell, and is handed back so, and the vault; then what was
 -- left and told at the start, and what is now. What was read and given to no line is still pending.
-pub record Headline {D E : Type 0} (tells : Type 0) (L : Ghosts D) (V : vaults.Ghosts E) (start : Start) (disk : D) (first vault : E) (left0 : Option (List ℕ)) (pending : List ℕ) (left told0 told : Option (List ℕ)) (status : Status) : Type 0 where
+pub record Headline {D E : Type 0} (tells : Type 0) (L : Ghosts D) (V : vaults.Ghosts E) (start : Start) (disk : D) (first vault : E)
+    (left0 : Option (List ℕ)) (pending : List ℕ) (left told0 told : Option (List ℕ)) (status : Status) : Type 0 where
   pub turns : List Turn
   pub read : List ℕ
   pub rest : List ℕ
@@ -150,7 +151,8 @@ TurnedTo tells L V start inside first vault left0 told0 reader turns left told (
 TurnedTo tells L V start inside first vault left0 told0 reader turns left told (results.Ends status disk) = Headline tells L V start disk first vault left0 reader.pending left told0 told status
 
 -- The next line asks for a stop, and has been read; the turns are those before it.
-pub record Stopping {D E : Type 0} (tells : Type 0) (L : Ghosts D) (V : vaults.Ghosts E) (start : Start) (disk : D) (first vault : E) (left0 told0 : Option (List ℕ)) (reader : Reader) (turns : List Turn) (left told : Option (List ℕ)) (keep : Option ℕ) (out : List ℕ) : Type 0 where
+pub record Stopping {D E : Type 0} (tells : Type 0) (L : Ghosts D) (V : vaults.Ghosts E) (start : Start) (disk : D) (first vault : E)
+    (left0 told0 : Option (List ℕ)) (reader : Reader) (turns : List Turn) (left told : Option (List ℕ)) (keep : Option ℕ) (out : List ℕ) : Type 0 where
   pub text : out ≡ codes "stop\n"
   pub old : Reader
   pub left_old : Option (List ℕ)

@@ -1,6 +1,6 @@
 //! Opening a life, and making the log that a life can open.
 ghost use Rattle.runner.specs.Bytes.{MayMake, MayOpen, StaysKnown, Allows};
-ghost use Rattle.std.specs.Prelude.{◌≡◌, ◌≤◌, ◌+◌, ℕ, List, [], None, length, IsTrue, IfOk, IfErr, OnOk, IsErrAnd, MatchResult};
+ghost use Rattle.std.specs.Prelude.{◌≡◌, ◌≤◌, ◌+◌, List, [], None, length, IsTrue, IfOk, IfErr, OnOk, IsErrAnd, MatchResult};
 ghost use Rattle.media.specs.Counted.{Blames};
 ghost use Rattle.log_blocks.specs.Log.{Block, first_lsn};
 ghost use Rattle.log_blocks.specs.LogState.{IsDurable};
@@ -147,7 +147,8 @@ fn begin<L: Disk>(alloc: Global, log: BlockLog<L>, found: Found) -> Result<Opene
     requires number { 1 ≤ found.next }
     requires fresh { log.pending ≡ [] }
     requires goes { log.ended ≡ None }
-    ensures begun { IfOk result (λ life. (v : View L.tells) → L.tells → (bs : List Block) (rs : List Record) → IsDurable L.told L.may_leave log bs → AreRecordsOf 0 bs rs → first_lsn bs ≡ 1 → Opens rs found → log.next ≡ length rs + 1 → IsCalm (seen L.Disk v) life.log.log life.standing (record { opening = rs; history = [] }) (length rs)) }
+    ensures begun { IfOk result (λ life. (v : View L.tells) → L.tells → (bs : List Block) (rs : List Record) → IsDurable L.told L.may_leave log bs → AreRecordsOf 0 bs rs → first_lsn bs ≡ 1 → Opens rs found → log.next ≡ length rs + 1
+        → IsCalm (seen L.Disk v) life.log.log life.standing (record { opening = rs; history = [] }) (length rs)) }
     ensures first { IfOk result (λ life. (life.standing.session ≡ None) × (life.log.log.ended ≡ None) × (life.log.log.device ≡ log.device)) }
     ensures not { IfErr result (λ r. (r.disk ≡ log.device) × (r.status ≡ statuses.Memory)) }
 {

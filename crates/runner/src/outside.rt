@@ -1,5 +1,5 @@
 //! Commands where no life is open.
-ghost use Rattle.std.specs.Prelude.{◌≡◌, ◌≤◌, ◌<◌, ◌^◌, codes, IfOk, IfErr};
+ghost use Rattle.std.specs.Prelude.{◌≡◌, ◌<◌, ◌^◌, codes, IfOk, IfErr};
 ghost use Rattle.wal_record.specs.Rules.{is_limit};
 ghost use Rattle.runner.specs.Causes.{SteppedCause};
 ghost use Rattle.runner.specs.LogDisk.{View, seen};

@@ -1,8 +1,7 @@
 //! A whole run.
 ghost use Rattle.runner.specs.Bytes.{Known};
-ghost use Rattle.std.specs.Prelude.{◌≡◌, ◌≢◌, ◌≤◌, ◌↔◌, ℕ, List, map, true, false};
+ghost use Rattle.std.specs.Prelude.{◌≡◌, ◌≢◌, ◌≤◌, ℕ, List, map};
 ghost use Rattle.media.specs.Cause.{Rose};
-ghost use Rattle.wal_record.specs.declared.record.Record.{Record};
 ghost use Rattle.line_reader.specs.Lines.{to_come, IsBounded};
 ghost use Rattle.runner.specs.LogDisk.{View, IsWhole, Keeps, seen};
 ghost use Rattle.runner.specs.Turns.{Last, Start, begin_stage};
