@@ -1,11 +1,6 @@
 pub mod Moments
 pub mod Settling
 pub mod PurgedLeaf
-pub mod WrittenLeaf
 pub mod MadePages
 pub mod SplitBranch
 pub mod GrownRoot
-pub mod SplitLeaf
-pub mod SplitBehind
-pub mod SplitSettled
-pub mod KeyWritten

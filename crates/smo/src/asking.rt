@@ -13,7 +13,7 @@ use store_model::{Fault, Memory};
 use wal_record::Entry;
 
 /// Hands the group to the journal. Where there was no memory for it, it only shows the pass the whole history.
-pub(crate) fn ask<N: Life, J: Entering<N>, R: Wait>(
+pub fn ask<N: Life, J: Entering<N>, R: Wait>(
     rt: &R,
     alloc: Global,
     journal: &mut J,

@@ -9,7 +9,7 @@ use std::sync::Wait;
 use wal_record::{Entry, PageState};
 
 /// Puts a page that was made into the frame that is reserved for it. It takes no memory.
-pub(crate) fn put_made<N: Life, J: Entering<N>, P: Pages<N, J>, R: Wait>(
+pub fn put_made<N: Life, J: Entering<N>, P: Pages<N, J>, R: Wait>(
     rt: &R,
     pages: &mut P,
     state: PageState,

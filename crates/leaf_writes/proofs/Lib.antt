@@ -1,0 +1,10 @@
+pub mod EachKind
+pub mod AsksOne
+pub mod Halves
+pub mod AsksSplit
+pub mod MayAsk
+pub mod Handed
+pub mod ChangedLeaf
+pub mod SplitBehind
+pub mod SplitSettled
+pub mod KeyWritten

@@ -1,0 +1,21 @@
+use Rattle.std.proofs.Common.{ap, sym, ◌∙◌}
+use Rattle.page_ops.specs.Hands.{Hand}
+use Rattle.leaf_writes.specs.KeyWrites.{has_room}
+use Rattle.leaf_writes.proofs.KeyWritten.{answer_of, fit_alone, full_of, split_alone}
+use Rattle.leaf_writes.proofs.key_writing.write_here.Goals as goal
+
+pub returns-then-fits_with-clause-written : goal.returns-then-fits_with-clause-written
+returns-then-fits_with-clause-written g c =
+    fit_alone g.N.Life.opens g.N.Life.entries g.N.Life.session_entries c.args.change.now c.args.owner.now c.write_leaf.new.pass c.args.leaf.now c.write_leaf.new.leaf c.write_leaf.result _ _
+    (ap (λ (h : Hand). has_room c.args.change.now h.state) (sym c.leaf.view_is) ∙ sym c.fits_with.ensures ∙ c.if-fits_with.true) c.write_leaf.ensures.asked c.write_leaf.ensures.done c.write_leaf.ensures.same
+
+pub returns-else-fits_with-clause-written : goal.returns-else-fits_with-clause-written
+returns-else-fits_with-clause-written g c =
+    split_alone g.N.Life.opens g.N.Life.entries g.N.Life.session_entries c.args.change.now c.args.owner.now c.split_leaf.new.pass c.args.leaf.now c.split_leaf.new.leaf c.split_leaf.result _ _
+    (ap (λ (h : Hand). has_room c.args.change.now h.state) (sym c.leaf.view_is) ∙ sym c.fits_with.ensures ∙ c.if-fits_with.false) c.split_leaf.ensures.split c.split_leaf.ensures.same
+
+pub returns-else-fits_with-clause-answer : goal.returns-else-fits_with-clause-answer
+returns-else-fits_with-clause-answer g c = answer_of g.N.Life.opens _ c.args.change.now c.args.owner.now c.args.leaf.now.page c.args.leaf.now.state c.split_leaf.result c.split_leaf.ensures.answer
+
+pub returns-else-fits_with-clause-full : goal.returns-else-fits_with-clause-full
+returns-else-fits_with-clause-full g c = full_of g.N.Life.opens _ c.args.change.now c.args.owner.now c.args.leaf.now.page c.args.leaf.now.state c.split_leaf.result c.split_leaf.ensures.full

@@ -1,0 +1,4 @@
+pub mod Changes
+pub mod MayChange
+pub mod Halves
+pub mod KeyWrites
