@@ -9,12 +9,12 @@ ghost use Rattle.page_ops.specs.Seeing.{known};
 ghost use Rattle.smo.specs.Settled.{IsSettled};
 ghost use Rattle.adoption.specs.Adoptions.{EntersAdoption, EntersByAnswer, IsAnswerOf, Leads, OnAdopted, OnAsked, UnlessAdopted, adopt_of, claims_of_both, row_bytes, with_row_for, without_child};
 
-use crate::asking::ask;
 use crate::outcome::Adoption;
 use crate::placing::with_row_for;
 use front::Pass;
 use page_ops::{Entered, Entering, Group, Held, Life, Rights};
 use page_rows::{copied_foster, free_bytes};
+use smo::ask;
 use std::alloc::Global;
 use std::sync::Wait;
 use store_model::{Bound, Fault, List, Lsn, Memory, PageNo};

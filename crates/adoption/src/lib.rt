@@ -20,7 +20,6 @@
 #![tactic(auto)]
 
 mod adopting;
-mod asking;
 mod descending;
 mod outcome;
 mod placing;
