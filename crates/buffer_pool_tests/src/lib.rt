@@ -12,3 +12,5 @@ mod supply;
 mod telling;
 #[cfg(test)]
 mod tests;
+#[cfg(test)]
+mod untold;

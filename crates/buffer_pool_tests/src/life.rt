@@ -7,6 +7,7 @@ ghost use Rattle.wal_record.specs.declared.record.Record.{Record};
 
 use crate::supply::EmptyLeaf;
 use crate::telling::Telling;
+use crate::untold::Untold;
 use books::{Book, BookTables, PageBook, PageRight};
 use buffer_pool::PlainPool;
 use front::Pass;
@@ -14,7 +15,7 @@ use media_mem::MemPages;
 use page_index::PageIndex;
 use page_ops::{Ground, Life, Tokens};
 use page_repair::OwnImages;
-use small_journal::{Counts, History};
+use small_journal::Counts;
 use std::alloc::Global;
 use store_model::{Fault, Lsn, Memory, PageNo};
 use wal_record::Entry;
@@ -55,14 +56,14 @@ pub(crate) struct Begun<'a, N: Life> {
     ghost none: { pool.out ≡ 0 },
 }
 
-/// The page was last written as this LSN, and the supply refuses its first calls.
+/// The page was last written as this LSN. Of the calls that may want memory the one of this number does.
 pub(crate) fn begin<'a, N: Life>(
     alloc: Global,
     ground: &'a Ground<N>,
     tokens: Tokens<N>,
     device: MemPages,
     written: Lsn,
-    refuses: u32,
+    refuse_at: u32,
 ) -> Result<Begun<'a, N>, Fault>
     requires untold { (opening : List Record) → N.opens opening → ⊥ }
     requires parts { (N.entries.parts ≡ 1) × (N.session_entries.parts ≡ 1) × (N.log_faults.parts ≡ 1) × (N.vault_faults.parts ≡ 1) × (N.made.parts ≡ 1) }
@@ -74,7 +75,7 @@ pub(crate) fn begin<'a, N: Life>(
 {
     let Tokens {
         front,
-        mark,
+        mark: _,
         mut pass,
         mut books,
         entries,
@@ -90,22 +91,16 @@ pub(crate) fn begin<'a, N: Life>(
     let (session_book, session_entries) = session_entries.open();
     let (_, log_faults) = log_faults.open();
     let (_, vault_faults) = vault_faults.open();
-    let (made_book, made) = made.open();
-    let history = History::new(
+    let (_, made) = made.open();
+    let history = Untold {
         ground,
         front,
-        mark,
-        books,
-        entries_book,
-        session_book,
-        made_book,
-        HEAD,
-        1,
-        0,
-        0,
-        12,
-        1,
-    );
+        sessions: books.sessions,
+        maint: books.maint,
+        entries: entries_book,
+        session_entries: session_book,
+        count: 0,
+    };
     let counts = Counts {
         entries,
         session_entries,
@@ -115,7 +110,6 @@ pub(crate) fn begin<'a, N: Life>(
     };
     let images = OwnImages::new(ground, device, pass.copy(&ground.board));
     let supply = EmptyLeaf {
-        refuses,
         from_base: 0,
         from_nothing: 0,
     };
@@ -129,7 +123,10 @@ pub(crate) fn begin<'a, N: Life>(
             head: HEAD,
             written,
             flushed: 0,
+            calls: 0,
+            refuse_at,
             repairs: 0,
+            writes: 0,
         },
         pool,
         pass,

@@ -12,11 +12,9 @@ use std::sync::Wait;
 use store_model::{Bound, Fault, List, Lsn, PageNo};
 use wal_record::{Entry, PageState, Rows};
 
-/// Rebuilds a page from its base, or else an empty leaf, and counts which it was. Its first calls are refused for want of
-/// memory.
+/// Rebuilds a page from its base, or else an empty leaf, and counts which it was.
 #[derive(Drop)]
 pub(crate) struct EmptyLeaf {
-    pub(crate) refuses: u32,
     pub(crate) from_base: u32,
     pub(crate) from_nothing: u32,
 }
@@ -71,8 +69,7 @@ impl<'a, N: Life> Supply<N, Telling<'a, N>> for EmptyLeaf {
         pass: &mut Pass<Entry, N>,
     ) -> Result<Sealed, Fault> {
         journal.history.watch(pass, &mut journal.counts);
-        if self.refuses > 0 {
-            self.refuses -= 1;
+        if journal.wants_memory() {
             return Err(Fault::Memory);
         }
         let Some(base) = base else {

@@ -1,27 +1,35 @@
-//! A journal that tells the ends of one page's traces.
+//! A journal that tells the ends of one page's traces, and enters what a pool does with the page.
+ghost use Rattle.std.specs.Prelude.{◌≡◌, IfSome};
+ghost use Rattle.buffer_pool_tests.specs.Upkeep.{IsRepairOf};
 
+use crate::untold::{Untold, written_in};
 use books::PageRight;
 use front::Pass;
 use page_ops::{Entered, Entering, Found, Ground, Group, Life, Listed, Rights};
-use small_journal::{Counts, History};
+use small_journal::Counts;
 use std::alloc::Global;
 use std::marker::Model;
 use std::sync::Wait;
 use store_model::{Fault, Lsn, PageNo, Pos};
 use wal_record::{Entry, PageHead};
 
-/// A small journal of a life of which no opening log is known. It tells these ends of each page's traces, and counts what a
-/// pool asks of it.
+/// A journal of a life of which no opening log is known. It enters that a page was written or repaired, and tells these ends
+/// of each page's traces; of every other group it says that it wants memory.
 #[derive(Drop)]
 pub(crate) struct Telling<'a, N: Life> {
-    pub(crate) history: History<'a, N>,
+    pub(crate) history: Untold<'a, N>,
     pub(crate) counts: Counts<N>,
     pub(crate) head: Lsn,
     pub(crate) written: Lsn,
     /// The last LSN up to which it was flushed.
     pub(crate) flushed: Lsn,
-    /// How often it was told that a page was repaired.
+    /// How many calls were made that may want memory, and which of them does; none at 0.
+    pub(crate) calls: u32,
+    pub(crate) refuse_at: u32,
+    /// How often it entered that the page was repaired.
     pub(crate) repairs: u32,
+    /// How often it entered that the page was written.
+    pub(crate) writes: u32,
 }
 
 impl<'a, N: Life> Model for Telling<'a, N> {
@@ -35,11 +43,28 @@ impl<'a, N: Life> Model for Telling<'a, N> {
     ghost invariant = { λ j. IsUntold N.opens };
 }
 
+impl<'a, N: Life> Telling<'a, N> {
+    /// Counts a call that may want memory. Whether it does.
+    pub(crate) fn wants_memory(&mut self) -> bool
+        ensures { self.new ≡ self.old }
+    {
+        self.calls = self.calls.saturating_add(1);
+        self.calls == self.refuse_at
+    }
+}
+
+/// The entry that a page was repaired.
+fn repaired_entry(page: PageNo) -> Entry
+    ensures { IsRepairOf page result }
+{
+    Entry::Repaired { page }
+}
+
 impl<'a, N: Life> Entering<N> for Telling<'a, N> {
     ghost account = { λ j. j };
 
     fn ground(&self) -> &Ground<N> {
-        self.history.ground()
+        self.history.ground
     }
 
     fn log_faults(&self) -> u64 {
@@ -52,6 +77,7 @@ impl<'a, N: Life> Entering<N> for Telling<'a, N> {
         0
     }
 
+    #[tactic(auto, using(crate::proofs::Upkeep::filled_in))]
     fn enter<R: Wait>(
         &mut self,
         _rt: &R,
@@ -60,19 +86,51 @@ impl<'a, N: Life> Entering<N> for Telling<'a, N> {
         rights: &mut Rights<N>,
         pass: &mut Pass<Entry, N>,
     ) -> Result<Entered, Fault> {
-        self.history.enter(group, rights, pass, &mut self.counts)
+        let lsn = self.history.count().saturating_add(self.head);
+        let Some((page, written, entry)) = written_in(group, lsn) else {
+            self.history.see(rights, pass, &mut self.counts);
+            return Err(Fault::Memory);
+        };
+        if self.wants_memory() {
+            self.history.see(rights, pass, &mut self.counts);
+            return Err(Fault::Memory);
+        }
+        let Some(pos) = self.history.enter(&entry, rights, pass, &mut self.counts) else {
+            return Err(Fault::Memory);
+        };
+        group.lsn = lsn;
+        self.writes = self.writes.saturating_add(1);
+        if page == 1 {
+            self.written = written;
+        }
+        Ok(Entered::At(pos))
     }
 
     fn repaired<R: Wait>(
         &mut self,
         _rt: &R,
         _alloc: Global,
-        _right: &PageRight<N>,
+        right: &PageRight<N>,
         pass: &mut Pass<Entry, N>,
     ) -> Result<Option<Pos>, Fault> {
-        self.history.flush(pass, &mut self.counts);
+        let refused = self.wants_memory();
+        if refused || self.written == 0 {
+            self.history.watch(pass, &mut self.counts);
+            return if refused {
+                Err(Fault::Memory)
+            } else {
+                Ok(None)
+            };
+        }
+        let entry = repaired_entry(right.page());
+        let Some(pos) = self
+            .history
+            .enter(&entry, &mut Rights::none(), pass, &mut self.counts)
+        else {
+            return Err(Fault::Memory);
+        };
         self.repairs = self.repairs.saturating_add(1);
-        Ok(None)
+        Ok(Some(pos))
     }
 
     fn see<R: Wait>(&mut self, _rt: &R, rights: &mut Rights<N>, pass: &mut Pass<Entry, N>) {
@@ -85,7 +143,7 @@ impl<'a, N: Life> Entering<N> for Telling<'a, N> {
         lsn: Lsn,
         pass: &mut Pass<Entry, N>,
     ) -> Result<(), Fault> {
-        self.history.flush(pass, &mut self.counts);
+        self.history.watch(pass, &mut self.counts);
         self.flushed = lsn;
         Ok(())
     }
@@ -107,7 +165,10 @@ impl<'a, N: Life> Entering<N> for Telling<'a, N> {
         _page: PageNo,
         pass: &mut Pass<Entry, N>,
     ) -> Result<Listed, Fault> {
-        self.history.flush(pass, &mut self.counts);
+        self.history.watch(pass, &mut self.counts);
+        if self.wants_memory() {
+            return Err(Fault::Memory);
+        }
         Ok(Listed {
             ends: PageHead {
                 head: self.head,
@@ -120,10 +181,12 @@ impl<'a, N: Life> Entering<N> for Telling<'a, N> {
     }
 
     fn pages<R: Wait>(&mut self, _rt: &R, pass: &mut Pass<Entry, N>) -> u32 {
-        self.history.pages(pass, &mut self.counts)
+        self.history.watch(pass, &mut self.counts);
+        1
     }
 
     fn pending<R: Wait>(&mut self, _rt: &R, pass: &mut Pass<Entry, N>) -> u32 {
-        self.history.pending(pass, &mut self.counts)
+        self.history.watch(pass, &mut self.counts);
+        0
     }
 }

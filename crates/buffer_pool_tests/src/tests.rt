@@ -16,31 +16,78 @@ use std::sync::Wait;
 use std::test::*;
 use store_model::{Fault, Lsn, PageNo};
 
+/// A step of a test.
+#[derive(Clone, Copy, Debug, PartialEq, Eq)]
+enum Step {
+    /// The page is brought.
+    Bring,
+    /// The page is written out.
+    Write,
+    /// The data device is lost, and with it all that was written.
+    Lose,
+    /// The page is taken and put back.
+    Look,
+}
+
 /// What came of one page.
 #[derive(Clone, Copy, Debug, PartialEq, Eq)]
 struct Seen {
-    /// Whether the first bring was done.
-    first: bool,
+    /// Whether each step was done; of a look, whether the page was there.
+    done: [bool; 4],
+    /// The dirty page after the first step, and after the last.
+    dirty: [Option<PageNo>; 2],
     from_base: u32,
     from_nothing: u32,
     repairs: u32,
-    dirty: Option<PageNo>,
-    /// Whether the write was done, though the journal has no room for the record of it.
-    wrote: bool,
+    writes: u32,
     flushed: Lsn,
-    /// Whether the page was still in its frame.
-    there: bool,
 }
 
-/// Brings the page, again where the first bring was refused, writes it out and takes it.
+/// What is tried.
+#[derive(Clone, Copy, Debug)]
+struct Case {
+    /// As which LSN the page was written last.
+    written: Lsn,
+    /// Which of the calls that may want memory does.
+    refuse_at: u32,
+    steps: [Step; 4],
+}
+
+/// Takes one step: whether it was done.
+fn take<N: Life, R: Wait>(rt: &R, alloc: Global, begun: &mut Begun<N>, step: Step) -> bool
+    requires untold { (opening : List Record) → N.opens opening → ⊥ }
+{
+    let Begun {
+        journal,
+        pool,
+        pass,
+        ..
+    } = begun;
+    match step {
+        Step::Bring => pool.bring(rt, alloc, journal, 1, pass).is_ok(),
+        Step::Write => pool.write_out(rt, alloc, journal, 1, pass).is_ok(),
+        Step::Lose => {
+            journal.written = 0;
+            pool.lose(rt).is_ok()
+        }
+        Step::Look => match Pages::<N, Telling<N>>::try_take(pool, rt, 1) {
+            Taken::Page(held) => {
+                Pages::<N, Telling<N>>::put_back(pool, rt, &mut Some(held));
+                true
+            }
+            _ => false,
+        },
+    }
+}
+
+/// Takes the steps of the case, one after the other.
 fn in_turn<N: Life, R: Wait>(
     rt: &R,
     alloc: Global,
     ground: &Ground<N>,
     tokens: Tokens<N>,
     device: MemPages,
-    written: Lsn,
-    refuses: u32,
+    case: Case,
 ) -> Result<Seen, Fault>
     requires untold { (opening : List Record) → N.opens opening → ⊥ }
     requires parts { (N.entries.parts ≡ 1) × (N.session_entries.parts ≡ 1) × (N.log_faults.parts ≡ 1) × (N.vault_faults.parts ≡ 1) × (N.made.parts ≡ 1) }
@@ -50,33 +97,24 @@ fn in_turn<N: Life, R: Wait>(
     requires sessions { tokens.books.sessions ≡ [] }
     requires maint { tokens.books.maint ≡ [] }
 {
-    let Begun {
-        mut journal,
-        mut pool,
-        mut pass,
-    } = begin(alloc, ground, tokens, device, written, refuses)?;
-    let first = pool.bring(rt, alloc, &mut journal, 1, &mut pass).is_ok();
-    if !first {
-        pool.bring(rt, alloc, &mut journal, 1, &mut pass)?;
-    }
-    let dirty = pool.next_dirty(0);
-    let wrote = pool
-        .write_out(rt, alloc, &mut journal, 1, &mut pass)
-        .is_ok();
-    let there = match Pages::<N, Telling<N>>::try_take(&mut pool, rt, 1) {
-        Taken::Page(_) => true,
-        _ => false,
-    };
+    let mut begun = begin(alloc, ground, tokens, device, case.written, case.refuse_at)?;
+    let [first, second, third, fourth] = case.steps;
+    let one = take(rt, alloc, &mut begun, first);
+    let dirty = begun.pool.next_dirty(0);
+    let two = take(rt, alloc, &mut begun, second);
+    let three = take(rt, alloc, &mut begun, third);
+    let four = take(rt, alloc, &mut begun, fourth);
+    let dirty = [dirty, begun.pool.next_dirty(0)];
+    let Begun { journal, pool, .. } = begun;
     let (_, supply) = pool.into_parts();
     Ok(Seen {
-        first,
+        done: [one, two, three, four],
+        dirty,
         from_base: supply.from_base,
         from_nothing: supply.from_nothing,
         repairs: journal.repairs,
-        dirty,
-        wrote,
+        writes: journal.writes,
         flushed: journal.flushed,
-        there,
     })
 }
 
@@ -85,26 +123,19 @@ fn pool_life<N: Life, R: Wait>(
     alloc: Global,
     unnamed: Unnamed,
     device: MemPages,
-    written: Lsn,
-    refuses: u32,
+    case: Case,
 ) -> Result<Seen, Fault>
     requires untold { (opening : List Record) → N.opens opening → ⊥ }
     requires named { unnamed ≡ life_names N.count N.pages N.sessions N.maint N.entries N.session_entries N.log_faults N.vault_faults N.data_faults N.made }
     requires parts { (N.entries.parts ≡ 1) × (N.session_entries.parts ≡ 1) × (N.log_faults.parts ≡ 1) × (N.vault_faults.parts ≡ 1) × (N.made.parts ≡ 1) }
 {
     let (ground, tokens) = unnamed.split::<N>();
-    in_turn(rt, alloc, &ground, tokens, device, written, refuses)
+    in_turn(rt, alloc, &ground, tokens, device, case)
 }
 
-fn run_with<R: Wait>(
-    rt: &R,
-    alloc: Global,
-    device: MemPages,
-    written: Lsn,
-    refuses: u32,
-) -> Result<Seen, Fault> {
+fn run_with<R: Wait>(rt: &R, alloc: Global, device: MemPages, case: Case) -> Result<Seen, Fault> {
     let unnamed = Unnamed::new(alloc, 1)?;
-    pool_life::<Brand, R>(rt, alloc, unnamed, device, written, refuses)
+    pool_life::<Brand, R>(rt, alloc, unnamed, device, case)
 }
 
 /// A device to which this image was written for page 1: of that page, at this LSN, with a byte changed. The calls with these
@@ -127,41 +158,56 @@ fn device_with(
     Ok(device)
 }
 
+/// The page is brought, written out, looked for and brought again.
+const WRITE: [Step; 4] = [Step::Bring, Step::Write, Step::Look, Step::Bring];
+
+/// The page is brought, and again.
+const AGAIN: [Step; 4] = [Step::Bring, Step::Look, Step::Bring, Step::Look];
+
+/// The device is lost behind the bring, and the page brought again.
+const LOSE: [Step; 4] = [Step::Bring, Step::Lose, Step::Look, Step::Bring];
+
 /// A page that the device gives as it is at its head.
 const CURRENT: Seen = Seen {
-    first: true,
+    done: [true; 4],
+    dirty: [None; 2],
     from_base: 1,
     from_nothing: 0,
     repairs: 0,
-    dirty: None,
-    wrote: true,
+    writes: 0,
     flushed: 0,
-    there: true,
 };
 
 /// A page that the device gives as it was before.
 const OLDER: Seen = Seen {
-    first: true,
-    from_base: 1,
-    from_nothing: 0,
-    repairs: 0,
-    dirty: Some(1),
-    wrote: false,
+    dirty: [Some(1), None],
+    writes: 1,
     flushed: HEAD,
-    there: true,
+    ..CURRENT
 };
 
 /// A page that is rebuilt from nothing.
 const REPAIRED: Seen = Seen {
-    first: true,
     from_base: 0,
     from_nothing: 1,
     repairs: 1,
-    dirty: Some(1),
-    wrote: false,
-    flushed: HEAD,
-    there: true,
+    ..OLDER
 };
+
+/// The same, where no image of it was written since the last loss.
+const REDONE: Seen = Seen {
+    repairs: 0,
+    ..REPAIRED
+};
+
+/// A case in which no call wants memory.
+fn written_as(written: Lsn, steps: [Step; 4]) -> Case {
+    Case {
+        written,
+        refuse_at: 0,
+        steps,
+    }
+}
 
 #[test]
 fn an_image_serves_from_the_written_lsn_to_the_head(rt: HostRuntime) -> Result<(), Fail> {
@@ -173,46 +219,112 @@ fn an_image_serves_from_the_written_lsn_to_the_head(rt: HostRuntime) -> Result<(
         // Too old, too new, of another page, damaged in the digest, in the number and in the last byte.
         (1, 3, None, 4, REPAIRED),
         (1, HEAD + 1, None, HEAD, REPAIRED),
+        (1, HEAD + 1, None, 0, REDONE),
         (2, HEAD, None, HEAD, REPAIRED),
         (1, HEAD, Some(0), HEAD, REPAIRED),
         (1, HEAD, Some(36), HEAD, REPAIRED),
         (1, HEAD, Some(4095), HEAD, REPAIRED),
     ] {
         let device = device_with(alloc, page, lsn, changed, Vec::new(alloc))?;
-        assert_eq!(rt; run_with(&rt, alloc, device, written, 0)?, expected);
+        let seen = run_with(&rt, alloc, device, written_as(written, WRITE))?;
+        assert_eq!(rt; seen, expected);
     }
     Ok(())
 }
 
+/// The second call of the device reads the page, the third writes it, and where that failed the fourth reads it again.
 #[test]
-fn a_page_that_cannot_be_read_is_rebuilt(rt: HostRuntime) -> Result<(), Fail> {
+fn a_device_call_that_fails_is_no_fault_of_the_pool(rt: HostRuntime) -> Result<(), Fail> {
     let alloc = rt.alloc();
-    let device = device_with(alloc, 1, HEAD, None, vec![in alloc; 2]?)?;
-    assert_eq!(rt; run_with(&rt, alloc, device, HEAD, 0)?, REPAIRED);
-    Ok(())
-}
-
-#[test]
-fn a_page_that_cannot_be_written_is_dropped(rt: HostRuntime) -> Result<(), Fail> {
-    let alloc = rt.alloc();
-    let device = device_with(alloc, 1, 3, None, vec![in alloc; 3]?)?;
     let dropped = Seen {
-        wrote: true,
-        there: false,
+        done: [true, true, false, true],
+        dirty: [Some(1), Some(1)],
+        from_base: 2,
+        writes: 0,
         ..OLDER
     };
-    assert_eq!(rt; run_with(&rt, alloc, device, 3, 0)?, dropped);
+    for (failing, expected) in [(2, REPAIRED), (3, dropped), (4, OLDER)] {
+        let device = device_with(alloc, 1, 3, None, vec![in alloc; failing]?)?;
+        let seen = run_with(&rt, alloc, device, written_as(3, WRITE))?;
+        assert_eq!(rt; seen, expected);
+    }
     Ok(())
 }
 
+/// A bring lists the page, has it rebuilt, and enters the repair; any of these may want memory.
 #[test]
 fn a_bring_that_wants_memory_leaves_the_right_at_home(rt: HostRuntime) -> Result<(), Fail> {
     let alloc = rt.alloc();
-    let device = device_with(alloc, 1, HEAD, None, Vec::new(alloc))?;
-    let again = Seen {
-        first: false,
+    let again = [false, false, true, true];
+    for (refuse_at, done, from_nothing) in [
+        (0, [true; 4], 1),
+        (1, again, 1),
+        (2, again, 1),
+        // The page was rebuilt, and is rebuilt again.
+        (3, again, 2),
+        (4, [true; 4], 1),
+    ] {
+        let case = Case {
+            written: HEAD,
+            refuse_at,
+            steps: AGAIN,
+        };
+        let expected = Seen {
+            done,
+            dirty: if done[0] {
+                [Some(1); 2]
+            } else {
+                [None, Some(1)]
+            },
+            from_nothing,
+            writes: 0,
+            flushed: 0,
+            ..REPAIRED
+        };
+        let seen = run_with(&rt, alloc, MemPages::new(alloc), case)?;
+        assert_eq!(rt; seen, expected);
+    }
+    Ok(())
+}
+
+/// The image is written, and written again.
+#[test]
+fn a_write_that_cannot_be_entered_leaves_the_page_dirty(rt: HostRuntime) -> Result<(), Fail> {
+    let alloc = rt.alloc();
+    let device = device_with(alloc, 1, 3, None, Vec::new(alloc))?;
+    let case = Case {
+        written: 3,
+        refuse_at: 3,
+        steps: [Step::Bring, Step::Write, Step::Look, Step::Write],
+    };
+    let expected = Seen {
+        done: [true, false, true, true],
+        ..OLDER
+    };
+    assert_eq!(rt; run_with(&rt, alloc, device, case)?, expected);
+    Ok(())
+}
+
+/// The third call of the device replaces it.
+#[test]
+fn a_lost_device_takes_the_pages_along(rt: HostRuntime) -> Result<(), Fail> {
+    let alloc = rt.alloc();
+    let lost = Seen {
+        done: [true, true, false, true],
+        dirty: [None, Some(1)],
+        from_nothing: 1,
         ..CURRENT
     };
-    assert_eq!(rt; run_with(&rt, alloc, device, HEAD, 1)?, again);
+    // The old image stays, and serves.
+    let stays = Seen {
+        done: [true, false, false, true],
+        from_base: 2,
+        ..CURRENT
+    };
+    for (failing, expected) in [(0, lost), (3, stays)] {
+        let device = device_with(alloc, 1, HEAD, None, vec![in alloc; failing]?)?;
+        let seen = run_with(&rt, alloc, device, written_as(HEAD, LOSE))?;
+        assert_eq!(rt; seen, expected);
+    }
     Ok(())
 }
