@@ -6,7 +6,6 @@ use media_file::{FileDisk, FilePages, FileVault, Folder};
 use media_mem::{MemSink, MemSource};
 use operators::boxed_operators;
 use runner::{Status, run_words};
-
 use std::fs;
 use std::test::Fail;
 

@@ -7,7 +7,6 @@ use media_mem::MemDisk;
 use operators::{Operators, boxed_operators};
 use std::alloc::Global;
 use std::test::Fail;
-
 use wal_record::{LeafRow, Rows};
 
 /// Adds what a word stands for: `8.7` for the number 7 in eight bytes, and so on; other words are hexadecimal.
