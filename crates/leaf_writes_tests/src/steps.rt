@@ -63,12 +63,7 @@ fn value_of(letters: usize) -> Option<Value> {
 }
 
 /// The change of a key that has this value.
-fn change_of(
-    keys: &Keys,
-    tx: TxId,
-    key: &Key,
-    old: &Option<Value>,
-) -> Option<Change>
+fn change_of(keys: &Keys, tx: TxId, key: &Key, old: &Option<Value>) -> Option<Change>
     ensures { IfSome result (IsChangeOf tx key.now old.now) }
 {
     let (key, new) = (key.copied(), value_of(keys.letters));
@@ -171,9 +166,7 @@ pub(crate) fn change_all<N: Life, J: Entering<N>, P: Pages<N, J>, R: Wait>(
 {
     for number in keys.from..keys.behind {
         if let Some(key) = key_of(number, keys.length) {
-            change(
-                rt, alloc, pages, journal, owner, &keys, &key, pass,
-            )?;
+            change(rt, alloc, pages, journal, owner, &keys, &key, pass)?;
         }
     }
     Ok(())

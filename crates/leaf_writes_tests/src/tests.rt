@@ -134,6 +134,30 @@ fn short(from: u32, behind: u32) -> Keys {
 #[test]
 fn a_put_that_does_not_fit_splits_its_leaf(rt: HostRuntime) -> Result<(), Fail> {
     let told = told(&rt, rt.alloc(), short(0, 145))?;
-    assert_eq!(rt; told.as_str(), "0 ..- k072>2 72 0 1440 k000 k071\n0 k072..- 73 0 1460 k072 k144\n");
+    assert_eq!(rt;
+        told.as_str(),
+        "0 ..- k072>2 72 0 1440 k000 k071\n0 k072..- 73 0 1460 k072 k144\n"
+    );
+    Ok(())
+}
+
+#[test]
+fn a_full_leaf_is_not_split(rt: HostRuntime) -> Result<(), Fail> {
+    let told = told(&rt, rt.alloc(), short(0, 144))?;
+    assert_eq!(rt; told.as_str(), "0 ..- 144 0 2880 k000 k143\n");
+    Ok(())
+}
+
+/// 12 rows of 324 bytes fit, 13 don't.
+#[test]
+fn the_longest_rows_are_split_in_halves(rt: HostRuntime) -> Result<(), Fail> {
+    let longest = Keys {
+        length: 64,
+        letters: 256,
+        ..short(0, 13)
+    };
+    let told = told(&rt, rt.alloc(), longest)?;
+    let wanted = "0 ..- k006>2 6 0 1536 k000 k005\n0 k006..- 7 0 1792 k006 k012\n";
+    assert_eq!(rt; told.as_str(), wanted);
     Ok(())
 }
