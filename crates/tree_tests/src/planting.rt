@@ -34,25 +34,32 @@ pub(crate) fn empty_leaf(alloc: Global) -> Option<PageState>
     })
 }
 
-/// A log of one record, the format of a store of up to 16,384 pages and open writes.
-pub(crate) fn new_log<L: Disk + Drop>(alloc: Global, disk: L) -> Result<ListedLog<L>, Memory>
+/// A log of one record, the format of a store of up to so many pages and open writes.
+pub(crate) fn new_log<L: Disk + Drop>(
+    alloc: Global,
+    disk: L,
+    limit: u32,
+) -> Result<ListedLog<L>, Memory>
     ensures open { IfOk result (λ log. log.log.log.ended ≡ None) }
 {
     let Ok(blocks) = open_log(alloc, disk) else {
         return Err(Memory);
     };
     let mut log = ListedLog::new(LogManager::start(alloc, blocks), Listing::new(alloc));
-    let format = Record::Format(Format { limit: 16384 });
+    let format = Record::Format(Format { limit });
     match log.append_group(alloc, slice::from_ref(&format)) {
         Ok(_) => Ok(log),
         Err(_) => Err(Memory),
     }
 }
 
-/// Places for 8 pages, none of which is there.
-pub(crate) fn no_pages<N: Life>(alloc: Global) -> Result<Frames<N>, Memory> {
-    let frames = vec![in alloc; None, None, None, None, None, None, None, None]?;
-    let away = vec![in alloc; None, None, None, None, None, None, None, None]?;
+/// Places for so many pages, none of which is there.
+pub(crate) fn no_pages<N: Life>(alloc: Global, places: u32) -> Result<Frames<N>, Memory> {
+    let (mut frames, mut away) = (Vec::new(alloc), Vec::new(alloc));
+    for _ in 0..places {
+        frames.push(None)?;
+        away.push(None)?;
+    }
     Ok(Frames::new(frames, away))
 }
 

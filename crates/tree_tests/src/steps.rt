@@ -1,16 +1,19 @@
 //! Changes of the keys of a tree of one thread.
-ghost use Rattle.std.specs.Prelude.{◌≡◌, ◌<◌, List, IfOk, IfSome, IsSome, IsTrue};
+ghost use Rattle.std.specs.Prelude.{◌≡◌, ◌<◌, List, IfOk, IfErr, IfSome, IsSome, IsTrue, true};
 ghost use mathlib.Core.List.{IsPrefix};
 ghost use Rattle.page_ops.specs.Claims.{SessionAgrees};
+ghost use Rattle.wal_record.specs.Images.{IsLeafOf};
 ghost use Rattle.wal_record.specs.Rules.{is_number};
 ghost use Rattle.wal_record.specs.declared.record.Record.{Record};
-ghost use Rattle.leaf_writes_tests.specs.ChangesOf.{IsChangeOf};
+ghost use Rattle.foster_tree.specs.Nows.{IsNow};
+ghost use Rattle.tree_tests.specs.ChangesOf.{IsChangeOf};
 
+use adoption::find_leaf_for_write;
 use books::SessionRight;
 use foster_tree::{find_leaf, lookup};
 use front::Pass;
 use leaf_writes::{Change, How, write_key};
-use page_ops::{Entering, Life, Pages, Rights};
+use page_ops::{Entering, Held, Life, Pages, Rights};
 use std::alloc::Global;
 use std::sync::Wait;
 use store_model::{Fault, HIGHEST, Key, TxId, Value};
@@ -45,7 +48,7 @@ fn digit(number: u32, power: u32) -> u8
 }
 
 /// Of the number 7 the key is k007, with letters x behind it up to its length.
-fn key_of(number: u32, length: usize) -> Option<Key> {
+pub(crate) fn key_of(number: u32, length: usize) -> Option<Key> {
     let mut bytes = [b'x'; 64];
     bytes[0] = b'k';
     bytes[1] = digit(number, 100);
@@ -116,6 +119,32 @@ fn transaction_of<N: Life>(owner: &Option<SessionRight<N>>) -> Option<TxId>
     }
 }
 
+/// The leaf of a key, by the descent of a write, or by that of an undo, which changes no structure. A frame is reserved.
+fn leaf_for<N: Life, J: Entering<N>, P: Pages<N, J>, R: Wait>(
+    rt: &R,
+    alloc: Global,
+    pages: &mut P,
+    journal: &mut J,
+    deed: Deed,
+    key: &[u8],
+    pass: &mut Pass<Entry, N>,
+) -> Result<Held<N>, Fault>
+    requires untold { (opening : List Record) → N.opens opening → ⊥ }
+    requires none { (P.desk pages.old).out ≡ 0 }
+    ensures leaf { IfOk result (λ held. IsLeafOf key.now held.state) }
+    ensures now { IfOk result (IsNow N.opens pass.new.log) }
+    ensures taken { IfOk result (λ held. ((P.desk pages.new).out ≡ 1) × ((P.desk pages.new).reserves ≡ true)) }
+    ensures none { IfErr result (λ fault. (P.desk pages.new).out ≡ 0) }
+{
+    match deed {
+        Deed::Write => find_leaf_for_write(rt, alloc, pages, journal, key, pass),
+        Deed::Undo => {
+            pages.reserve_new(rt, alloc, journal, pass)?;
+            find_leaf(rt, alloc, pages, journal, key, pass)
+        }
+    }
+}
+
 /// Changes a key on its leaf.
 #[tactic(auto, using(crate::proofs::MayOf::may_of))]
 fn change<N: Life, J: Entering<N>, P: Pages<N, J>, R: Wait>(
@@ -132,8 +161,7 @@ fn change<N: Life, J: Entering<N>, P: Pages<N, J>, R: Wait>(
     requires none { (P.desk pages.old).out ≡ 0 }
     ensures none { (P.desk pages.new).out ≡ 0 }
 {
-    pages.reserve_new(rt, alloc, journal, pass)?;
-    let mut leaf = find_leaf(rt, alloc, pages, journal, key.as_bytes(), pass)?;
+    let mut leaf = leaf_for(rt, alloc, pages, journal, keys.deed, key.as_bytes(), pass)?;
     see_owner(rt, journal, owner, pass);
     let old = lookup(&leaf.state, key);
     let mut refused = None;
@@ -144,6 +172,7 @@ fn change<N: Life, J: Entering<N>, P: Pages<N, J>, R: Wait>(
         }
     }
     pages.put_back(rt, &mut Some(leaf));
+    pages.drop_new(rt);
     match refused {
         Some(fault) => Err(fault),
         None => Ok(()),
@@ -157,7 +186,7 @@ pub(crate) fn change_all<N: Life, J: Entering<N>, P: Pages<N, J>, R: Wait>(
     pages: &mut P,
     journal: &mut J,
     owner: &mut Option<SessionRight<N>>,
-    keys: Keys,
+    keys: &Keys,
     pass: &mut Pass<Entry, N>,
 ) -> Result<(), Fault>
     requires untold { (opening : List Record) → N.opens opening → ⊥ }
@@ -166,7 +195,7 @@ pub(crate) fn change_all<N: Life, J: Entering<N>, P: Pages<N, J>, R: Wait>(
 {
     for number in keys.from..keys.behind {
         if let Some(key) = key_of(number, keys.length) {
-            change(rt, alloc, pages, journal, owner, &keys, &key, pass)?;
+            change(rt, alloc, pages, journal, owner, keys, &key, pass)?;
         }
     }
     Ok(())

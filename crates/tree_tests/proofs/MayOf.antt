@@ -12,7 +12,7 @@ use Rattle.leaf_writes.specs.MayChange.{IsWriter, MayBy, MayChange}
 use Rattle.leaf_writes.specs.declared.change.Change.{Change}
 use Rattle.leaf_writes.specs.declared.change.How.{How}
 use Rattle.leaf_writes.specs.declared.change.How.TheVariants as hows
-use Rattle.leaf_writes_tests.specs.ChangesOf.{IsChangeOf, IsHow}
+use Rattle.tree_tests.specs.ChangesOf.{IsChangeOf, IsHow}
 
 module _ (opens : List Record → Type 0) (untold : (opening : List Record) → opens opening → ⊥) (seen : List Entry) (s : PageState) (key : List ℕ) (old : Option (List ℕ)) (is : old ≡ live (leaf_rows s.rows) key) (o : SessionClaim) (number : is_number o.tx ≡ true) (agrees : SessionAgrees seen o) where
   writer : IsWriter opens seen key o

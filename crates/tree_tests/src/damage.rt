@@ -1,0 +1,225 @@
+//! A pool of which a page may be damaged in its frame. A page that is renewed is as it was.
+ghost use Rattle.std.specs.Prelude.{◌≡◌, IfSome, List};
+ghost use Rattle.wal_record.specs.State.{KeepsState};
+ghost use Rattle.wal_record.specs.declared.record.Record.{Record};
+
+use crate::steps::key_of;
+use foster_tree::{find_leaf, lookup};
+use front::Pass;
+use page_ops::{Entering, Held, Life, Pages, Taken};
+use std::alloc::Global;
+use std::marker::PhantomData;
+use std::mem;
+use std::sync::Wait;
+use store_model::{Bound, Fault, List, PageNo};
+use wal_record::{Entry, PageState, Rows};
+
+/// Pages of a life of which no opening log is known, and what the damaged one was.
+#[derive(Drop)]
+pub(crate) struct Damaged<N: Life, P> {
+    pages: P,
+    page: PageNo,
+    kept: Option<PageState>,
+    life: PhantomData<N>,
+    ghost keeps: { IfSome kept KeepsState },
+    ghost untold: { (opening : List Record) → N.opens opening → ⊥ },
+}
+
+impl<N: Life, P> Damaged<N, P> {
+    pub(crate) fn new(pages: P) -> Damaged<N, P>
+        requires untold { (opening : List Record) → N.opens opening → ⊥ }
+        ensures { result.pages ≡ pages }
+    {
+        Damaged {
+            pages,
+            page: 0,
+            kept: None,
+            life: PhantomData,
+        }
+    }
+
+    /// The page in hand is damaged: it has this state.
+    fn spoil(&mut self, held: &mut Held<N>, state: PageState)
+        requires keeps { KeepsState state }
+        ensures same { self.new.pages ≡ self.old.pages }
+    {
+        self.page = held.page;
+        self.kept = Some(mem::replace(&mut held.state, state));
+    }
+
+    /// The page in hand is as it was.
+    fn mend(&mut self, held: &mut Held<N>)
+        ensures same { self.new.pages ≡ self.old.pages }
+    {
+        if held.page == self.page {
+            if let Some(state) = self.kept.take() {
+                held.state = state;
+            }
+        }
+    }
+}
+
+impl<N: Life, J: Entering<N>, P: Pages<N, J>> Pages<N, J> for Damaged<N, P> {
+    ghost desk = { λ d. P.desk d.pages };
+
+    fn out(&self) -> u32 {
+        self.pages.out()
+    }
+
+    fn log_faults(&self) -> u64 {
+        self.pages.log_faults()
+    }
+
+    fn vault_faults(&self) -> u64 {
+        self.pages.vault_faults()
+    }
+
+    fn try_take<R: Wait>(&mut self, rt: &R, page: PageNo) -> Taken<Held<N>> {
+        self.pages.try_take(rt, page)
+    }
+
+    fn wait_for<R: Wait>(&mut self, rt: &R, page: PageNo) {
+        self.pages.wait_for(rt, page);
+    }
+
+    fn bring<R: Wait>(
+        &mut self,
+        rt: &R,
+        alloc: Global,
+        journal: &mut J,
+        page: PageNo,
+        pass: &mut Pass<Entry, N>,
+    ) -> Result<(), Fault> {
+        self.pages.bring(rt, alloc, journal, page, pass)
+    }
+
+    fn renew<R: Wait>(
+        &mut self,
+        rt: &R,
+        alloc: Global,
+        journal: &mut J,
+        held: &mut Option<Held<N>>,
+        pass: &mut Pass<Entry, N>,
+    ) -> Result<(), Fault> {
+        if let Some(damaged) = held {
+            self.mend(damaged);
+        }
+        self.pages.renew(rt, alloc, journal, held, pass)
+    }
+
+    fn put_back<R: Wait>(&mut self, rt: &R, held: &mut Option<Held<N>>) {
+        self.pages.put_back(rt, held);
+    }
+
+    fn reserve_new<R: Wait>(
+        &mut self,
+        rt: &R,
+        alloc: Global,
+        journal: &mut J,
+        pass: &mut Pass<Entry, N>,
+    ) -> Result<(), Fault> {
+        self.pages.reserve_new(rt, alloc, journal, pass)
+    }
+
+    fn put_new<R: Wait>(&mut self, rt: &R, held: &mut Option<Held<N>>) {
+        self.pages.put_new(rt, held);
+    }
+
+    fn drop_new<R: Wait>(&mut self, rt: &R) {
+        self.pages.drop_new(rt);
+    }
+}
+
+/// A leaf without rows, between these fence keys.
+fn leaf_between(alloc: Global, low: &[u8], high: &[u8]) -> Option<PageState>
+    ensures { IfSome result KeepsState }
+{
+    let (low, high) = (Bound::at(low)?, Bound::at(high)?);
+    if !low.is_below(&high) {
+        return None;
+    }
+    Some(PageState {
+        level: 0,
+        low,
+        high,
+        foster: None,
+        rows: Rows::Leaf(List::new(alloc)),
+    })
+}
+
+/// Wrong states of a leaf that has the keys from k072 on and below k144: another low fence key, another high one, and a
+/// page that is empty and has all keys.
+fn wrong_state(alloc: Global, number: u32) -> Option<PageState>
+    ensures { IfSome result KeepsState }
+{
+    match number {
+        0 => leaf_between(alloc, b"k071", b"k144"),
+        1 => leaf_between(alloc, b"k072", b"k143"),
+        2 => leaf_between(alloc, b"k073", b"k144"),
+        _ => leaf_between(alloc, b"", b"k145"),
+    }
+}
+
+/// The page is damaged, if it is in its frame.
+fn spoil_page<N: Life, J: Entering<N>, P: Pages<N, J>, R: Wait>(
+    rt: &R,
+    pages: &mut Damaged<N, P>,
+    page: PageNo,
+    state: PageState,
+)
+    requires none { (P.desk pages.old.pages).out ≡ 0 }
+    requires keeps { KeepsState state }
+    ensures none { (P.desk pages.new.pages).out ≡ 0 }
+{
+    if let Taken::Page(mut held) = pages.pages.try_take(rt, page) {
+        pages.spoil(&mut held, state);
+        pages.pages.put_back(rt, &mut Some(held));
+    }
+}
+
+/// How many letters the value of a key has.
+fn letters_of<N: Life, J: Entering<N>, P: Pages<N, J>, R: Wait>(
+    rt: &R,
+    alloc: Global,
+    pages: &mut P,
+    journal: &mut J,
+    number: u32,
+    pass: &mut Pass<Entry, N>,
+) -> Result<usize, Fault>
+    requires untold { (opening : List Record) → N.opens opening → ⊥ }
+    requires none { (P.desk pages.old).out ≡ 0 }
+    ensures none { (P.desk pages.new).out ≡ 0 }
+{
+    let Some(key) = key_of(number, 4) else {
+        return Ok(0);
+    };
+    let leaf = find_leaf(rt, alloc, pages, journal, key.as_bytes(), pass)?;
+    let value = lookup(&leaf.state, &key);
+    pages.put_back(rt, &mut Some(leaf));
+    Ok(match value {
+        Some(value) => value.as_bytes().len(),
+        None => 0,
+    })
+}
+
+/// Damages page 2 in each way in turn, and asks for the value of k100 then. The letters found, one after the other.
+pub(crate) fn ask_all<N: Life, J: Entering<N>, P: Pages<N, J>, R: Wait>(
+    rt: &R,
+    alloc: Global,
+    pages: &mut Damaged<N, P>,
+    journal: &mut J,
+    pass: &mut Pass<Entry, N>,
+) -> Result<usize, Fault>
+    requires none { (P.desk pages.old.pages).out ≡ 0 }
+    ensures none { (P.desk pages.new.pages).out ≡ 0 }
+{
+    let mut letters = 0usize;
+    for number in 0..4 {
+        if let Some(state) = wrong_state(alloc, number) {
+            spoil_page::<N, J, P, R>(rt, pages, 2, state);
+        }
+        let found = letters_of(rt, alloc, pages, journal, 100, pass)?;
+        letters = letters.saturating_add(found);
+    }
+    Ok(letters)
+}

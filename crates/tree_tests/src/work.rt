@@ -1,0 +1,126 @@
+//! What is done to a tree, step by step.
+ghost use Rattle.std.specs.Prelude.{◌≡◌, List};
+ghost use Rattle.wal_record.specs.declared.record.Record.{Record};
+
+use crate::damage::{Damaged, ask_all};
+use crate::steps::{Keys, change_all};
+use crate::told::told_pages;
+use books::SessionRight;
+use front::Pass;
+use page_ops::{Journaling, Life, Pages};
+use std::alloc::Global;
+use std::sync::Wait;
+use store_model::{Fault, PageNo};
+use wal_record::Entry;
+
+/// Keys that are changed in turn, or the end of a transaction.
+#[derive(Clone, Copy)]
+pub(crate) enum Step {
+    Change(Keys),
+    Commit,
+}
+
+/// The right to a new session, which has a transaction.
+fn begin<N: Life, J: Journaling<N>, R: Wait>(
+    rt: &R,
+    alloc: Global,
+    journal: &mut J,
+    pass: &mut Pass<Entry, N>,
+) -> Result<SessionRight<N>, Fault> {
+    let mut owner = journal.session(rt, alloc, pass)?;
+    journal.begin(rt, alloc, &mut owner, pass)?;
+    Ok(owner)
+}
+
+/// Commits, and begins another transaction in a session of its own.
+fn commit<N: Life, J: Journaling<N>, R: Wait>(
+    rt: &R,
+    alloc: Global,
+    journal: &mut J,
+    owner: &mut Option<SessionRight<N>>,
+    pass: &mut Pass<Entry, N>,
+) -> Result<(), Fault> {
+    if let Some(mut s) = owner.take() {
+        if s.tx() > 0 {
+            journal.commit(rt, &mut s, pass)?;
+        }
+    }
+    *owner = Some(begin(rt, alloc, journal, pass)?);
+    Ok(())
+}
+
+/// Does the steps, until one is refused.
+fn do_all<N: Life, J: Journaling<N>, P: Pages<N, J>, R: Wait>(
+    rt: &R,
+    alloc: Global,
+    journal: &mut J,
+    pages: &mut P,
+    steps: &[Step],
+    pass: &mut Pass<Entry, N>,
+) -> Result<(), Fault>
+    requires untold { (opening : List Record) → N.opens opening → ⊥ }
+    requires none { (P.desk pages.old).out ≡ 0 }
+    ensures none { (P.desk pages.new).out ≡ 0 }
+{
+    let mut owner = Some(begin(rt, alloc, journal, pass)?);
+    for step in steps {
+        match step {
+            Step::Change(keys) => change_all(rt, alloc, pages, journal, &mut owner, keys, pass)?,
+            Step::Commit => commit(rt, alloc, journal, &mut owner, pass)?,
+        }
+    }
+    Ok(())
+}
+
+/// Does the steps, damages page 2 in turn, and gives the letters of k100 that were found each time, together.
+pub(crate) fn work_on_damaged<N: Life, J: Journaling<N>, P: Pages<N, J> + Drop, R: Wait>(
+    rt: &R,
+    alloc: Global,
+    journal: &mut J,
+    pages: P,
+    steps: &[Step],
+    pass: &mut Pass<Entry, N>,
+) -> Result<String, Fault>
+    requires untold { (opening : List Record) → N.opens opening → ⊥ }
+    requires none { (P.desk pages).out ≡ 0 }
+{
+    let mut pages = Damaged::new(pages);
+    do_all(rt, alloc, journal, &mut pages, steps, pass)?;
+    let letters = ask_all(rt, alloc, &mut pages, journal, pass)?;
+    let told = told_pages::<N, J, Damaged<N, P>, R>(rt, alloc, &mut pages, 3)?;
+    Ok(format!(in alloc; "{told}letters {letters}\n")?)
+}
+
+/// What is told of the pages below this number once the steps were done, and of the step that was refused as full.
+pub(crate) fn work<N: Life, J: Journaling<N>, P: Pages<N, J>, R: Wait>(
+    rt: &R,
+    alloc: Global,
+    journal: &mut J,
+    pages: &mut P,
+    steps: &[Step],
+    behind: PageNo,
+    pass: &mut Pass<Entry, N>,
+) -> Result<String, Fault>
+    requires untold { (opening : List Record) → N.opens opening → ⊥ }
+    requires none { (P.desk pages.old).out ≡ 0 }
+{
+    let full = match do_all(rt, alloc, journal, pages, steps, pass) {
+        Ok(()) => None,
+        Err(
+            Fault::Full {
+                pages,
+                pending,
+                at: _,
+            },
+        ) => Some((pages, pending)),
+        Err(fault) => return Err(fault),
+    };
+    let count = journal.pages(rt, pass);
+    let told = told_pages::<N, J, P, R>(rt, alloc, pages, behind)?;
+    Ok(match full {
+        Some((pages, pending)) => {
+            format!(in alloc; "pages {count}\n{told}full {pages} {pending}\n")?
+        }
+        None => format!(in alloc; "pages {count}\n{told}")?,
+    })
+}
