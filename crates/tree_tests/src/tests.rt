@@ -202,17 +202,24 @@ fn the_half_with_the_key_has_the_new_row(rt: HostRuntime) -> Result<(), Fail> {
 }
 
 /// 300 short rows: a full leaf splits at its 145th row, the next put makes the root grow and adopt, and each later half is
-/// adopted by the put behind its split. Then a key is deleted.
+/// adopted by the put behind its split. Then a key is deleted, and a scan over it finds
+/// the two keys beside it.
 #[test]
 fn three_hundred_rows_are_four_leafs_below_a_root(rt: HostRuntime) -> Result<(), Fail> {
     let grown = told(&rt, rt.alloc(), &[short(0, 146)])?;
     let wanted =
         "pages 3\n1 ..- >3 k072>2\n0 k072..- 74 0 1480 k072 k145\n0 ..k072 72 0 1440 k000 k071\n";
     assert_eq!(rt; grown.as_str(), wanted);
-    let steps = [short(0, 300), Step::Commit, few(150, 151, 0)];
+    let (from, behind) = (149, 152);
+    let steps = [
+        short(0, 300),
+        Step::Commit,
+        few(150, 151, 0),
+        Step::Scan { from, behind },
+    ];
     let all = told(&rt, rt.alloc(), &steps)?;
     let wanted =
-        "pages 5\n1 ..- >3 k072>2 k144>4 k216>5\n0 k072..k144 72 0 1440 k072 k143\n0 ..k072 72 0 1440 k000 k071\n0 k144..k216 72 1 1420 k144 k215\n0 k216..- 84 0 1680 k216 k299\n";
+        "pages 5\n1 ..- >3 k072>2 k144>4 k216>5\n0 k072..k144 72 0 1440 k072 k143\n0 ..k072 72 0 1440 k000 k071\n0 k144..k216 72 1 1420 k144 k215\n0 k216..- 84 0 1680 k216 k299\npairs 2\n";
     assert_eq!(rt; all.as_str(), wanted);
     Ok(())
 }

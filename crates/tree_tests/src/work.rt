@@ -3,21 +3,23 @@ ghost use Rattle.std.specs.Prelude.{◌≡◌, List};
 ghost use Rattle.wal_record.specs.declared.record.Record.{Record};
 
 use crate::damage::{Damaged, ask_all};
-use crate::steps::{Keys, change_all};
+use crate::steps::{Keys, change_all, key_of};
 use crate::told::told_pages;
 use books::SessionRight;
+use foster_tree::scan_leafs;
 use front::Pass;
 use page_ops::{Journaling, Life, Pages};
 use std::alloc::Global;
 use std::sync::Wait;
-use store_model::{Fault, PageNo};
+use store_model::{Bound, Fault, KeyRange, Memory, PageNo};
 use wal_record::Entry;
 
-/// Keys that are changed in turn, or the end of a transaction.
+/// Keys that are changed in turn, the end of a transaction, or a scan from one key on to another.
 #[derive(Clone, Copy)]
 pub(crate) enum Step {
     Change(Keys),
     Commit,
+    Scan { from: u32, behind: u32 },
 }
 
 /// The right to a new session, which has a transaction.
@@ -49,7 +51,31 @@ fn commit<N: Life, J: Journaling<N>, R: Wait>(
     Ok(())
 }
 
-/// Does the steps, until one is refused.
+/// How many pairs there are from one key on to another.
+fn scan<N: Life, J: Journaling<N>, P: Pages<N, J>, R: Wait>(
+    rt: &R,
+    alloc: Global,
+    journal: &mut J,
+    pages: &mut P,
+    range: &KeyRange,
+    pass: &mut Pass<Entry, N>,
+) -> Result<usize, Fault>
+    requires untold { (opening : List Record) → N.opens opening → ⊥ }
+    requires none { (P.desk pages.old).out ≡ 0 }
+    ensures none { (P.desk pages.new).out ≡ 0 }
+{
+    let mut pairs = Vec::new(alloc);
+    let leaf = scan_leafs(rt, alloc, pages, journal, range, pass, &mut pairs)?;
+    pages.put_back(rt, &mut Some(leaf));
+    Ok(pairs.len())
+}
+
+fn range_of(from: u32, behind: u32) -> Option<KeyRange> {
+    let (low, high) = (key_of(from, 4)?, key_of(behind, 4)?);
+    KeyRange::new(Bound::of_key(&low), Bound::of_key(&high))
+}
+
+/// Does the steps, until one is refused. How many pairs its scans found, if it made one.
 fn do_all<N: Life, J: Journaling<N>, P: Pages<N, J>, R: Wait>(
     rt: &R,
     alloc: Global,
@@ -57,19 +83,26 @@ fn do_all<N: Life, J: Journaling<N>, P: Pages<N, J>, R: Wait>(
     pages: &mut P,
     steps: &[Step],
     pass: &mut Pass<Entry, N>,
-) -> Result<(), Fault>
+) -> Result<Option<usize>, Fault>
     requires untold { (opening : List Record) → N.opens opening → ⊥ }
     requires none { (P.desk pages.old).out ≡ 0 }
     ensures none { (P.desk pages.new).out ≡ 0 }
 {
     let mut owner = Some(begin(rt, alloc, journal, pass)?);
+    let mut found = None;
     for step in steps {
         match step {
             Step::Change(keys) => change_all(rt, alloc, pages, journal, &mut owner, keys, pass)?,
             Step::Commit => commit(rt, alloc, journal, &mut owner, pass)?,
+            Step::Scan { from, behind } => {
+                if let Some(range) = range_of(*from, *behind) {
+                    let pairs = scan(rt, alloc, journal, pages, &range, pass)?;
+                    found = Some(pairs.saturating_add(found.unwrap_or(0)));
+                }
+            }
         }
     }
-    Ok(())
+    Ok(found)
 }
 
 /// Does the steps, damages page 2 in turn, and gives the letters of k100 that were found each time, together.
@@ -104,23 +137,32 @@ pub(crate) fn work<N: Life, J: Journaling<N>, P: Pages<N, J>, R: Wait>(
     requires untold { (opening : List Record) → N.opens opening → ⊥ }
     requires none { (P.desk pages.old).out ≡ 0 }
 {
-    let full = match do_all(rt, alloc, journal, pages, steps, pass) {
-        Ok(()) => None,
+    let (found, full) = match do_all(rt, alloc, journal, pages, steps, pass) {
+        Ok(found) => (found, None),
         Err(
             Fault::Full {
                 pages,
                 pending,
                 at: _,
             },
-        ) => Some((pages, pending)),
+        ) => (None, Some((pages, pending))),
         Err(fault) => return Err(fault),
     };
     let count = journal.pages(rt, pass);
     let told = told_pages::<N, J, P, R>(rt, alloc, pages, behind)?;
-    Ok(match full {
-        Some((pages, pending)) => {
-            format!(in alloc; "pages {count}\n{told}full {pages} {pending}\n")?
-        }
-        None => format!(in alloc; "pages {count}\n{told}")?,
+    let end = end_text(alloc, found, full)?;
+    Ok(format!(in alloc; "pages {count}\n{told}{end}")?)
+}
+
+/// What the scans found, and what there was where a put was refused as full.
+fn end_text(
+    alloc: Global,
+    found: Option<usize>,
+    full: Option<(u32, u32)>,
+) -> Result<String, Memory> {
+    Ok(match (found, full) {
+        (Some(pairs), _) => format!(in alloc; "pairs {pairs}\n")?,
+        (None, Some((pages, pending))) => format!(in alloc; "full {pages} {pending}\n")?,
+        (None, None) => String::new(alloc),
     })
 }
