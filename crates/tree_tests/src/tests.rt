@@ -155,6 +155,10 @@ fn undo(from: u32, behind: u32, letters: usize) -> Step {
     })
 }
 
+fn scan(from: u32, behind: u32) -> Step {
+    Step::Scan { from, behind }
+}
+
 /// Puts of the longest keys with the longest values: a row has 324 bytes, and 12 of them fill a leaf.
 fn longest(from: u32, behind: u32) -> Step {
     Step::Change(Keys {
@@ -202,24 +206,24 @@ fn the_half_with_the_key_has_the_new_row(rt: HostRuntime) -> Result<(), Fail> {
 }
 
 /// 300 short rows: a full leaf splits at its 145th row, the next put makes the root grow and adopt, and each later half is
-/// adopted by the put behind its split. Then a key is deleted, and a scan over it finds
-/// the two keys beside it.
+/// adopted by the put behind its split. Then a key is deleted: a scan over it finds the
+/// two keys beside it, one over all leafs the 299 others.
 #[test]
 fn three_hundred_rows_are_four_leafs_below_a_root(rt: HostRuntime) -> Result<(), Fail> {
     let grown = told(&rt, rt.alloc(), &[short(0, 146)])?;
     let wanted =
         "pages 3\n1 ..- >3 k072>2\n0 k072..- 74 0 1480 k072 k145\n0 ..k072 72 0 1440 k000 k071\n";
     assert_eq!(rt; grown.as_str(), wanted);
-    let (from, behind) = (149, 152);
     let steps = [
         short(0, 300),
         Step::Commit,
         few(150, 151, 0),
-        Step::Scan { from, behind },
+        scan(149, 152),
+        scan(0, 300),
     ];
     let all = told(&rt, rt.alloc(), &steps)?;
     let wanted =
-        "pages 5\n1 ..- >3 k072>2 k144>4 k216>5\n0 k072..k144 72 0 1440 k072 k143\n0 ..k072 72 0 1440 k000 k071\n0 k144..k216 72 1 1420 k144 k215\n0 k216..- 84 0 1680 k216 k299\npairs 2\n";
+        "pages 5\n1 ..- >3 k072>2 k144>4 k216>5\n0 k072..k144 72 0 1440 k072 k143\n0 ..k072 72 0 1440 k000 k071\n0 k144..k216 72 1 1420 k144 k215\n0 k216..- 84 0 1680 k216 k299\npairs 301\n";
     assert_eq!(rt; all.as_str(), wanted);
     Ok(())
 }
