@@ -20,10 +20,10 @@ use Rattle.page_rows.specs.declared.spot.Spot.{Spot}
 use Rattle.page_rows.proofs.Changes.{placed_is}
 use Rattle.page_rows.proofs.Keeping.{value_keeps}
 use Rattle.page_ops.specs.Claims.{Claims, AreInRange, no_claims}
-use Rattle.page_ops.specs.Groups.{made_by}
+use Rattle.page_ops.specs.Groups.{AreFilled, made_by}
 use Rattle.page_ops.specs.Hands.{Hand, IsInHand}
 use Rattle.page_ops.specs.Names.{LedgerName}
-use Rattle.page_ops.specs.Outcomes.{IsFilledIn, KeepsRights, OnEntered, IsAnswer, IsFull, SameHolders, new_place, page_of}
+use Rattle.page_ops.specs.Outcomes.{IsFilledIn, KeepsRights, OnEntered, IsAnswer, IsFull, SameHolders, answered, new_place, page_of}
 use Rattle.page_ops.specs.Seeing.{Account, known}
 use Rattle.page_ops.specs.declared.group.Group.{Group}
 use Rattle.page_ops.specs.declared.outcome.Entered.{Entered}
@@ -34,8 +34,11 @@ use Rattle.smo.proofs.MadePages.{none_mapped}
 use Rattle.smo.proofs.Settling.{in_hand}
 use Rattle.leaf_writes.specs.Changes.{IsSpelledChange, UnlessEntered, group_by, record_by}
 use Rattle.leaf_writes.specs.MayChange.{MayBy}
+use Rattle.leaf_writes.specs.Owners.{KeepsOwner}
 use Rattle.leaf_writes.specs.declared.change.How.{How}
 use Rattle.leaf_writes.proofs.Handed as handed
+use Rattle.leaf_writes.proofs.Owners.{is_quiet, keeps_owner, leave_answered, quiet_change}
+use Rattle.store_model.proofs.Bools.{and_true}
 use Rattle.leaf_writes.proofs.EachKind.{applies, gives_of, names_page, none_made}
 use Rattle.leaf_writes.proofs.MayAsk.{may_one}
 
@@ -60,6 +63,13 @@ no_new (Ok NoRoom) g now y z one none keeps filled = ap (λ (w : Claims). w.c) k
 no_new (Ok (Late pos)) g now y z one none keeps filled = ap (λ (w : Claims). w.c) keeps ∙ none
 no_new (Err (faults.Full pages pending at)) g now y z one none keeps filled = ap (λ (w : Claims). w.c) keeps.0 ∙ none
 no_new (Err fault) g now y z one none keeps filled = ap (λ (w : Claims). w.c) keeps ∙ none
+
+-- its records, filled in
+pub filled_of : (result : Result Entered Fault) (g now : Group) (x y : Claims) → OnEntered result (IsFilledIn g now x y) → (child : ℕ) × OnEntered result (AreFilled child g.recs now.recs)
+filled_of (Ok (At pos)) g now x y h = (h.child, h.recs)
+filled_of (Ok NoRoom) g now x y h = (0, tt)
+filled_of (Ok (Late pos)) g now x y h = (0, tt)
+filled_of (Err fault) g now x y h = (0, tt)
 
 -- ---- as the body has it
 
@@ -100,6 +110,13 @@ module _ (opens : List Record → Type 0) (ledger sessions : LedgerName) (hand i
         → Asked opens ledger sessions group result' (known a seen (claims_of hand owner)) (known a' seen' (record { a = right'; b = None; c = None; s = owned'; m = None }))
     change_asked right' owned' result' right'_is owned'_is result_is =
         subst (λ (q : (Result Entered Fault) × Claims). Asked opens ledger sessions group q.0 (known a seen (claims_of hand owner)) (known a' seen' q.1)) (λ i. (result_is i, back right' owned' right'_is owned'_is i)) here
+
+    pub change_owner : (owned' : Option SessionClaim) → owned' ≡ z.s → KeepsOwner result owner owned'
+    change_owner owned' owned'_is =
+        let quiet = and_true (is_quiet (record_by how tx hand.page key new)) true (quiet_change how tx hand.page key new) refl in
+        let filled = filled_of result group here.now (claims_of hand owner) z here.filled in
+        subst (KeepsOwner result owner) (sym owned'_is)
+        (keeps_owner opens ledger sessions (answered here.now.lsn here.now.recs group.said result) (known a seen (claims_of hand owner)) (known a' seen' z) result here.enters.enters (leave_answered filled.0 group here.now result quiet filled.1) same.s kept)
 
     pub change_answer : IfOk made (λ (g : Group). IfOk result (IsAnswer opens seen'.log g)) → IfOk result (IsAnswer opens seen'.log group)
     change_answer = handed.answer_here opens ledger sessions of_hand hand inside view owner seen made is right owned x y right_is owned_is none claims seen' a a' z result asked

@@ -1,6 +1,6 @@
 -- A change of a key's row: of its parts, and behind a purge.
 use Rattle.std.proofs.Common.{◌≡◌, ℕ, List, [], ◌∷◌, ◌++◌, Option, Some, None, Result, Ok, Err, Bool, true, false, cond, sym, ap, subst, ◌∙◌, refl, inl, inr}
-use Rattle.std.specs.Prelude.{IfOk, IfErr, IfSome, IsTrue, not, ◌||◌, ◌<◌, ◌==◌}
+use Rattle.std.specs.Prelude.{IfOk, IfErr, IfSome, IsTrue, OnOk, not, ◌||◌, ◌<◌, ◌==◌}
 use Rattle.std.specs.List.{list_any}
 use mathlib.Core.List.{IsPrefix}
 use Rattle.books.specs.Rights.{SessionClaim}
@@ -30,7 +30,7 @@ use Rattle.page_ops.specs.Causes.{Ends, MeetsNoFault}
 use Rattle.page_ops.specs.Claims.{Claims, SessionAgrees}
 use Rattle.page_ops.specs.Desks.{Desk}
 use Rattle.page_ops.specs.Gains.{Gains}
-use Rattle.page_ops.specs.Groups.{AreFilled}
+use Rattle.page_ops.specs.Groups.{AreFilled, group_entries}
 use Rattle.page_ops.specs.Hands.{Hand}
 use Rattle.page_ops.specs.Names.{LedgerName}
 use Rattle.page_ops.specs.Outcomes.{EntersGroup, IsAnswer, IsFilledIn, IsFull, OnEntered, answered}
@@ -49,22 +49,24 @@ use Rattle.smo.specs.Settled.{IsSettled}
 use Rattle.leaf_writes.specs.Changes.{UnlessEntered, change_group, half_of, record_by, split_change_group}
 use Rattle.leaf_writes.specs.Halves.{SplitsLeaf, lower_written}
 use Rattle.leaf_writes.specs.KeyWrites.{WritesAlone, WritesBy, WritesKey, group_on, has_room, needs_purge, state_on, desk_on, found}
+use Rattle.leaf_writes.specs.Owners.{EndsWith, KeepsOwner}
 use Rattle.leaf_writes.specs.MayChange.{IsOwnUndo, IsWriter, MayBy, MayChange, undo_of}
 use Rattle.leaf_writes.specs.declared.change.Change.{Change}
 use Rattle.leaf_writes.specs.declared.change.How.{How}
 use Rattle.leaf_writes.specs.declared.change.How.TheVariants as hows
 use Rattle.leaf_writes.proofs.AsksOne.{above_none}
+use Rattle.leaf_writes.proofs.ChangedLeaf.{filled_of}
 use Rattle.leaf_writes.proofs.EachKind.{rule_on}
 
 -- ---- one group
 
-filled_of : (result : Result Entered Fault) (g now : Group) (x y : Claims) → OnEntered result (IsFilledIn g now x y) → (child : ℕ) × OnEntered result (AreFilled child g.recs now.recs)
-filled_of (Ok (At pos)) g now x y h = (h.child, h.recs)
-filled_of (Ok NoRoom) g now x y h = (0, tt)
-filled_of (Ok (Late pos)) g now x y h = (0, tt)
-filled_of (Err fault) g now x y h = (0, tt)
-
 module _ (opens : List Record → Type 0) (ledger sessions : LedgerName) (c : Change) (owner : Option SessionClaim) (seen : PassSeen Entry) (leaf leaf_now : Hand) (result : Result Entered Fault) (old new : Known) where
+  last_of : (result : Result Entered Fault) (g now : Group) (old new : Known) → Enters opens ledger sessions old (answered now.lsn now.recs g.said result) new → OnEntered result (EndsWith (group_entries now.lsn now.recs g.said) new.log)
+  last_of (Ok (At pos)) g now old new e = (e.moment, e.is)
+  last_of (Ok NoRoom) g now old new e = tt
+  last_of (Ok (Late pos)) g now old new e = tt
+  last_of (Err fault) g now old new e = tt
+
   abbrev Alone : Type 0
   Alone = WritesAlone opens ledger sessions c owner seen leaf leaf_now result old new
 
@@ -77,6 +79,7 @@ module _ (opens : List Record → Type 0) (ledger sessions : LedgerName) (c : Ch
       gains = subst (λ (h : Group). Gains opens ledger sessions (answered now.lsn now.recs h.said result) old new) is (gains_of opens ledger sessions (answered now.lsn now.recs g.said result) old new enters.enters);
       filled = subst (λ (h : Group). OnEntered result (AreFilled child h.recs now.recs)) is filled;
       settled = settled;
+      last = subst (λ (h : Group). OnEntered result (EndsWith (group_entries now.lsn now.recs h.said) new.log)) is (last_of result g now old new enters.enters);
     };
     same = same;
   }
@@ -250,6 +253,7 @@ module _ (opens : List Record → Type 0) (ledger sessions : LedgerName) (c : Ch
           gains = subst (λ (q : ℕ × PageState). Gains opens ledger sessions (Rec entered.lsn (purge_of leaf.page entered.prev) ∷ told q.0 q.1) (known a seen v) (known a' seen' v')) (λ i. (made.page i, made.state i)) all;
           filled = subst (λ (q : ℕ × PageState). OnEntered result (AreFilled h.writes.child (group_on c owner q.0 q.1).recs now.recs)) (λ i. (made.page i, made.state i)) h.writes.filled;
           settled = settled_done result h.writes.child h.writes.settled;
+          last = subst (λ (q : ℕ × PageState). OnEntered result (EndsWith (group_entries now.lsn now.recs (group_on c owner q.0 q.1).said) seen'.log)) (λ i. (made.page i, made.state i)) h.writes.last;
         };
         same = same_on result h.same;
       }))
@@ -276,3 +280,19 @@ ends_behind opens log_faults made a a1 a2 a' h1 h pos result e1 k1 calm k2 e =
 module _ (c : Change) (s : PageState) (d d' : Desk) (result : Result Entered Fault) where
   pub desk_purged : (t : PageState) → needs_purge c s ≡ true → t ≡ purged s → d' ≡ desk_on (has_room c t) d result → d' ≡ desk_on (has_room c (found c s)) d result
   desk_purged t some is h = h ∙ ap (λ (u : PageState). desk_on (has_room c u) d result) is ∙ ap (λ (b : Bool). desk_on (has_room c (cond b (purged s) s)) d result) (sym some)
+
+-- ---- the right to the session
+
+-- behind a purge, at which it wasn't handed in
+pub owner_behind : (result : Result Entered Fault) (owner owner' owner'' : Option SessionClaim) → owner' ≡ owner → KeepsOwner result owner' owner'' → KeepsOwner result owner owner''
+owner_behind result owner owner' owner'' same keeps = subst (λ (o : Option SessionClaim). KeepsOwner result o owner'') same keeps
+
+-- it agrees with the history that was seen as its group was handed in
+pub agrees_of : (opens : List Record → Type 0) (ledger sessions : LedgerName) (g : Group) (result : Result Entered Fault) (old new : Known) → Asked opens ledger sessions g result old new → OnOk result (IfSome new.claims.s (SessionAgrees new.log))
+agrees_of opens ledger sessions g (Ok e) old new asked = asked.enters.enters.now.rights.s
+agrees_of opens ledger sessions g (Err f) old new asked = tt
+
+pub agrees_split : (opens : List Record → Type 0) (ledger sessions : LedgerName) (g : Group) (key : List ℕ) (value : Option (List ℕ)) (seen : PassSeen Entry) (leaf leaf_now : Hand) (result : Result Entered Fault) (old new : Known)
+    → SplitsLeaf opens ledger sessions g key value seen leaf leaf_now result old new → OnOk result (IfSome new.claims.s (SessionAgrees new.log))
+agrees_split opens ledger sessions g key value seen leaf leaf_now (Ok e) old new splits = splits.enters.enters.now.rights.s
+agrees_split opens ledger sessions g key value seen leaf leaf_now (Err f) old new splits = tt

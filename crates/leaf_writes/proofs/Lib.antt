@@ -1,3 +1,4 @@
+pub mod Owners
 pub mod EachKind
 pub mod AsksOne
 pub mod Halves

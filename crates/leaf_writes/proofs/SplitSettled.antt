@@ -17,7 +17,7 @@ use Rattle.page_ops.specs.Claims.{Claims, AreInRange, no_claims}
 use Rattle.page_ops.specs.Groups.{record_entries, said_entries}
 use Rattle.page_ops.specs.Hands.{Hand, IsInHand}
 use Rattle.page_ops.specs.Names.{LedgerName}
-use Rattle.page_ops.specs.Outcomes.{EntersGroup, IsAnswer, IsFull, KeepsRights, OnEntered, SameHolders}
+use Rattle.page_ops.specs.Outcomes.{EntersGroup, IsAnswer, IsFull, KeepsRights, OnEntered, SameHolders, answered}
 use Rattle.page_ops.specs.Seeing.{Account, known}
 use Rattle.page_ops.specs.declared.group.Group.{Group}
 use Rattle.page_ops.specs.declared.outcome.Entered.{Entered}
@@ -25,11 +25,15 @@ use Rattle.page_ops.specs.declared.outcome.Entered.TheVariants.{At, NoRoom, Late
 use Rattle.smo.specs.Asked.{MayAsk, Asked, AskedIfMade}
 use Rattle.smo.specs.Settled.{claims_of}
 use Rattle.smo.proofs.MadePages as making
-use Rattle.leaf_writes.specs.Changes.{IsSpelledChange, UnlessEntered, goes_low, split_group_by}
+use Rattle.leaf_writes.specs.Changes.{IsSpelledChange, UnlessEntered, goes_low, half_of, record_by, split_group_by}
 use Rattle.leaf_writes.specs.Halves.{SplitsLeaf, lower_written, numbered, upper_written}
 use Rattle.leaf_writes.specs.MayChange.{MayBy}
+use Rattle.leaf_writes.specs.Owners.{KeepsOwner}
 use Rattle.leaf_writes.specs.declared.change.How.{How}
+use Rattle.leaf_writes.proofs.ChangedLeaf.{filled_of}
 use Rattle.leaf_writes.proofs.Handed as handed
+use Rattle.leaf_writes.proofs.Owners.{is_quiet, keeps_owner, leave_answered, quiet_change}
+use Rattle.store_model.proofs.Bools.{and_true}
 use Rattle.leaf_writes.proofs.EachKind.{gives_of}
 use Rattle.leaf_writes.proofs.MayAsk as asking
 use Rattle.leaf_writes.proofs.SplitBehind as behind
@@ -60,6 +64,16 @@ module _ (opens : List Record → Type 0) (ledger sessions : LedgerName) (hand i
   module _ (seen' : PassSeen Entry) (a a' : Account) (z : Claims) (result : Result Entered Fault) (asked : AskedIfMade opens ledger sessions made result (known a seen y) (known a' seen' z)) where
     here : Asked opens ledger sessions group result (known a seen (claims_of hand owner)) (known a' seen' z)
     here = handed.asked_here opens ledger sessions of_hand hand inside view owner seen made is right owned x y right_is owned_is none claims seen' a a' z result asked
+
+    pub split_owner : SameHolders y z → KeepsRights result y z → (owned' : Option SessionClaim) → owned' ≡ z.s → KeepsOwner result owner owned'
+    split_owner holders keeps owned' owned'_is =
+        let page = half_of hand.page 0 key hand.state in
+        let quiet = and_true (is_quiet (record_by how tx page key new)) true (quiet_change how tx page key new) refl in
+        let filled = filled_of result group here.now (claims_of hand owner) z here.filled in
+        subst (KeepsOwner result owner) (sym owned'_is)
+        (keeps_owner opens ledger sessions (answered here.now.lsn here.now.recs group.said result) (known a seen (claims_of hand owner)) (known a' seen' z) result here.enters.enters (leave_answered filled.0 group here.now result quiet filled.1)
+        (handed.same_here opens ledger sessions of_hand hand inside view owner seen made is right owned x y right_is owned_is none claims seen' a a' z result asked holders).s
+        (handed.keeps_here opens ledger sessions of_hand hand inside view owner seen made is right owned x y right_is owned_is none claims seen' a a' z result asked keeps))
 
     pub split_answer : IfOk made (λ (g : Group). IfOk result (IsAnswer opens seen'.log g)) → IfOk result (IsAnswer opens seen'.log group)
     split_answer = handed.answer_here opens ledger sessions of_hand hand inside view owner seen made is right owned x y right_is owned_is none claims seen' a a' z result asked

@@ -12,7 +12,7 @@ use Rattle.wal_record.specs.declared.entry.Entry.TheVariants as entries
 use Rattle.foster_laws.specs.Purges.{has_tombstone}
 use Rattle.page_ops.specs.Desks.{Desk}
 use Rattle.page_ops.specs.Gains.{Gains}
-use Rattle.page_ops.specs.Groups.{AreFilled}
+use Rattle.page_ops.specs.Groups.{AreFilled, group_entries}
 use Rattle.page_ops.specs.Hands.{Hand}
 use Rattle.page_ops.specs.Names.{LedgerName}
 use Rattle.page_ops.specs.Outcomes.{OnEntered, answered}
@@ -23,6 +23,7 @@ use Rattle.smo.specs.Purges.{purge_of}
 use Rattle.smo.specs.Settled.{IsSettled}
 use Rattle.leaf_writes.specs.Changes.{UnlessEntered, change_group, split_change_group}
 use Rattle.leaf_writes.specs.Halves.{desk_behind, lower_written}
+use Rattle.leaf_writes.specs.Owners.{EndsWith}
 use Rattle.leaf_writes.specs.declared.change.Change.{Change}
 
 -- the leaf has room for the value
@@ -58,6 +59,8 @@ pub record WritesOn (opens : List Record → Type 0) (ledger sessions : LedgerNa
   pub gains : Gains opens ledger sessions (first ++ answered now.lsn now.recs (group_on c owner leaf.page at).said result) old new
   pub filled : OnEntered result (AreFilled child (group_on c owner leaf.page at).recs now.recs)
   pub settled : OnEntered result (IsSettled (state_on child c at) seen leaf leaf_now)
+  -- the group stands last
+  pub last : OnEntered result (EndsWith (group_entries now.lsn now.recs (group_on c owner leaf.page at).said) new.log)
 
 -- the purge was refused, and nothing was entered
 pub record PurgeRefused (opens : List Record → Type 0) (ledger sessions : LedgerName) (leaf leaf_now : Hand) (result : Result Entered Fault) (old new : Known) : Type 0 where

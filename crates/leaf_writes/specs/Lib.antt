@@ -2,3 +2,4 @@ pub mod Changes
 pub mod MayChange
 pub mod Halves
 pub mod KeyWrites
+pub mod Owners

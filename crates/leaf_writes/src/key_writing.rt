@@ -1,9 +1,9 @@
 //! A change of a key's row on its leaf, whatever has to be done to the leaf first.
-ghost use Rattle.std.specs.Prelude.{◌≡◌, ◌||◌, IfErr, IfOk, List, [], None, Some, not, true};
+ghost use Rattle.std.specs.Prelude.{◌≡◌, ◌||◌, IfErr, IfOk, IfSome, List, [], None, OnOk, Some, not, true};
 ghost use mathlib.Core.List.{IsPrefix};
 ghost use Rattle.foster_laws.specs.Purges.{has_tombstone};
 ghost use Rattle.page_ops.specs.Causes.{Ends, FailsToEnter, MeetsNoFault, OrFull};
-ghost use Rattle.page_ops.specs.Claims.{Claims};
+ghost use Rattle.page_ops.specs.Claims.{Claims, SessionAgrees};
 ghost use Rattle.page_ops.specs.Outcomes.{IsAnswer, IsFull};
 ghost use Rattle.page_ops.specs.Seeing.{Enters, known};
 ghost use Rattle.smo.specs.Settled.{claims_of};
@@ -11,6 +11,7 @@ ghost use Rattle.wal_record.specs.Images.{IsLeafOf, purged};
 ghost use Rattle.leaf_writes.specs.Changes.{change_group};
 ghost use Rattle.leaf_writes.specs.KeyWrites.{WritesAlone, WritesKey, desk_on, found, has_room};
 ghost use Rattle.leaf_writes.specs.MayChange.{MayChange};
+ghost use Rattle.leaf_writes.specs.Owners.{KeepsOwner};
 
 use crate::change::Change;
 use crate::split_writing::split_leaf;
@@ -46,6 +47,8 @@ pub fn write_key<N: Life, J: Entering<N>, P: Pages<N, J>, R: Wait>(
     requires leaf { IsLeafOf change.now.key leaf.old.state }
     requires reserved { (P.desk pages.old).reserves ≡ true }
     ensures written { WritesKey N.opens N.entries N.session_entries change.now owner.old pass.new leaf.old leaf.new result (known (J.account journal.old) pass.old (claims_of leaf.old owner.old)) (known (J.account journal.new) pass.new (claims_of leaf.new owner.new)) }
+    ensures owner { KeepsOwner result owner.old owner.new }
+    ensures agrees { OnOk result (IfSome owner.new (SessionAgrees pass.new.log)) }
     ensures answer { IfOk result (IsAnswer N.opens pass.new.log (change_group change.now owner.old leaf.old.page)) }
     ensures full { IfErr result (IsFull N.opens pass.new.log (change_group change.now owner.old leaf.old.page)) }
     ensures desk { P.desk pages.new ≡ desk_on (has_room change.now (found change.now leaf.old.state)) (P.desk pages.old) result }
@@ -77,6 +80,8 @@ fn write_here<N: Life, J: Entering<N>, P: Pages<N, J>, R: Wait>(
     requires purged { (has_room change.now leaf.old.state || not (has_tombstone leaf.old.state)) ≡ true }
     requires reserved { (P.desk pages.old).reserves ≡ true }
     ensures written { WritesAlone N.opens N.entries N.session_entries change.now owner.old pass.new leaf.old leaf.new result (known (J.account journal.old) pass.old (claims_of leaf.old owner.old)) (known (J.account journal.new) pass.new (claims_of leaf.new owner.new)) }
+    ensures owner { KeepsOwner result owner.old owner.new }
+    ensures agrees { OnOk result (IfSome owner.new (SessionAgrees pass.new.log)) }
     ensures answer { IfOk result (IsAnswer N.opens pass.new.log (change_group change.now owner.old leaf.old.page)) }
     ensures full { IfErr result (IsFull N.opens pass.new.log (change_group change.now owner.old leaf.old.page)) }
     ensures desk { P.desk pages.new ≡ desk_on (has_room change.now leaf.old.state) (P.desk pages.old) result }

@@ -12,6 +12,7 @@ ghost use Rattle.wal_record.specs.State.{KeepsState, page_room, state_size};
 ghost use Rattle.leaf_writes.specs.Changes.{UnlessEntered, split_change_group};
 ghost use Rattle.leaf_writes.specs.Halves.{SplitsLeaf, desk_behind, lower_written, numbered, upper_written};
 ghost use Rattle.leaf_writes.specs.MayChange.{MayChange};
+ghost use Rattle.leaf_writes.specs.Owners.{KeepsOwner};
 
 use crate::change::Change;
 use crate::placing::with_row;
@@ -49,6 +50,7 @@ pub fn split_leaf<N: Life, J: Entering<N>, P: Pages<N, J>, R: Wait>(
     requires reserved { (P.desk pages.old).reserves ≡ true }
     ensures split { SplitsLeaf N.opens N.entries N.session_entries (split_change_group change.now owner.old leaf.old.page leaf.old.state) change.now.key change.now.new pass.new leaf.old leaf.new result (known (J.account journal.old) pass.old (claims_of leaf.old owner.old)) (known (J.account journal.new) pass.new (claims_of leaf.new owner.new)) }
     ensures same { UnlessEntered result (leaf.new ≡ leaf.old) }
+    ensures owner { KeepsOwner result owner.old owner.new }
     ensures answer { IfOk result (IsAnswer N.opens pass.new.log (split_change_group change.now owner.old leaf.old.page leaf.old.state)) }
     ensures full { IfErr result (IsFull N.opens pass.new.log (split_change_group change.now owner.old leaf.old.page leaf.old.state)) }
     ensures desk { P.desk pages.new ≡ desk_behind (P.desk pages.old) result }

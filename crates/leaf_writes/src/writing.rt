@@ -10,6 +10,7 @@ ghost use Rattle.smo.specs.Asked.{Asked};
 ghost use Rattle.smo.specs.Settled.{IsSettled, claims_of};
 ghost use Rattle.leaf_writes.specs.Changes.{IsSpelledChange, UnlessEntered, change_group};
 ghost use Rattle.leaf_writes.specs.MayChange.{MayChange};
+ghost use Rattle.leaf_writes.specs.Owners.{KeepsOwner};
 
 use crate::change::Change;
 use crate::placing::{place, row_of, taken_rows};
@@ -44,6 +45,7 @@ pub fn write_leaf<N: Life, J: Entering<N>, R: Wait>(
     ensures done { OnEntered result (IsSettled (with_value change.now.key change.now.new leaf.old.state) pass.new leaf.old leaf.new) }
     ensures same { UnlessEntered result (leaf.new ≡ leaf.old) }
     ensures asked { Asked N.opens N.entries N.session_entries (change_group change.now owner.old leaf.old.page) result (known (J.account journal.old) pass.old (claims_of leaf.old owner.old)) (known (J.account journal.new) pass.new (claims_of leaf.new owner.new)) }
+    ensures owner { KeepsOwner result owner.old owner.new }
     ensures answer { IfOk result (IsAnswer N.opens pass.new.log (change_group change.now owner.old leaf.old.page)) }
     ensures full { IfErr result (IsFull N.opens pass.new.log (change_group change.now owner.old leaf.old.page)) }
     ensures refused { IfErr result (FailsToEnter OrFull) }

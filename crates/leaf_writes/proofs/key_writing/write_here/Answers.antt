@@ -1,7 +1,7 @@
 use Rattle.std.proofs.Common.{ap, sym, ◌∙◌}
 use Rattle.page_ops.specs.Hands.{Hand}
 use Rattle.leaf_writes.specs.KeyWrites.{has_room}
-use Rattle.leaf_writes.proofs.KeyWritten.{answer_of, fit_alone, full_of, split_alone}
+use Rattle.leaf_writes.proofs.KeyWritten.{agrees_of, agrees_split, answer_of, fit_alone, full_of, split_alone}
 use Rattle.leaf_writes.proofs.key_writing.write_here.Goals as goal
 
 pub returns-then-fits_with-clause-written : goal.returns-then-fits_with-clause-written
@@ -19,3 +19,9 @@ returns-else-fits_with-clause-answer g c = answer_of g.N.Life.opens _ c.args.cha
 
 pub returns-else-fits_with-clause-full : goal.returns-else-fits_with-clause-full
 returns-else-fits_with-clause-full g c = full_of g.N.Life.opens _ c.args.change.now c.args.owner.now c.args.leaf.now.page c.args.leaf.now.state c.split_leaf.result c.split_leaf.ensures.full
+
+pub returns-then-fits_with-clause-agrees : goal.returns-then-fits_with-clause-agrees
+returns-then-fits_with-clause-agrees g c = agrees_of g.N.Life.opens g.N.Life.entries g.N.Life.session_entries _ c.write_leaf.result _ _ c.write_leaf.ensures.asked
+
+pub returns-else-fits_with-clause-agrees : goal.returns-else-fits_with-clause-agrees
+returns-else-fits_with-clause-agrees g c = agrees_split g.N.Life.opens g.N.Life.entries g.N.Life.session_entries _ _ _ _ _ _ c.split_leaf.result _ _ c.split_leaf.ensures.split

@@ -5,7 +5,8 @@ use Rattle.wal_record.specs.State.{KeepsState}
 use Rattle.foster_laws.specs.Purges.{has_tombstone}
 use Rattle.page_ops.specs.Hands.{Hand}
 use Rattle.leaf_writes.specs.KeyWrites.{has_room}
-use Rattle.leaf_writes.proofs.KeyWritten.{answer_behind, desk_purged, ends_behind, full_behind, key_behind, purged_whole, still_may}
+use Rattle.leaf_writes.proofs.KeyWritten.{answer_behind, desk_purged, ends_behind, full_behind, key_behind, owner_behind, purged_whole, still_may}
+use Rattle.leaf_writes.proofs.Owners.{keeps_same}
 use Rattle.leaf_writes.proofs.key_writing.write_key.Goals as goal
 
 pub write_here-requires-2-clause-may : goal.write_here-requires-2-clause-may
@@ -41,3 +42,9 @@ returns-clause-desk g c =
     let room = ap (λ (h : Hand). has_room c.args.change.now h.state) (sym c.leaf.view_is) ∙ sym c.fits_with.ensures ∙ c.if-fits_with.false in
     let some = ap (λ (h : Hand). has_tombstone h.state) (sym c.leaf.view_is) ∙ sym c.has_tombstone.ensures ∙ c.if-not-has_tombstone.false in
     desk_purged c.args.change.now c.args.leaf.now.state _ _ c.write_here-2.result c.purge.new.leaf.state (λ i. not (room i) && some i) c.in_ok-purge.ensures.purged.state c.write_here-2.ensures.desk
+
+pub returns-clause-owner : goal.returns-clause-owner
+returns-clause-owner g c = owner_behind c.write_here-2.result c.args.owner.now c.see_owner.new.owner c.write_here-2.new.owner c.see_owner.ensures.same c.write_here-2.ensures.owner
+
+pub returns-in_err-purge-clause-owner : goal.returns-in_err-purge-clause-owner
+returns-in_err-purge-clause-owner g c = keeps_same _ c.args.owner.now
