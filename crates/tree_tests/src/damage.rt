@@ -1,5 +1,6 @@
 //! A pool of which a page may be damaged in its frame. A page that is renewed is as it was.
 ghost use Rattle.std.specs.Prelude.{◌≡◌, IfSome, List};
+ghost use Rattle.std.specs.Option.{ForSome};
 ghost use Rattle.wal_record.specs.State.{KeepsState};
 ghost use Rattle.wal_record.specs.declared.record.Record.{Record};
 
@@ -12,7 +13,7 @@ use std::marker::PhantomData;
 use std::mem;
 use std::sync::Wait;
 use store_model::{Bound, Fault, List, PageNo};
-use wal_record::{Entry, PageState, Rows};
+use wal_record::{BranchRow, Entry, PageState, Rows};
 
 /// Pages of a life of which no opening log is known, and what the damaged one was.
 #[derive(Drop)]
@@ -21,7 +22,7 @@ pub(crate) struct Damaged<N: Life, P> {
     page: PageNo,
     kept: Option<PageState>,
     life: PhantomData<N>,
-    ghost keeps: { IfSome kept KeepsState },
+    ghost keeps: { ForSome kept KeepsState },
     ghost untold: { (opening : List Record) → N.opens opening → ⊥ },
 }
 
@@ -130,33 +131,56 @@ impl<N: Life, J: Entering<N>, P: Pages<N, J>> Pages<N, J> for Damaged<N, P> {
     }
 }
 
-/// A leaf without rows, between these fence keys.
-fn leaf_between(alloc: Global, low: &[u8], high: &[u8]) -> Option<PageState>
+/// Its low fence key is too low for one that begins with k072.
+fn too_low(alloc: Global) -> Option<PageState>
     ensures { IfSome result KeepsState }
 {
-    let (low, high) = (Bound::at(low)?, Bound::at(high)?);
-    if !low.is_below(&high) {
-        return None;
-    }
     Some(PageState {
         level: 0,
-        low,
-        high,
+        low: Bound::at(b"k071")?,
+        high: Bound::top(),
         foster: None,
         rows: Rows::Leaf(List::new(alloc)),
     })
 }
 
-/// Wrong states of a leaf that has the keys from k072 on and below k144: another low fence key, another high one, and a
-/// page that is empty and has all keys.
+/// Its high fence key is too high for one that ends with k144.
+fn too_high(alloc: Global) -> Option<PageState>
+    ensures { IfSome result KeepsState }
+{
+    Some(PageState {
+        level: 0,
+        low: Bound::at(b"k072")?,
+        high: Bound::top(),
+        foster: None,
+        rows: Rows::Leaf(List::new(alloc)),
+    })
+}
+
+/// It is no leaf.
+fn no_leaf(alloc: Global) -> Option<PageState>
+    ensures { IfSome result KeepsState }
+{
+    let mut rows = List::new(alloc);
+    let low = Bound::at(b"k072")?;
+    rows.push(BranchRow { low, child: 2 }).ok()?;
+    Some(PageState {
+        level: 1,
+        low: Bound::at(b"k072")?,
+        high: Bound::top(),
+        foster: None,
+        rows: Rows::Branch(rows),
+    })
+}
+
+/// Wrong states of a leaf that has the keys from k072 on and below k144.
 fn wrong_state(alloc: Global, number: u32) -> Option<PageState>
     ensures { IfSome result KeepsState }
 {
     match number {
-        0 => leaf_between(alloc, b"k071", b"k144"),
-        1 => leaf_between(alloc, b"k072", b"k143"),
-        2 => leaf_between(alloc, b"k073", b"k144"),
-        _ => leaf_between(alloc, b"", b"k145"),
+        0 => too_low(alloc),
+        1 => too_high(alloc),
+        _ => no_leaf(alloc),
     }
 }
 
@@ -214,7 +238,7 @@ pub(crate) fn ask_all<N: Life, J: Entering<N>, P: Pages<N, J>, R: Wait>(
     ensures none { (P.desk pages.new.pages).out ≡ 0 }
 {
     let mut letters = 0usize;
-    for number in 0..4 {
+    for number in 0..3 {
         if let Some(state) = wrong_state(alloc, number) {
             spoil_page::<N, J, P, R>(rt, pages, 2, state);
         }

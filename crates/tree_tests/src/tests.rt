@@ -297,7 +297,7 @@ fn four_hundred_of_the_longest_rows_are_a_tree_of_level_two(rt: HostRuntime) -> 
     Ok(())
 }
 
-/// A leaf that claims other fence keys than its parent has for it is renewed, and the value is found.
+/// A leaf that claims other fence keys, or another level, than its parent has for it is renewed, and the value is found.
 #[test]
 fn a_page_that_does_not_fit_its_parent_is_renewed(rt: HostRuntime) -> Result<(), Fail> {
     let tree = Tree {
@@ -307,7 +307,7 @@ fn a_page_that_does_not_fit_its_parent_is_renewed(rt: HostRuntime) -> Result<(),
         behind: 0,
     };
     let told = told_of(&rt, rt.alloc(), tree)?;
-    let wanted = "1 ..- >3 k072>2 k144>4 k216>5\n0 k072..k144 72 0 1440 k072 k143\nletters 80\n";
+    let wanted = "1 ..- >3 k072>2 k144>4 k216>5\n0 k072..k144 72 0 1440 k072 k143\nletters 60\n";
     assert_eq!(rt; told.as_str(), wanted);
     Ok(())
 }
