@@ -5,7 +5,7 @@ use Rattle.std.specs.Option.{option_map}
 use Rattle.books.specs.Rights.{PageClaim, SessionClaim, MaintClaim}
 use Rattle.front.specs.Seen.{PassSeen}
 use Rattle.front.proofs.Keeping.{prefix_trans}
-use Rattle.life_history.specs.Groups.{counted_group, own_entries, raised_page, raised_session, raised_maintenance, new_or}
+use Rattle.life_history.specs.Groups.{counted_group, own_entries, raised, raised_page, raised_session, raised_maintenance, new_or}
 use Rattle.life_history.specs.Kept.{counted_more}
 use Rattle.life_history.proofs.Entering.{entered_then}
 use Rattle.page_ops.specs.Asking.{HasRoomFor}
@@ -16,13 +16,16 @@ use Rattle.page_ops.specs.Names.{LedgerName}
 use Rattle.page_ops.specs.Outcomes.{EntersGroup, IsFilledIn, page_of, new_place}
 use Rattle.page_ops.specs.Seeing.{Account, known, Keeps, Enters, IsConsistent, IsMoment, of_sessions}
 use Rattle.page_ops.specs.declared.group.Group.{Group}
+use Rattle.page_ops.specs.declared.group.Said.{Said}
 use Rattle.page_ops.specs.declared.outcome.Entered.TheVariants as entered
 use Rattle.store_model.specs.declared.fault.Fault.TheVariants as faults
+use Rattle.wal_record.specs.declared.record.End.{End}
 use Rattle.wal_record.specs.declared.record.Record.{Record}
+use Rattle.wal_record.specs.declared.record.Record.TheVariants as kinds
 use Rattle.wal_record.specs.declared.entry.Entry.{Entry}
 use Rattle.wal_record.specs.History.{Live, phase}
 use Rattle.journal.specs.Locks.{AreAcknowledged}
-use Rattle.journal.specs.Groups.{IsNewRight, EntersFilled, EntersNow}
+use Rattle.journal.specs.Groups.{IsNewRight, EndsSession, EntersFilled, EntersNow}
 use Rattle.page_ops.specs.Groups.{AreFilled}
 use Rattle.wal_record.specs.State.{is_child}
 use Rattle.journal.proofs.Locking.{live_of}
@@ -110,34 +113,59 @@ numbers_of : (lsn : ℕ) (recs : List Record) (o : Option MaintClaim) → option
 numbers_of lsn recs None = refl
 numbers_of lsn recs (Some m) = refl
 
-place_of : (n : Option ℕ) (child lsn : ℕ) (recs : List Record) (made old : Option PageClaim) → IsNewRight n child made → page_of (new_or (option_map (raised_page lsn recs) made) (option_map (raised_page lsn recs) old)) ≡ new_place n child (page_of old)
-place_of None child lsn recs made old is = ap (λ (m : Option PageClaim). page_of (new_or (option_map (raised_page lsn recs) m) (option_map (raised_page lsn recs) old))) is ∙ pages_of lsn recs old
-place_of (Some n) child lsn recs None old is = absurd (cc is)
-place_of (Some n) child lsn recs (Some p) old is = is
+new_of : (lsn : ℕ) (recs : List Record) (made old : Option PageClaim) → page_of (new_or (option_map (raised_page lsn recs) made) (option_map (raised_page lsn recs) old)) ≡ page_of (new_or made old)
+new_of lsn recs None old = pages_of lsn recs old
+new_of lsn recs (Some p) old = refl
+
+-- a group behind which all rights are raised
+pub enters_filled : (recs : List Record) (said : Option Said) (made : Option PageClaim) (x x' : Claims) (a a' : Account) (h h' : List Entry) (lsn : ℕ) → h' ≡ h ++ group_entries lsn recs said → x' ≡ raised x made lsn recs said
+    → a' ≡ counted_group a (length (group_entries lsn recs said)) (own_entries recs said) → of_sessions h' ≡ of_sessions h + own_entries recs said → EntersFilled recs said made x x' a a' h h' lsn
+enters_filled recs said made x x' a a' h h' lsn history rights counted belongs = record {
+  own = own_entries recs said;
+  history = history;
+  counted = counted;
+  belongs = belongs;
+  holders = record {
+    a = ap (λ (x : Claims). page_of x.a) rights ∙ pages_of lsn recs x.a;
+    b = ap (λ (x : Claims). page_of x.b) rights ∙ pages_of lsn recs x.b;
+    s = ap (λ (x : Claims). option_map (λ (s : SessionClaim). s.session) x.s) rights ∙ sessions_of (own_entries recs said) x.s;
+    m = ap (λ (x : Claims). option_map (λ (m : MaintClaim). m.number) x.m) rights ∙ numbers_of lsn recs x.m;
+  };
+  place = ap (λ (x : Claims). page_of x.c) rights ∙ new_of lsn recs made x.c;
+}
+
+-- the End of a session's transaction
+pub ends_filled : (end : End) (s s' : SessionClaim) (x : Claims) (a a' : Account) (h h' : List Entry) (lsn : ℕ) → x.s ≡ Some s → EndsSession end s s' a a' h h' lsn
+    → EntersFilled (kinds.End end ∷ []) None None x (record x { s = Some s' }) a a' h h' lsn
+ends_filled end s s' x a a' h h' lsn was e = record {
+  own = 1;
+  history = e.history;
+  counted = e.counted;
+  belongs = e.belongs;
+  holders = record { a = refl; b = refl; s = ap (λ (s : SessionClaim). Some s.session) e.right ∙ sym (ap (option_map (λ (s : SessionClaim). s.session)) was); m = refl };
+  place = refl;
+}
+
+place_of : (n : Option ℕ) (child : ℕ) (made old : Option PageClaim) → IsNewRight n child made → page_of (new_or made old) ≡ new_place n child (page_of old)
+place_of None child made old is = ap (λ (m : Option PageClaim). page_of (new_or m old)) is
+place_of (Some n) child None old is = absurd (cc is)
+place_of (Some n) child (Some p) old is = is
 
 -- records and an answer that were entered are those of the group
 pub enters_now : (asked now : Group) (x x' : Claims) (a a' : Account) (h h' : List Entry) (child : ℕ) (made : Option PageClaim) → AreFilled child asked.recs now.recs → now ≡ record asked { recs = now.recs; lsn = now.lsn }
     → EntersFilled now.recs asked.said made x x' a a' h h' now.lsn → IsNewRight (made_by asked.recs) child made → (IsSome (made_by asked.recs) → IsTrue (is_child child)) → EntersNow asked now x x' a a' h h'
-enters_now asked now x x' a a' h h' child made filling is e new numbered =
-    let recs = now.recs in
-    let rights = e.rights in
-    record {
-      child = child;
-      own = own_entries recs asked.said;
-      filled = filling;
-      is = is;
-      history = e.history;
-      counted = e.counted;
-      belongs = e.belongs;
-      holders = record {
-        a = ap (λ (x : Claims). page_of x.a) rights ∙ pages_of now.lsn recs x.a;
-        b = ap (λ (x : Claims). page_of x.b) rights ∙ pages_of now.lsn recs x.b;
-        s = ap (λ (x : Claims). option_map (λ (s : SessionClaim). s.session) x.s) rights ∙ sessions_of (own_entries recs asked.said) x.s;
-        m = ap (λ (x : Claims). option_map (λ (m : MaintClaim). m.number) x.m) rights ∙ numbers_of now.lsn recs x.m;
-      };
-      made = ap (λ (x : Claims). page_of x.c) rights ∙ place_of (made_by asked.recs) child now.lsn recs made x.c new;
-      numbered = numbered;
-    }
+enters_now asked now x x' a a' h h' child made filling is e new numbered = record {
+  child = child;
+  own = e.own;
+  filled = filling;
+  is = is;
+  history = e.history;
+  counted = e.counted;
+  belongs = e.belongs;
+  holders = e.holders;
+  made = e.place ∙ place_of (made_by asked.recs) child made x.c new;
+  numbered = numbered;
+}
 
 pub filled_in : (asked now : Group) (a a' : Account) (h1 h3 : List Entry) (x0 x1 x3 x4 : Claims) → EntersNow asked now x1 x3 a a' h1 h3 → x1 ≡ x0 → x4 ≡ x3 → IsFilledIn asked now x0 x4
 filled_in asked now a a' h1 h3 x0 x1 x3 x4 p first last = subst (λ (y : Claims × Claims). IsFilledIn asked now y.0 y.1) (λ i. (first i, sym last i)) (record {

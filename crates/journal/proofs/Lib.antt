@@ -8,3 +8,4 @@ pub mod Locking
 pub mod Lookup
 pub mod Starting
 pub mod Grouping
+pub mod Overs

@@ -14,9 +14,10 @@ use Rattle.range_lock.specs.Held as table
 use Rattle.range_lock.specs.Lock.{IsAmong}
 use Rattle.range_lock.specs.declared.range_locks.RangeLocks.{RangeLocks}
 use Rattle.store_model.specs.declared.fault.Fault.{Fault}
-use Rattle.wal_record.specs.History.{log_of, life_log, Phase, Live, Committed, Acknowledged, phase, phase_step, live_count}
+use Rattle.wal_record.specs.History.{log_of, life_log, Phase, Live, Committed, Acknowledged, Ended, phase, phase_step, live_count}
 use Rattle.wal_record.specs.Legal.{held}
-use Rattle.wal_record.specs.Locks.{Held, taken_locks}
+use Rattle.wal_record.specs.Locks.{Held, locks_step, taken_locks}
+use Rattle.wal_record.specs.declared.record.End.{End}
 use Rattle.wal_record.specs.declared.record.Record.{Record}
 use Rattle.wal_record.specs.declared.record.Record.TheVariants as kinds
 use Rattle.wal_record.specs.declared.entry.Entry.{Entry}
@@ -46,6 +47,13 @@ pub began_stays : (session tx : ℕ) → StaysAcknowledged (entries.Began sessio
 began_stays session tx t p waits = by (eqb tx t)
   where
     by : (b : Bool) → cond b Live p ≢ Committed
+    by true e = absurd (cc e)
+    by false e = waits e
+
+pub end_stays : (lsn : ℕ) (end : End) → StaysAcknowledged (entries.Rec lsn (kinds.End end))
+end_stays lsn end t p waits = by (eqb end.tx t)
+  where
+    by : (b : Bool) → cond b Ended p ≢ Committed
     by true e = absurd (cc e)
     by false e = waits e
 
@@ -152,21 +160,25 @@ module _ {D : Type 0} (opens : List Record → Type 0) (tells : Type 0) (told : 
 
   -- ---- a commit
 
-  released : (t' : RangeLocks) (lsn tx prev : ℕ) → table.Releases t t' tx → AreHeld (h ++ commit_entry lsn tx prev ∷ []) t'
-  released t' lsn tx prev free l = subst (λ (ls : List Held). table.Holds t' l ↔ IsAmong (held l.range l.mode) ls) (sym (taken_push h (commit_entry lsn tx prev) l.tx)) (by (eqb tx l.tx) refl)
+  -- the entry lets the locks of this transaction go
+  abbrev LetsGo : ℕ → Entry → Type 0
+  LetsGo tx e = (u : ℕ) (ls : List Held) → locks_step u ls e ≡ cond (eqb tx u) [] ls
+
+  released : (t' : RangeLocks) (e : Entry) (tx : ℕ) → LetsGo tx e → table.Releases t t' tx → AreHeld (h ++ e ∷ []) t'
+  released t' e tx goes free l = subst (λ (ls : List Held). table.Holds t' l ↔ IsAmong (held l.range l.mode) ls) (sym (taken_push h e l.tx ∙ goes l.tx (taken_locks h l.tx))) (by (eqb tx l.tx) refl)
     where
       by : (b : Bool) → eqb tx l.tx ≡ b → table.Holds t' l ↔ IsAmong (held l.range l.mode) (cond b [] (taken_locks h l.tx))
       by true e = (λ now. absurd (((free l).0 now).0 (sym (eqb-true tx l.tx e))), λ among. absurd among)
       by false e = (λ now. (k.locks l).0 ((free l).0 now).1, λ among. (free l).1 (λ same. absurd (differ tx l.tx e (sym same)), (k.locks l).1 among))
 
-  pub life_commit : (t' : RangeLocks) (lsn tx prev : ℕ) → h' ≡ h ++ commit_entry lsn tx prev ∷ [] → table.Releases t t' tx → live_count h' + 1 ≡ live_count h → m'.spare + 1 ≡ m.spare → m'.log.places ≡ m.log.places → m'.log.ended ≡ m.log.ended
-      → ((opening : List Record) → opens opening → IsLogWith tells told may_leave (life_log opening h ++ kinds.Commit (record { tx = tx; prev = prev }) ∷ []) m' s') → IsOfLife opens tells told may_leave h' m' s' t' mark
-  life_commit t' lsn tx prev now free live spare places ended records =
-      let r : Record = kinds.Commit (record { tx = tx; prev = prev }) in
+  -- a record by which a live transaction is over, with the room for its commit or without
+  pub life_over : (t' : RangeLocks) (lsn tx : ℕ) (r : Record) → LetsGo tx (entries.Rec lsn r) → h' ≡ h ++ entries.Rec lsn r ∷ [] → table.Releases t t' tx → live_count h' + 1 ≡ live_count h → m.spare ≤ m'.spare + 1 → m'.log.places ≡ m.log.places → m'.log.ended ≡ m.log.ended
+      → ((opening : List Record) → opens opening → IsLogWith tells told may_leave (life_log opening h ++ r ∷ []) m' s') → IsOfLife opens tells told may_leave h' m' s' t' mark
+  life_over t' lsn tx r goes now free live spare places ended records =
       let log : (opening : List Record) → life_log opening h' ≡ life_log opening h ++ r ∷ [] = λ opening. ap (life_log opening) now ∙ log_more opening h lsn r in
       record {
         records = λ opening stands. subst (λ (l : List Record). IsLogWith tells told may_leave l m' s') (sym (log opening)) (records opening stands);
-        locks = subst (λ (l : List Entry). AreHeld l t') (sym now) (released t' lsn tx prev free);
+        locks = subst (λ (l : List Entry). AreHeld l t') (sym now) (released t' (entries.Rec lsn r) tx goes free);
         losers = k.losers;
         telling = k.telling;
         places = record {
@@ -177,6 +189,10 @@ module _ {D : Type 0} (opens : List Record → Type 0) (tells : Type 0) (told : 
         };
         durable = λ opening stands tell runs. subst (λ ps. mark ≤ durable_lsn ps) (sym places) (k.durable opening stands tell (sym ended ∙ runs));
       }
+
+  pub life_commit : (t' : RangeLocks) (lsn tx prev : ℕ) → h' ≡ h ++ commit_entry lsn tx prev ∷ [] → table.Releases t t' tx → live_count h' + 1 ≡ live_count h → m'.spare + 1 ≡ m.spare → m'.log.places ≡ m.log.places → m'.log.ended ≡ m.log.ended
+      → ((opening : List Record) → opens opening → IsLogWith tells told may_leave (life_log opening h ++ kinds.Commit (record { tx = tx; prev = prev }) ∷ []) m' s') → IsOfLife opens tells told may_leave h' m' s' t' mark
+  life_commit t' lsn tx prev now free live spare places ended records = life_over t' lsn tx (kinds.Commit (record { tx = tx; prev = prev })) (λ u ls. refl) now free live (omega (arith, spare)) places ended records
 
 -- ---- a flush
 
@@ -248,6 +264,14 @@ module _ {D : Type 0} (opens : List Record → Type 0) (tells : Type 0) (told : 
       none = λ runs. same ∙ k.ends.none (sym ended ∙ runs);
       one = λ over. subst (λ n. 0 < n) (sym same) (k.ends.one (ap is_some (sym ended) ∙ over));
     };
+  }
+
+  -- the End of a live transaction
+  pub kept_end : (lsn : ℕ) (end : End) → h' ≡ h ++ entries.Rec lsn (kinds.End end) ∷ [] → table.Releases t t' end.tx → live_count h' + 1 ≡ live_count h → m'.spare ≡ m.spare → m'.log.places ≡ m.log.places → m'.log.ended ≡ m.log.ended
+      → ((opening : List Record) → opens opening → IsLogWith tells told may_leave (life_log opening h ++ kinds.End end ∷ []) m' s') → IsKept opens tells told may_leave h' m' s' t' mark faults'
+  kept_end lsn end now free live spare places ended records = record {
+    life = life_over opens tells told may_leave h h' m m' s s' t mark k.life t' lsn end.tx (kinds.End end) (λ u ls. refl) now free live (omega (arith, spare)) places ended records;
+    ends = subst (λ (e : Option ℕ). EndsByFault e h' faults') (sym ended) (ends_entry m.log.ended h h' faults faults' (entries.Rec lsn (kinds.End end)) k.ends now same (end_stays lsn end));
   }
 
   -- the log went on by nothing, or its disk is as before

@@ -1,7 +1,8 @@
 -- A group as it is entered.
-use Rattle.std.specs.Prelude.{◌≡◌, ℕ, suc, ◌+◌, ◌≤◌, ◌^◌, length, List, ◌++◌, Option, Some, None, IsSome, IsTrue}
-use Rattle.books.specs.Rights.{PageClaim}
-use Rattle.life_history.specs.Groups.{counted_group, own_entries, raised}
+use Rattle.std.specs.Prelude.{◌≡◌, ℕ, suc, ◌+◌, ◌≤◌, ◌^◌, length, List, [], ◌∷◌, ◌++◌, Option, Some, None, IsSome, IsTrue}
+use Rattle.books.specs.Rights.{PageClaim, SessionClaim}
+use Rattle.life_history.specs.Groups.{counted_group, new_or}
+use Rattle.life_history.specs.Kept.{counted_more}
 use Rattle.page_ops.specs.Claims.{Claims}
 use Rattle.page_ops.specs.Groups.{AreFilled, group_entries, made_by}
 use Rattle.page_ops.specs.Outcomes.{SameHolders, new_place, page_of}
@@ -12,8 +13,11 @@ use Rattle.wal_record.specs.Chains.{pages}
 use Rattle.wal_record.specs.History.{life_log}
 use Rattle.wal_record.specs.Sound.{AreLawful}
 use Rattle.wal_record.specs.State.{is_child}
+use Rattle.wal_record.specs.declared.record.End.{End}
 use Rattle.wal_record.specs.declared.record.Record.{Record}
+use Rattle.wal_record.specs.declared.record.Record.TheVariants as kinds
 use Rattle.wal_record.specs.declared.entry.Entry.{Entry}
+use Rattle.wal_record.specs.declared.entry.Entry.TheVariants as entries
 
 -- the LSN of the next record
 abbrev pub IsNext : (List Record → Type 0) → List Entry → ℕ → Type 0
@@ -30,12 +34,22 @@ pub record GroupFollows (opens : List Record → Type 0) (h : List Entry) (lsn :
   pub consistent : IsConsistent opens (h ++ group_entries lsn recs said)
   pub lawful : (opening : List Record) → opens opening → AreLawful (life_log opening h ++ recs)
 
--- these records and this answer were entered, and all rights are raised
+-- these records and this answer were entered, and so many of their entries belong to sessions; each right is to what it was
+-- to before, and the one to a new page has come into its place
 pub record EntersFilled (recs : List Record) (said : Option Said) (made : Option PageClaim) (x x' : Claims) (a a' : Account) (h h' : List Entry) (lsn : ℕ) : Type 0 where
+  pub own : ℕ
   pub history : h' ≡ h ++ group_entries lsn recs said
-  pub rights : x' ≡ raised x made lsn recs said
-  pub counted : a' ≡ counted_group a (length (group_entries lsn recs said)) (own_entries recs said)
-  pub belongs : of_sessions h' ≡ of_sessions h + own_entries recs said
+  pub counted : a' ≡ counted_group a (length (group_entries lsn recs said)) own
+  pub belongs : of_sessions h' ≡ of_sessions h + own
+  pub holders : SameHolders x x'
+  pub place : page_of x'.c ≡ page_of (new_or made x.c)
+
+-- the session's transaction has ended by this record; its right has one entry more, and no transaction
+pub record EndsSession (end : End) (s s' : SessionClaim) (a a' : Account) (h h' : List Entry) (lsn : ℕ) : Type 0 where
+  pub history : h' ≡ h ++ entries.Rec lsn (kinds.End end) ∷ []
+  pub right : s' ≡ record { session = s.session; entries = s.entries + 1; tx = 0 }
+  pub counted : a' ≡ counted_more a 1
+  pub belongs : of_sessions h' ≡ of_sessions h + 1
 
 -- the right to a new page is there exactly where the group makes one, and is to that page
 abbrev pub IsNewRight : Option ℕ → ℕ → Option PageClaim → Type 0

@@ -1,5 +1,5 @@
 //! Records added to the log, and small tests of numbers.
-ghost use Rattle.std.specs.Prelude.{◌≡◌, ◌+◌, ◌<◌, ◌≤◌, ◌^◌, ◌++◌, List, ℕ, length, false, IfOk, OnOk, OnErr, IfSome, IsTrue};
+ghost use Rattle.std.specs.Prelude.{◌≡◌, ◌+◌, ◌<◌, ◌≤◌, ◌^◌, ◌++◌, List, [], ◌∷◌, ℕ, length, false, None, IfOk, OnOk, OnErr, IfSome, IsTrue};
 ghost use Rattle.std.specs.List.{All};
 ghost use Rattle.log_index.specs.Listing.{IsListingOf};
 ghost use Rattle.listed_log.specs.Listed.{IsLogWith, Joins};
@@ -11,15 +11,16 @@ ghost use Rattle.wal_record.specs.Rules.{HasSpelling};
 ghost use Rattle.wal_record.specs.Sound.{AreLawful};
 ghost use Rattle.wal_record.specs.declared.entry.Entry.{Entry};
 ghost use Rattle.wal_record.specs.declared.record.Record.{Record};
+ghost use Rattle.wal_record.specs.declared.record.Record.TheVariants as kinds;
 
 use books::PageRight;
 use listed_log::ListedLog;
 use log_index::Listing;
 use media::Disk;
-use page_ops::Life;
+use page_ops::{Life, Said};
 use std::alloc::Global;
 use store_model::{HIGHEST, Lsn, Memory, PageNo};
-use wal_record::Record;
+use wal_record::{End, Record};
 
 /// Adds the records of a group to the log, which may be none. Gives the LSN of the first, or the next one.
 pub(crate) fn append_all<L: Disk>(
@@ -44,6 +45,22 @@ pub(crate) fn append_all<L: Disk>(
     match log.append_group(alloc, recs) {
         Ok(lsn) => Ok(lsn),
         Err(_) => Err(Memory),
+    }
+}
+
+/// The End that these records are, alone and without an answer.
+pub(crate) fn end_of(recs: &[Record], said: &Option<Said>) -> Option<End>
+    ensures { IfSome result (λ end. (recs.now ≡ kinds.End end ∷ []) × (said.now ≡ None)) }
+{
+    if said.is_some() {
+        return None;
+    }
+    match recs {
+        [Record::End(end)] => Some(End {
+            tx: end.tx,
+            prev: end.prev,
+        }),
+        _ => None,
     }
 }
 

@@ -22,13 +22,14 @@ ghost use Rattle.wal_record.specs.Rules.{HasSpelling, is_number, is_page};
 ghost use Rattle.wal_record.specs.State.{is_child};
 ghost use Rattle.wal_record.specs.declared.entry.Entry.{Entry};
 ghost use Rattle.wal_record.specs.declared.record.Record.{Record};
+ghost use Rattle.wal_record.specs.declared.record.Record.TheVariants as kinds;
 ghost use Rattle.journal.specs.Declined.{IsDeclined, IsTaken};
 ghost use Rattle.journal.specs.Kept.{IsTold};
 ghost use Rattle.journal.specs.Locks.{HasNoLosers};
-ghost use Rattle.journal.specs.Groups.{EntersFilled, EntersNow, GroupFollows, IsNext, IsNextPage};
+ghost use Rattle.journal.specs.Groups.{EndsSession, EntersFilled, EntersNow, GroupFollows, IsNext, IsNextPage};
 
 use crate::ends::{check_open, make_room, note_fault, tell_durable};
-use crate::filling::{append_all, child_of, in_range, is_still_open, number_of};
+use crate::filling::{append_all, child_of, end_of, in_range, is_still_open, number_of};
 use crate::taken::Taken;
 use books::{PageRight, SessionRight};
 use front::{Mark, Pass};
@@ -45,7 +46,7 @@ use std::sync::ledger::Book;
 use store_model::{
     Fault, KeyRange, Lsn, MOST_PAGES, Memory, Mode, Outcome, PageNo, Pos, Request, TxId,
 };
-use wal_record::{Entry, Record};
+use wal_record::{End, Entry, Record};
 
 /// The bound of the counters, from which on nothing is begun.
 pub(crate) const MOST: u64 = 1 << 62;
@@ -421,6 +422,60 @@ impl<'a, L: Disk, N: Life> Journal<'a, L, N> {
         }
     }
 
+    /// Enters the End of the session's transaction, which stands alone, and lets go of the transaction's locks.
+    fn end_session(
+        &mut self,
+        alloc: Global,
+        end: End,
+        s: &mut SessionRight<N>,
+        counts: &mut Counts<N>,
+    ) -> Result<Lsn, Memory>
+        requires spelled { Each AreInRange (kinds.End end ∷ []) → All HasSpelling (kinds.End end ∷ []) × (length (bytes_of (kinds.End end ∷ [])) ≤ 4194304) }
+        requires agrees { SessionAgrees self.old s.old }
+        requires follows { (lsn : ℕ) → IsNext N.opens self.old lsn → GroupFollows N.opens self.old lsn (kinds.End end ∷ []) None }
+        ensures none { OnErr result ((self.new ≡ self.old) × (s.new ≡ s.old) × (counts.new ≡ counts.old)) }
+        ensures ended { IfOk result (EndsSession end s.old s.new counts.old counts.new self.old self.new) }
+    {
+        let (last, over, prev) = (self.log.last(), end.tx, end.prev);
+        if last == 0 || last >= MOST || self.log.ended().is_some() {
+            return Err(Memory);
+        }
+        let recs = [Record::End(end)];
+        if over == 0 || s.tx() != over || !have_numbers(&recs) {
+            return Err(Memory);
+        }
+        let lsn = append_all(&mut self.log, alloc, &recs)?;
+        self.history.enter_end(lsn, prev, s, counts);
+        self.locks.release_all(over);
+        Ok(lsn)
+    }
+
+    /// Enters an End alone.
+    fn enter_end(
+        &mut self,
+        alloc: Global,
+        end: End,
+        new: &Option<PageRight<N>>,
+        rights: &mut Rights<N>,
+        counts: &mut Counts<N>,
+    ) -> Result<Lsn, Memory>
+        requires spelled { Each AreInRange (kinds.End end ∷ []) → All HasSpelling (kinds.End end ∷ []) × (length (bytes_of (kinds.End end ∷ [])) ≤ 4194304) }
+        requires agrees { Agree N.opens self.old rights.old }
+        requires follows { (lsn : ℕ) → IsNext N.opens self.old lsn → GroupFollows N.opens self.old lsn (kinds.End end ∷ []) None }
+        ensures none { OnErr result ((self.new ≡ self.old) × (rights.new ≡ rights.old) × (counts.new ≡ counts.old)) }
+        ensures entered { IfOk result (EntersFilled (kinds.End end ∷ []) None new.now rights.old rights.new counts.old counts.new self.old self.new) }
+    {
+        if new.is_some() {
+            return Err(Memory);
+        }
+        let Some(mut s) = rights.s.take() else {
+            return Err(Memory);
+        };
+        let ended = self.end_session(alloc, end, &mut s, counts);
+        rights.s = Some(s);
+        ended
+    }
+
     /// Enters a group that is filled in, in the log and in the history. `new` is the right to the page that it makes, if it
     /// makes one.
     fn enter_filled(
@@ -443,6 +498,9 @@ impl<'a, L: Disk, N: Life> Journal<'a, L, N> {
         ensures none { OnErr result ((self.new ≡ self.old) × (rights.new ≡ rights.old) × (counts.new ≡ counts.old)) }
         ensures entered { IfOk result (EntersFilled recs.now said.now new.old rights.old rights.new counts.old counts.new self.old self.new) }
     {
+        if let Some(end) = end_of(recs, said) {
+            return self.enter_end(alloc, end, new, rights, counts);
+        }
         let last = self.log.last();
         if last == 0 || last >= MOST || self.history.length() >= MOST {
             return Err(Memory);
@@ -575,8 +633,8 @@ impl<'a, L: Disk, N: Life> Journal<'a, L, N> {
         })
     }
 
-    /// As `Entering::enter`. It says that it wants memory at a checkpoint, at an End, and at a group whose form it doesn't
-    /// know: of more than two records, or of two of which the first names a transaction.
+    /// As `Entering::enter`. It says that it wants memory at a checkpoint, at an End beside another record, and at a group
+    /// whose form it doesn't know: of more than two records, or of two of which the first names a transaction.
     pub fn enter(
         &mut self,
         alloc: Global,

@@ -17,9 +17,9 @@
 //! 1. [`Journal::begin`] begins a transaction, and makes the room in the log that its commit needs.
 //! 2. [`Journal::lock`] locks a range exactly where no other transaction's lock conflicts. Else it enters the refusal, and
 //!    tells the least holder and the first of its conflicting ranges.
-//! 3. [`Journal::enter`] enters a group in any life, told or not: an answer alone, a record of any kind but Checkpoint and
-//!    End, with its answer or without, or two records that may stand together, such as the split of a page and the write
-//!    that it was made for. It fills the group in by the listing (`group_filling`), adds it to the log in one block and to
+//! 3. [`Journal::enter`] enters a group in any life, told or not: an answer alone, a record of any kind but Checkpoint,
+//!    with its answer or without, or two records that may stand together, such as the split of a page and the write that
+//!    it was made for. An End stands alone; by it the session's transaction is over, and its locks are let go. It fills the group in by the listing (`group_filling`), adds it to the log in one block and to
 //!    the history in one step, and raises the rights; the right to a page that the group makes comes into its place. Where
 //!    a group asks for room in the store and there is none, its request is entered as declined, and the answer is `Full`; a
 //!    group without a request isn't entered.
@@ -34,7 +34,7 @@
 //!    nothing; through one account it is always the same LSN.
 //!
 //! A group that isn't built yet is refused as one that wants memory, which the traits allow; so is one that restores a
-//! segment that another thread has restored. Not built: checkpoints, Ends, answers `Late`, lives that begin with losers.
+//! segment that another thread has restored. Not built: checkpoints, answers `Late`, lives that begin with losers.
 #![tactic(auto)]
 
 mod ends;

@@ -1,1 +1,4 @@
-pub mod Naming
+pub mod SameNames
+pub mod Drafting
+pub mod Keeping
+pub mod EnteredNamings

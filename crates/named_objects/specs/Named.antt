@@ -12,6 +12,8 @@ use Rattle.backup_set.specs.Backup.{IsBackup, backup_name}
 use Rattle.backup_set.specs.declared.copy.PageCopy.{PageCopy}
 use Rattle.log_archive.specs.Items.{chunks_of, numbered, part}
 use Rattle.log_archive.specs.Run.{run_bytes, run_name}
+use Rattle.named_objects.specs.declared.naming.Naming.{Naming}
+use Rattle.named_objects.specs.declared.naming.Naming.TheVariants as namings
 
 -- the copy is the page's image in the log up to the LSN that a backup tells of it
 pub record IsCopyOf (log : List Record) (told : PageLsn) (c : PageCopy) : Type 0 where
@@ -24,21 +26,29 @@ AreCopiesOf log [] [] = Unit {0}
 AreCopiesOf log (t ∷ ts) (c ∷ cs) = IsCopyOf log t c × AreCopiesOf log ts cs
 AreCopiesOf log _ _ = ⊥
 
--- behind this log, the record says that this object is durable: the images of a segment's pages that it tells, or the
--- records of its range that name pages
-abbrev pub Tells : List Record → Record → ObjectName → List ℕ → Type 0
-Tells log (kinds.BackupDone b) name bytes = (name ≡ backup_name b.backup b.segment) × (copies : List PageCopy) × AreCopiesOf log b.pages copies × IsBackup b.backup b.segment copies bytes
-Tells log (kinds.RunDone d) name bytes =
-    (name ≡ run_name d.run) × (bytes ≡ run_bytes d.run d.first d.last (chunks_of (numbered d.first (part d.first (d.last + 1) log)))) × (length bytes < 2 ^ 32)
-Tells log r name bytes = ⊥
+-- the record, and the name of the object that it names
+abbrev pub record_of : Naming → Record
+record_of (namings.Backup b) = kinds.BackupDone b
+record_of (namings.Run d) = kinds.RunDone d
 
--- a record of the log says so, of the log before it
+abbrev pub name_of : Naming → ObjectName
+name_of (namings.Backup b) = backup_name b.backup b.segment
+name_of (namings.Run d) = run_name d.run
+
+-- behind this log, these are the bytes of the object: the images of a segment's pages that are told, or the records of the
+-- range that name pages
+abbrev pub Tells : List Record → Naming → List ℕ → Type 0
+Tells log (namings.Backup b) bytes = (copies : List PageCopy) × AreCopiesOf log b.pages copies × IsBackup b.backup b.segment copies bytes
+Tells log (namings.Run d) bytes = (bytes ≡ run_bytes d.run d.first d.last (chunks_of (numbered d.first (part d.first (d.last + 1) log)))) × (length bytes < 2 ^ 32)
+
+-- a record of the log says that the object is durable, with the bytes that the log before it determines
 pub record Names (log : List Record) (name : ObjectName) (bytes : List ℕ) : Type 0 where
   pub before : List Record
-  pub naming : Record
+  pub naming : Naming
   pub behind : List Record
-  pub is : log ≡ before ++ naming ∷ behind
-  pub tells : Tells before naming name bytes
+  pub is : log ≡ before ++ record_of naming ∷ behind
+  pub named : name ≡ name_of naming
+  pub tells : Tells before naming bytes
 
 -- each object that the log of the life names is synced with its bytes
 abbrev pub AreNamed : {V : Type 0} → (List Record → Type 0) → (V → ObjectName → Stored) → List Entry → V → Type 0

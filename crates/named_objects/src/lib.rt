@@ -5,13 +5,22 @@
 //! run's range that name pages (`specs/Named`). Whoever reads an object, to repair a page or to restore a segment (Graefe, Guy
 //! and Sauer 2015), gets exactly these bytes.
 //!
+//! An object is made in three steps, each in a call of its own so that no lock spans two device calls: its bytes are put as a
+//! draft, the draft is synced, and then a record names it (`specs/Drafts`). What is named stays as it was at each of them,
+//! also where the vault fails.
+//!
 //! [`Objects`] is the vault of a life, whether one thread owns it or threads share it under a lock. [`OwnObjects`] is one
 //! that a thread owns, over any vault of media. It has the right to maintenance, without which no record names an object; so
-//! at each moment it knows all objects that are named.
+//! at each moment it knows all objects that are named. A [`Naming`] is what a record says that names one.
 #![tactic(auto)]
 
+mod draft;
+mod naming;
+mod naming_entry;
 mod objects;
 mod own_objects;
 
+pub use draft::{Done, Draft, Drafted};
+pub use naming::Naming;
 pub use objects::Objects;
 pub use own_objects::OwnObjects;

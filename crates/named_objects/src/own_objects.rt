@@ -1,59 +1,60 @@
 //! A vault that one thread owns.
-ghost use Rattle.std.specs.Prelude.{◌≡◌, ◌⊎◌};
+ghost use Rattle.std.specs.Prelude.{◌≡◌, ◌⊎◌, None};
 ghost use Rattle.page_ops.specs.Causes.{IsUntold};
 ghost use Rattle.page_ops.specs.Claims.{MaintAgrees};
+ghost use Rattle.named_objects.specs.Drafts.{Owned};
 ghost use Rattle.named_objects.specs.Named.{AreNamed};
 
+use crate::draft::{Done, Draft, Drafted, is_ready, mark_synced};
+use crate::naming::Naming;
+use crate::naming_entry::{enter_naming, look};
 use crate::objects::Objects;
 use books::MaintRight;
 use front::Pass;
 use media::{Failed, Vault};
-use page_ops::{Entering, Ground, Life, Rights};
+use page_ops::{Entering, Life};
+use std::alloc::Global;
 use std::marker::Model;
 use std::sync::Wait;
-use store_model::ObjectName;
+use store_model::{Fault, Lsn, ObjectName};
 use wal_record::Entry;
 
-/// A vault that one thread owns, with the right to maintenance and a pass that has seen what names its objects. Contracts see
-/// it as the vault.
+/// A vault that one thread owns, with the right to maintenance, a pass that has seen what names its objects, and the object
+/// that was put last. Contracts see the vault and the draft.
 #[derive(Drop)]
-pub struct OwnObjects<'a, V: Vault, N: Life> {
-    ground: &'a Ground<N>,
+pub struct OwnObjects<V: Vault, N: Life> {
     vault: V,
+    draft: Option<Draft>,
     right: Option<MaintRight<N>>,
     pass: Pass<Entry, N>,
 }
 
-impl<'a, V: Vault, N: Life> Model for OwnObjects<'a, V, N> {
+impl<V: Vault, N: Life> Model for OwnObjects<V, N> {
     ghost use Rattle.std.specs.Prelude.{◌⊎◌, IfSome, IsSome};
     ghost use Rattle.page_ops.specs.Causes.{IsUntold};
     ghost use Rattle.page_ops.specs.Claims.{MaintAgrees};
+    ghost use Rattle.named_objects.specs.Drafts.{IsDraft, Owned};
     ghost use Rattle.named_objects.specs.Named.{AreNamed};
 
-    ghost Value = { V };
+    ghost Value = { Owned V };
 
-    ghost view = { λ o. o.vault };
+    ghost view = { λ o. record { vault = o.vault; draft = o.draft } };
 
-    ghost invariant = { λ o. IsSome o.right × IfSome o.right (MaintAgrees o.pass.log) × (V.tells ⊎ IsUntold N.opens) × (V.tells → AreNamed N.opens V.told o.pass.log o.vault) };
+    ghost invariant = { λ o. IsSome o.right × IfSome o.right (MaintAgrees o.pass.log) × (V.tells ⊎ IsUntold N.opens) × (V.tells → AreNamed N.opens V.told o.pass.log o.vault) × IfSome o.draft (IsDraft N.opens V.tells V.told o.pass.log o.vault) };
 }
 
-impl<'a, V: Vault, N: Life> OwnObjects<'a, V, N> {
+impl<V: Vault, N: Life> OwnObjects<V, N> {
     /// The vault of a life, whose named objects are named by what this pass has seen. A vault that doesn't tell is that of a
     /// life of which no opening log is known.
-    pub fn new(
-        ground: &'a Ground<N>,
-        vault: V,
-        right: MaintRight<N>,
-        pass: Pass<Entry, N>,
-    ) -> OwnObjects<'a, V, N>
+    pub fn new(vault: V, right: MaintRight<N>, pass: Pass<Entry, N>) -> OwnObjects<V, N>
         requires right { MaintAgrees pass.log right }
         requires told { V.tells ⊎ IsUntold N.opens }
         requires named { V.tells → AreNamed N.opens V.told pass.log vault }
-        ensures { result ≡ vault }
+        ensures { result ≡ record { vault = vault; draft = None } }
     {
         OwnObjects {
-            ground,
             vault,
+            draft: None,
             right: Some(right),
             pass,
         }
@@ -61,15 +62,19 @@ impl<'a, V: Vault, N: Life> OwnObjects<'a, V, N> {
 
     /// The vault.
     pub fn into_vault(self) -> V
-        ensures { result ≡ self.entry }
+        ensures { result ≡ self.vault }
     {
         let OwnObjects { vault, .. } = self;
         vault
     }
 }
 
-impl<'a, V: Vault, N: Life> Objects<N> for OwnObjects<'a, V, N> {
-    ghost faults = { λ o. V.faults o };
+impl<V: Vault, N: Life> Objects<N> for OwnObjects<V, N> {
+    ghost faults = { λ o. V.faults o.vault };
+
+    ghost draft = { λ o. o.draft };
+
+    ghost alone = { Unit {0} };
 
     fn faults(&self) -> u64 {
         self.vault.faults()
@@ -84,12 +89,63 @@ impl<'a, V: Vault, N: Life> Objects<N> for OwnObjects<'a, V, N> {
         buf: &mut [u8],
         pass: &mut Pass<Entry, N>,
     ) -> Result<usize, Failed> {
-        let named = self.pass.copy(&self.ground.board);
-        pass.meet(&self.ground.board, named);
-        let mut rights = Rights::none();
-        rights.m = self.right.take();
-        journal.see(rt, &mut rights, pass);
-        self.right = rights.m.take();
+        look(rt, journal, &mut self.right, &mut self.pass, pass);
         self.vault.get(name, from, buf)
+    }
+
+    fn last_named<J: Entering<N>, R: Wait>(
+        &mut self,
+        rt: &R,
+        journal: &mut J,
+        pass: &mut Pass<Entry, N>,
+    ) -> Lsn {
+        look(rt, journal, &mut self.right, &mut self.pass, pass)
+    }
+
+    fn put<J: Entering<N>, R: Wait>(
+        &mut self,
+        rt: &R,
+        journal: &mut J,
+        since: Lsn,
+        naming: Naming,
+        bytes: &[u8],
+        pass: &mut Pass<Entry, N>,
+    ) -> Result<Drafted, Failed> {
+        let last = look(rt, journal, &mut self.right, &mut self.pass, pass);
+        if last != since {
+            return Ok(Drafted::Late);
+        }
+        self.draft = None;
+        self.vault.put(naming.name(), bytes)?;
+        self.draft = Some(Draft {
+            naming,
+            synced: false,
+        });
+        Ok(Drafted::Taken)
+    }
+
+    fn sync<R: Wait>(&mut self, _rt: &R) -> Result<(), Failed> {
+        self.vault.sync()?;
+        mark_synced(&mut self.draft);
+        Ok(())
+    }
+
+    fn done<J: Entering<N>, R: Wait>(
+        &mut self,
+        rt: &R,
+        alloc: Global,
+        journal: &mut J,
+        since: Lsn,
+        naming: Naming,
+        pass: &mut Pass<Entry, N>,
+    ) -> Result<Done, Fault> {
+        let last = look(rt, journal, &mut self.right, &mut self.pass, pass);
+        if last != since || !is_ready(&self.draft, &naming) {
+            return Ok(Done::Late);
+        }
+        let lsn = enter_naming(rt, alloc, journal, naming, &mut self.right, pass)?;
+        self.pass = pass.copy(&journal.ground().board);
+        self.draft = None;
+        Ok(Done::At(lsn))
     }
 }

@@ -1,11 +1,17 @@
-use Rattle.std.proofs.Common.{List, Option, ◌++◌, refl, sym, subst, arith}
-use Rattle.std.specs.Prelude.{IfSome}
+use Rattle.std.proofs.Common.{List, Option, ◌++◌, refl, sym, ap, ◌∙◌, subst, arith}
+use Rattle.std.specs.Prelude.{◌≡◌, ◌+◌, IfOk, IfSome}
 use Rattle.books.specs.Rights.{PageClaim}
+use Rattle.life_history.specs.Groups.{own_entries, raised}
 use Rattle.page_ops.specs.Claims.{PageAgrees}
+use Rattle.page_ops.specs.Groups.{group_entries}
+use Rattle.page_ops.specs.Seeing.{of_sessions}
+use Rattle.page_ops.specs.declared.group.Said.{Said}
+use Rattle.wal_record.specs.declared.record.Record.{Record}
 use Rattle.wal_record.specs.History.{life_log}
 use Rattle.wal_record.specs.Sound.{AreLawful}
 use Rattle.wal_record.specs.declared.entry.Entry.{Entry}
-use Rattle.journal.specs.Groups.{IsNext}
+use Rattle.journal.specs.Groups.{EntersFilled, GroupFollows, IsNext}
+use Rattle.journal.proofs.Entering.{enters_filled}
 use Rattle.journal.proofs.Living.{kept_group, kept_refused}
 use Rattle.journal.proofs.Grouping.{next_of, page_agrees}
 use Rattle.journal.proofs.journal.Journal.enter_filled.Goals as goal
@@ -36,3 +42,23 @@ invariant_of-self-2 g c =
           done.more (life_log opening c.self.inside.history) (k.life.records opening stands)
           (subst (λ (h : List Entry). AreLawful (life_log opening h ++ c.args.recs.now)) (sym c.self.view_is) (follows.lawful opening stands)) (omega (arith, at.0, at.1))),
     )
+
+pub enter_end-requires-clause-follows : goal.enter_end-requires-clause-follows
+enter_end-requires-clause-follows g c lsn next =
+    let is = c.in-Some.ensures in
+    subst (λ (z : List Record × Option Said). GroupFollows g.N.Life.opens c.args.self.now lsn z.0 z.1) (λ i. (is.0 i, is.1 i)) (c.requires.follows lsn next)
+
+pub returns-in-Some-clause-entered : goal.returns-in-Some-clause-entered
+returns-in-Some-clause-entered g c =
+    let is = c.in-Some.ensures in
+    subst (λ (z : List Record × Option Said). IfOk c.enter_end.result (EntersFilled z.0 z.1 c.args.new.now c.args.rights.now c.enter_end.new.rights c.args.counts.now c.enter_end.new.counts c.args.self.now c.enter_end.new.self)) (λ i. (sym is.0 i, sym is.1 i)) c.enter_end.ensures.entered
+
+pub returns-clause-entered : goal.returns-clause-entered
+returns-clause-entered g c =
+    let lsn = c.in_ok-lsn.lsn in
+    let own = c.enter_group.ensures in
+    let mine = own_entries c.args.recs.now c.args.said.now in
+    enters_filled c.args.recs.now c.args.said.now c.args.new.now c.args.rights.now c.enter_group.new.rights c.args.counts.now c.enter_group.new.counts c.args.self.now c.enter_group.new.self lsn
+    (own.history ∙ ap (λ (h : List Entry). h ++ group_entries lsn c.args.recs.now c.args.said.now) c.self.view_is)
+    (subst (λ (o : Option PageClaim). c.enter_group.new.rights ≡ raised c.args.rights.now o lsn c.args.recs.now c.args.said.now) c.take.ensures.value own.rights) own.counts
+    (own.counted ∙ ap (λ (h : List Entry). of_sessions h + mine) c.self.view_is)

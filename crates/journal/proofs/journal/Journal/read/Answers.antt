@@ -1,4 +1,4 @@
-use Rattle.std.proofs.Common.{List, ◌≡◌, ◌≤◌, [], sym, ap, ◌∙◌, arith, subst}
+use Rattle.std.proofs.Common.{◌≤◌, [], sym, ◌∙◌, arith, subst}
 use Rattle.log_blocks.specs.LogState.{durable_lsn}
 use Rattle.page_ops.specs.Causes.{IsOpen}
 use Rattle.page_ops.specs.Claims.{no_claims}

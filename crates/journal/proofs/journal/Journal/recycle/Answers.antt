@@ -1,4 +1,4 @@
-use Rattle.std.proofs.Common.{List, ◌≡◌, ℕ, ap, sym, ◌∙◌, length}
+use Rattle.std.proofs.Common.{List, ap, ◌∙◌, length}
 use Rattle.wal_record.specs.History.{life_log}
 use Rattle.wal_record.specs.declared.entry.Entry.{Entry}
 use Rattle.journal.proofs.Lookup.{all_durable}

@@ -1,0 +1,30 @@
+use Rattle.std.proofs.Common.{◌≡◌, ◌<◌, ◌++◌, ◌∷◌, [], ℕ, List, refl, sym, ap, ◌∙◌, subst, arith, is_some}
+use Rattle.life_history.specs.Kept.{end_entry}
+use Rattle.page_ops.specs.Claims.{SessionAgrees}
+use Rattle.wal_record.specs.declared.entry.Entry.{Entry}
+use Rattle.journal.proofs.Living.{kept_end}
+use Rattle.journal.proofs.Locking.{live_of}
+use Rattle.journal.proofs.Overs.{goes_on, over_consistent, over_records}
+use Rattle.journal.proofs.journal.Journal.end_session.Goals as goal
+
+pub enter_end-requires-clause-live : goal.enter_end-requires-clause-live
+enter_end-requires-clause-live g c =
+    let some : 0 < c.args.s.now.tx = omega (arith, c.if-over-eq0.false, c.if-tx-over.false, c.tx.ensures) in
+    let runs = goes_on c.self.inside.log.log.log.ended (ap is_some (sym c.ended.ensures) ∙ sym c.is_some.ensures ∙ c.if-is_some.false) in
+    live_of c.self.inside.history c.args.s.now (subst (λ (h : List Entry). SessionAgrees h c.args.s.now) (sym c.self.view_is) c.requires.agrees) some (c.self.invariant.1.ends.acknowledged runs)
+
+pub enter_end-requires-clause-consistent : goal.enter_end-requires-clause-consistent
+enter_end-requires-clause-consistent g c =
+    let same : c.args.end.tx ≡ c.args.s.now.tx = omega (arith, c.if-tx-over.false, c.tx.ensures) in
+    over_consistent g.N.Life.opens g.L.Disk.tells g.L.Disk.told g.L.Disk.may_leave c.self.inside.history c.args.self.now c.self.view_is c.self.inside.log.log c.append_all.new.log.log c.self.inside.log.listing c.append_all.new.log.listing c.last-last.result c.in_ok-lsn.lsn c.self.invariant.1.life.records c.last-last.ensures.next (omega (arith, c.if-last-ge-MOST.false)) c.in_ok-lsn.ensures.lsn c.args.end c.requires.follows c.args.s.now.tx same
+
+pub invariant_of-self-2 : goal.invariant_of-self-2
+invariant_of-self-2 g c =
+    let same : c.args.s.now.tx ≡ c.args.end.tx = omega (arith, c.if-tx-over.false, c.tx.ensures) in
+    let done = c.append_all.ensures in
+    let lsn = c.in_ok-lsn.lsn in
+    let now = c.enter_end.ensures.history ∙ ap (λ (n : ℕ). c.self.inside.history ++ end_entry lsn n c.args.end.prev ∷ []) same in (
+      c.self.invariant.0,
+      kept_end _ _ _ _ c.self.inside.history c.enter_end.new.self c.self.inside.log.log c.append_all.new.log.log c.self.inside.log.listing c.append_all.new.log.listing c.self.inside.locks c.release_all.new.self _ c.self.inside.faults.total c.self.inside.faults.total c.self.invariant.1 refl lsn c.args.end now
+          c.release_all.ensures.released c.enter_end.ensures.live done.spare done.disk.0 done.disk.1 (over_records g.N.Life.opens g.L.Disk.tells g.L.Disk.told g.L.Disk.may_leave c.self.inside.history c.args.self.now c.self.view_is c.self.inside.log.log c.append_all.new.log.log c.self.inside.log.listing c.append_all.new.log.listing c.last-last.result c.in_ok-lsn.lsn c.self.invariant.1.life.records c.last-last.ensures.next (omega (arith, c.if-last-ge-MOST.false)) c.in_ok-lsn.ensures.lsn c.args.end c.requires.follows c.in_ok-lsn.ensures.more),
+    )
