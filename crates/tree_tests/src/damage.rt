@@ -1,6 +1,5 @@
 //! A pool of which a page may be damaged in its frame. A page that is renewed is as it was.
 ghost use Rattle.std.specs.Prelude.{◌≡◌, IfSome, List};
-ghost use Rattle.std.specs.Option.{ForSome};
 ghost use Rattle.wal_record.specs.State.{KeepsState};
 ghost use Rattle.wal_record.specs.declared.record.Record.{Record};
 
@@ -9,20 +8,36 @@ use foster_tree::{find_leaf, lookup};
 use front::Pass;
 use page_ops::{Entering, Held, Life, Pages, Taken};
 use std::alloc::Global;
-use std::marker::PhantomData;
+use std::marker::{Model, PhantomData};
 use std::mem;
 use std::sync::Wait;
 use store_model::{Bound, Fault, List, PageNo};
 use wal_record::{BranchRow, Entry, PageState, Rows};
+
+/// A state that keeps its rules.
+#[derive(Drop)]
+struct Kept {
+    state: PageState,
+}
+
+impl Model for Kept {
+    ghost use Rattle.wal_record.specs.State.{KeepsState};
+    ghost use Rattle.wal_record.specs.declared.page.PageState.{PageState};
+
+    ghost Value = { PageState };
+
+    ghost view = { λ k. k.state };
+
+    ghost invariant = { λ k. KeepsState k.state };
+}
 
 /// Pages of a life of which no opening log is known, and what the damaged one was.
 #[derive(Drop)]
 pub(crate) struct Damaged<N: Life, P> {
     pages: P,
     page: PageNo,
-    kept: Option<PageState>,
+    kept: Option<Kept>,
     life: PhantomData<N>,
-    ghost keeps: { ForSome kept KeepsState },
     ghost untold: { (opening : List Record) → N.opens opening → ⊥ },
 }
 
@@ -45,7 +60,9 @@ impl<N: Life, P> Damaged<N, P> {
         ensures same { self.new.pages ≡ self.old.pages }
     {
         self.page = held.page;
-        self.kept = Some(mem::replace(&mut held.state, state));
+        self.kept = Some(Kept {
+            state: mem::replace(&mut held.state, state),
+        });
     }
 
     /// The page in hand is as it was.
@@ -53,7 +70,7 @@ impl<N: Life, P> Damaged<N, P> {
         ensures same { self.new.pages ≡ self.old.pages }
     {
         if held.page == self.page {
-            if let Some(state) = self.kept.take() {
+            if let Some(Kept { state }) = self.kept.take() {
                 held.state = state;
             }
         }
