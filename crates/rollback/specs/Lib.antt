@@ -1,0 +1,4 @@
+pub mod Owners
+pub mod Undoes
+pub mod Rolls
+pub mod Endings
