@@ -20,6 +20,7 @@ use Rattle.wal_record.specs.declared.record.PageLsn.{PageLsn}
 use Rattle.wal_record.specs.declared.record.Record.{Record}
 use Rattle.wal_record.specs.declared.record.Record.TheVariants as kinds
 use Rattle.wal_record.specs.declared.entry.Entry.{Entry}
+use Rattle.wal_record.specs.declared.entry.Entry.TheVariants.{Rec}
 use Rattle.wal_record.proofs.Along.{by_pushes}
 use Rattle.wal_record.proofs.Pushes.{last_run_push}
 use Rattle.claim_laws.specs.Suiting.{Suits, SuitsLog}
@@ -160,3 +161,17 @@ named_more log n name bytes x = elim (split_last log (record_of n) x.before (rec
       inr (x.named ∙ ap name_of same, subst (λ (p : List Record × Naming). Tells p.0 p.1 bytes) (λ i. (e.0 i, same i)) x.tells)
   | inr e ↦ inl (record { before = x.before; naming = x.naming; behind = e.0; is = e.1; named = x.named; tells = x.tells })
 ]
+
+-- what a record names that was entered later
+pub named_now : (opens : List Record → Type 0) (seen moment now : List Entry) (lsn : ℕ) (n : Naming) → IsPrefix seen moment → now ≡ moment ++ Rec lsn (record_of n) ∷ [] → ((opening : List Record) → opens opening → Suits opening seen (record_of n))
+    → (opening : List Record) (bytes : List ℕ) → opens opening → Tells (life_log opening seen) n bytes → Names (life_log opening now) (name_of n) bytes
+named_now opens seen moment now lsn n begins goes suits opening bytes stands tells =
+    let longer : life_log opening moment ≡ life_log opening seen ++ log_of begins.0 = ap (life_log opening) (sym begins.1) ∙ longer_log opening seen begins.0 in
+    record {
+      before = life_log opening moment;
+      naming = n;
+      behind = [];
+      is = ap (life_log opening) goes ∙ longer_log opening moment (Rec lsn (record_of n) ∷ []);
+      named = refl;
+      tells = subst (λ (l : List Record). Tells l n bytes) (sym longer) (tells_later (life_log opening seen) (log_of begins.0) n bytes (suits opening stands).lawful tells);
+    }

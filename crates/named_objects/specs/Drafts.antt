@@ -68,6 +68,12 @@ naming_entries naming (Ok (dones.At lsn)) = Rec lsn (record_of naming) ∷ []
 naming_entries naming (Ok dones.Late) = []
 naming_entries naming (Err fault) = []
 
+-- the object was named
+abbrev pub OnNamed : Result Done Fault → Type 0 → Type 0
+OnNamed (Ok (dones.At lsn)) fact = fact
+OnNamed (Ok dones.Late) fact = Unit {0}
+OnNamed (Err fault) fact = Unit {0}
+
 abbrev pub recorded : Naming → Result ℕ Fault → List Entry
 recorded naming (Ok lsn) = Rec lsn (record_of naming) ∷ []
 recorded naming (Err fault) = []

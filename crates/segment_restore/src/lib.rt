@@ -6,9 +6,17 @@
 //!
 //! [`rebuild_in_life`] gives the page's image at a head, of whatever log the life began with. It enters nothing. A record that
 //! the log has forgotten wants memory: archive runs aren't read yet.
+//!
+//! A lost device comes back segment by segment (Graefe, Guy and Sauer 2015): [`restore`] writes the images of a segment's
+//! pages, and [`mark_restored`] enters that it is restored. [`LogSupply`] does both as a pool first wants a page of it.
 #![tactic(auto)]
 
 mod following;
 mod rebuilding;
+mod restoring;
+mod supply;
+mod writing;
 
 pub use rebuilding::rebuild_in_life;
+pub use restoring::{mark_restored, restore};
+pub use supply::LogSupply;

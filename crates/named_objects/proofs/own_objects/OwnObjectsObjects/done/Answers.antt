@@ -1,9 +1,13 @@
-use Rattle.std.proofs.Common.{◌∙◌, sym, subst}
+use Rattle.std.proofs.Common.{◌∙◌, ap, sym, subst}
 use Rattle.std.proofs.lemmas.Result.{err_from_is_err_and}
 use Rattle.std.specs.Prelude.{Option, IfSome}
 use Rattle.books.specs.Rights.{MaintClaim}
 use Rattle.page_ops.proofs.Composing.{ends_by_then}
 use Rattle.page_ops.specs.Claims.{MaintAgrees}
+use Rattle.front.specs.Seen.{PassSeen}
+use Rattle.front.proofs.Keeping.{prefix_trans}
+use Rattle.wal_record.specs.declared.entry.Entry.{Entry}
+use Rattle.named_objects.proofs.Drafting.{named_now}
 use Rattle.named_objects.proofs.EnteredNamings.{entered_behind}
 use Rattle.named_objects.proofs.Keeping.{look_kept, naming_kept, suits_now}
 use Rattle.named_objects.proofs.own_objects.OwnObjectsObjects.done.Goals as goal
@@ -42,3 +46,8 @@ invariant_of-self-2 g c =
     naming_kept g.N.Life.opens g.V.Vault.tells g.V.Vault.told c.look-last.new.right c.enter_naming.new.right c.look-last.new.own c.look-last.new.pass c.enter_naming.new.pass c.copy.result e.moment c.in_ok-lsn.lsn c.self.inside.vault c.self.inside.draft c.args.naming
     (look_kept g.N.Life.opens g.V.Vault.tells g.V.Vault.told c.self.inside.right c.look-last.new.right c.self.inside.pass c.look-last.new.own c.look-last.new.pass c.self.inside.vault c.self.inside.draft c.self.invariant look.right look.own look.begins look.seen.now.consistent look.agrees)
     (c.is_ready.ensures.0 c.if-not-is_ready.false) look.own e.found.begins e.found.consistent e.found.rights.m e.is c.in_ok-lsn.ensures.right e.now.rights.m c.copy.ensures.copy
+
+pub returns-clause-named : goal.returns-clause-named
+returns-clause-named g c =
+    let e = c.in_ok-lsn.ensures.entered in
+    named_now g.N.Life.opens c.args.pass.now.log e.moment c.copy.new.self.log c.in_ok-lsn.lsn c.args.naming (prefix_trans c.args.pass.now.log c.look-last.new.pass.log e.moment c.look-last.ensures.seen.now.begins e.found.begins) (ap (λ (p : PassSeen Entry). p.log) c.copy.ensures.same ∙ e.is) c.requires.suits

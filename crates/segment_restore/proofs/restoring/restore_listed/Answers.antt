@@ -1,0 +1,22 @@
+use Rattle.std.proofs.lemmas.Result.{err_from_is_err_and}
+use Rattle.segment_restore.specs.Faults.{no_faults}
+use Rattle.segment_restore.proofs.Chains.{looks, upheld_both}
+use Rattle.segment_restore.proofs.Segments.{enter_fails, listed_head}
+use Rattle.segment_restore.proofs.restoring.restore_listed.Goals as goal
+
+pub returns-in_err-listed-clause-entered : goal.returns-in_err-listed-clause-entered
+returns-in_err-listed-clause-entered g c = looks _ _ _ _ _ _ _ _ _ c.listed.ensures.seen
+
+pub returns-in_err-listed-clause-refused : goal.returns-in_err-listed-clause-refused
+returns-in_err-listed-clause-refused g c =
+    let p = err_from_is_err_and c.from_residual.result c.from_residual.ensures.1 in
+    rw (p.1, p.2) (enter_fails _ _ _ no_faults _ _ _ _ c.in_err-listed.ensures.refused c.in_err-listed.ensures.ends)
+
+pub returns-then-listed-eq0-clause-entered : goal.returns-then-listed-eq0-clause-entered
+returns-then-listed-eq0-clause-entered g c = looks _ _ _ _ _ _ _ _ _ c.listed.ensures.seen
+
+pub returns-clause-entered : goal.returns-clause-entered
+returns-clause-entered g c = upheld_both _ _ _ _ _ _ _ _ _ (looks _ _ _ _ _ _ _ _ _ c.listed.ensures.seen) c.restore_page.ensures.entered
+
+pub restore_page-requires : goal.restore_page-requires
+restore_page-requires g c = record { head = listed_head g.N.Life.opens c.listed.new.pass.log c.args.page c.in_ok-listed.listed c.in_ok-listed.ensures.listed c.if-listed-eq0.false }
