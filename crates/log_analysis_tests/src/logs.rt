@@ -1,4 +1,9 @@
 //! Logs, each with its Checkpoint and the analysis that was worked out by hand.
+//!
+//! An analysis tells, in this order: the losers, each with its last record, the write to be undone next and its open writes
+//! with key and LSN; of each page its head, the LSN as which it was written, its backup and the LSN there; the pages at the
+//! last loss; the segments not restored since; the standing runs; the commits; and the next numbers of a transaction, a
+//! backup and a run.
 use crate::disk::{Given, log_of};
 use crate::told::{numbers_in, numbers_of};
 use log_analysis::analyse;
