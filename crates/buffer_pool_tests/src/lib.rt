@@ -7,6 +7,8 @@
 #[cfg(test)]
 mod life;
 #[cfg(test)]
+mod refused;
+#[cfg(test)]
 mod supply;
 #[cfg(test)]
 mod telling;

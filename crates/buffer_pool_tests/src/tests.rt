@@ -18,7 +18,7 @@ use store_model::{Fault, Lsn, PageNo};
 
 /// A step of a test.
 #[derive(Clone, Copy, Debug, PartialEq, Eq)]
-enum Step {
+pub(crate) enum Step {
     /// The page is brought.
     Bring,
     /// The page is written out.
@@ -31,9 +31,9 @@ enum Step {
 
 /// What came of one page.
 #[derive(Clone, Copy, Debug, PartialEq, Eq)]
-struct Seen {
+pub(crate) struct Seen {
     /// Whether each step was done; of a look, whether the page was there.
-    done: [bool; 4],
+    pub(crate) done: [bool; 4],
     /// The dirty page after the first step, and after the last.
     dirty: [Option<PageNo>; 2],
     from_base: u32,
@@ -45,7 +45,7 @@ struct Seen {
 
 /// What is tried.
 #[derive(Clone, Copy, Debug)]
-struct Case {
+pub(crate) struct Case {
     /// As which LSN the page was written last.
     written: Lsn,
     /// Which of the calls that may want memory does.
@@ -133,7 +133,12 @@ fn pool_life<N: Life, R: Wait>(
     in_turn(rt, alloc, &ground, tokens, device, case)
 }
 
-fn run_with<R: Wait>(rt: &R, alloc: Global, device: MemPages, case: Case) -> Result<Seen, Fault> {
+pub(crate) fn run_with<R: Wait>(
+    rt: &R,
+    alloc: Global,
+    device: MemPages,
+    case: Case,
+) -> Result<Seen, Fault> {
     let unnamed = Unnamed::new(alloc, 1)?;
     pool_life::<Brand, R>(rt, alloc, unnamed, device, case)
 }
@@ -162,7 +167,7 @@ fn device_with(
 const WRITE: [Step; 4] = [Step::Bring, Step::Write, Step::Look, Step::Bring];
 
 /// The page is brought, and again.
-const AGAIN: [Step; 4] = [Step::Bring, Step::Look, Step::Bring, Step::Look];
+pub(crate) const AGAIN: [Step; 4] = [Step::Bring, Step::Look, Step::Bring, Step::Look];
 
 /// The device is lost behind the bring, and the page brought again.
 const LOSE: [Step; 4] = [Step::Bring, Step::Lose, Step::Look, Step::Bring];
@@ -201,7 +206,7 @@ const REDONE: Seen = Seen {
 };
 
 /// A case in which no call wants memory.
-fn written_as(written: Lsn, steps: [Step; 4]) -> Case {
+pub(crate) fn written_as(written: Lsn, steps: [Step; 4]) -> Case {
     Case {
         written,
         refuse_at: 0,
@@ -228,6 +233,20 @@ fn an_image_serves_from_the_written_lsn_to_the_head(rt: HostRuntime) -> Result<(
         let device = device_with(alloc, page, lsn, changed, Vec::new(alloc))?;
         let seen = run_with(&rt, alloc, device, written_as(written, WRITE))?;
         assert_eq!(rt; seen, expected);
+    }
+    Ok(())
+}
+
+/// Each byte of the digest, of the head and of the first fields of the state, and every 63rd of those behind.
+#[test]
+fn an_image_with_a_changed_byte_is_repaired(rt: HostRuntime) -> Result<(), Fail> {
+    let alloc = rt.alloc();
+    for at in 0..4096 {
+        if at < 64 || at % 63 == 0 {
+            let device = device_with(alloc, 1, HEAD, Some(at), Vec::new(alloc))?;
+            let seen = run_with(&rt, alloc, device, written_as(HEAD, WRITE))?;
+            assert_eq!(rt; seen, REPAIRED, "at {at}");
+        }
     }
     Ok(())
 }
