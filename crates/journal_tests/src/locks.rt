@@ -12,7 +12,7 @@ use store_model::{Fault, Key, KeyRange, Mode, Pos, TxId};
 use wal_record::Entry;
 
 /// A new session with a transaction.
-fn begun<N: Life, J: Journaling<N>, R: Wait>(
+pub(crate) fn begun<N: Life, J: Journaling<N>, R: Wait>(
     rt: &R,
     alloc: Global,
     journal: &mut J,
@@ -28,7 +28,7 @@ fn begun<N: Life, J: Journaling<N>, R: Wait>(
 }
 
 /// Locks a key. Where the entry stands.
-fn locked<N: Life, J: Journaling<N>, R: Wait>(
+pub(crate) fn locked<N: Life, J: Journaling<N>, R: Wait>(
     rt: &R,
     alloc: Global,
     journal: &mut J,
@@ -48,7 +48,7 @@ fn locked<N: Life, J: Journaling<N>, R: Wait>(
 }
 
 /// A new transaction that locks a key, and its right.
-fn holder<N: Life, J: Journaling<N>, R: Wait>(
+pub(crate) fn holder<N: Life, J: Journaling<N>, R: Wait>(
     rt: &R,
     alloc: Global,
     journal: &mut J,
