@@ -40,7 +40,8 @@ impl<V: Vault, N: Life> Model for OwnObjects<V, N> {
 
     ghost view = { λ o. record { vault = o.vault; draft = o.draft } };
 
-    ghost invariant = { λ o. IsSome o.right × IfSome o.right (MaintAgrees o.pass.log) × (V.tells ⊎ IsUntold N.opens) × (V.tells → AreNamed N.opens V.told o.pass.log o.vault) × IfSome o.draft (IsDraft N.opens V.tells V.told o.pass.log o.vault) };
+    ghost invariant = { λ o. IsSome o.right × IfSome o.right (MaintAgrees o.pass.log) × (V.tells ⊎ IsUntold N.opens)
+        × (V.tells → AreNamed N.opens V.told o.pass.log o.vault) × IfSome o.draft (IsDraft N.opens V.tells V.told o.pass.log o.vault) };
 }
 
 impl<V: Vault, N: Life> OwnObjects<V, N> {
