@@ -18,7 +18,7 @@ use page_ops::{Ground, Held, Life, Tokens};
 use small_stores::{Frames, OwnPages};
 use std::alloc::Global;
 use std::slice;
-use store_model::{Bound, List, Memory, PageNo};
+use store_model::{Bound, LEAST_LIMIT, List, MOST_PAGES, Memory, PageNo};
 use wal_record::{Entry, Format, PageState, Record, Rows};
 
 /// An empty leaf with all keys.
@@ -42,6 +42,9 @@ pub(crate) fn new_log<L: Disk + Drop>(
 ) -> Result<ListedLog<L>, Memory>
     ensures open { IfOk result (λ log. log.log.log.ended ≡ None) }
 {
+    if limit < LEAST_LIMIT || MOST_PAGES < limit {
+        return Err(Memory);
+    }
     let Ok(blocks) = open_log(alloc, disk) else {
         return Err(Memory);
     };
