@@ -170,8 +170,8 @@ module _ (page lsn : ℕ) (is_there : is_page page ≡ true) (number : is_number
   pub is_group : IsGroup g
   is_group = subst IsGroup (sym is) one_group
 
-  no_rights : (seen : List Entry) → HasRights seen no_claims (written_group page lsn)
-  no_rights seen = record {
+  no_rights : (opens : List Record → Type 0) (seen : List Entry) → HasRights opens seen no_claims (written_group page lsn)
+  no_rights opens seen = record {
     pages = refl;
     new = λ s. refl;
     owners = (tt, tt);
@@ -179,8 +179,8 @@ module _ (page lsn : ℕ) (is_there : is_page page ≡ true) (number : is_number
     maintenance = λ e. absurd (cc e);
   }
 
-  pub has_rights : (seen : List Entry) (x : Claims) → x ≡ no_claims → HasRights seen x g
-  has_rights seen x none = subst (λ (z : Group). HasRights seen x z) (sym is) (subst (λ (y : Claims). HasRights seen y (written_group page lsn)) (sym none) (no_rights seen))
+  pub has_rights : (opens : List Record → Type 0) (seen : List Entry) (x : Claims) → x ≡ no_claims → HasRights opens seen x g
+  has_rights opens seen x none = subst (λ (z : Group). HasRights opens seen x z) (sym is) (subst (λ (y : Claims). HasRights opens seen y (written_group page lsn)) (sym none) (no_rights opens seen))
 
   pub is_askable : (opens : List Record → Type 0) (seen : List Entry) → IsHead opens seen page lsn → (x : Claims) → x ≡ no_claims
       → (opening : List Record) (h : List Entry) → opens opening → IsMoment opens seen x h → IsAskable opening h x.a g

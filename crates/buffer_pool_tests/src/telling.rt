@@ -177,6 +177,7 @@ impl<'a, N: Life> Entering<N> for Telling<'a, N> {
                 backup_lsn: 0,
             },
             unrestored: false,
+            lost: 0,
         })
     }
 

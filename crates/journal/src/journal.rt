@@ -644,7 +644,7 @@ impl<'a, L: Disk, N: Life> Journal<'a, L, N> {
         counts: &mut Counts<N>,
     ) -> Result<Entered, Fault>
         requires group { IsGroup group.old }
-        requires rights { HasRights pass.old.log rights.old group.old }
+        requires rights { HasRights N.opens pass.old.log rights.old group.old }
         requires askable { (opening : List Record) (h : List Entry) → N.opens opening → IsMoment N.opens pass.old.log rights.old h → IsAskable opening h rights.old.a group.old }
         requires timely { (opening : List Record) → N.opens opening → Each (WasTimely opening pass.old.log) group.old.recs }
         ensures entered { EntersGroup N.opens N.entries N.session_entries group.old group.new result (known counts.old pass.old rights.old) (known counts.new pass.new rights.new) }

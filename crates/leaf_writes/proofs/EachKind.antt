@@ -4,11 +4,13 @@ use Rattle.std.specs.Prelude.{IsSome, IfSome, is_some, ◌||◌, ◌&&◌}
 use Rattle.books.specs.Rights.{SessionClaim}
 use Rattle.front.proofs.Keeping.{prefix_self}
 use Rattle.store_model.specs.Operator.{meaning}
+use Rattle.store_model.proofs.Bools.{not_both}
 use Rattle.wal_record.specs.Chains.{link_of, names}
 use Rattle.wal_record.specs.Checkpoints.{is_checkpoint}
-use Rattle.wal_record.specs.History.{life_log}
+use Rattle.wal_record.specs.History.{Live, life_log, phase}
+use Rattle.wal_record.specs.Legal.{IsLegal}
 use Rattle.wal_record.specs.Images.{applied, image, with_value}
-use Rattle.wal_record.specs.OpenWrites.{open_writes}
+use Rattle.wal_record.specs.OpenWrites.{is_loser, open_writes}
 use Rattle.wal_record.specs.Rules.{is_number, is_page}
 use Rattle.wal_record.specs.Sound.{AreLawful, IsLawful, TakesBack, UndoRule}
 use Rattle.wal_record.specs.declared.page.PageState.{PageState}
@@ -17,6 +19,7 @@ use Rattle.wal_record.specs.declared.record.Record.{Record}
 use Rattle.wal_record.specs.declared.record.Record.TheVariants as kinds
 use Rattle.wal_record.specs.declared.entry.Entry.{Entry}
 use Rattle.log_laws.proofs.Central.{eqb_self}
+use Rattle.log_laws.proofs.Serial.{after_legal, no_loser}
 use Rattle.foster_laws.specs.Enters.{LeafEntered}
 use Rattle.foster_laws.proofs.Entering.{leaf_enters}
 use Rattle.page_ops.specs.Asking.{WasTimely}
@@ -101,15 +104,19 @@ spelled_by (hows.Apply old operator argument) opens seen s tx key new owner made
 spelled_by (hows.Undo undo_next) opens seen s tx key new owner made page may words at =
     record { tx = may.0; prev = refl; page = at; page_prev = refl; key = words.key; restores = words.new; undo_next = may.1 }
 
+-- a loser never comes to life
+pub never_live : (opening : List Record) (h : List Entry) (t : ℕ) → AreLawful opening → IsLegal opening h → is_loser opening t ≡ true → phase h t ≡ Live → ⊥
+never_live opening h t lawful legal loser live = not_both (is_loser opening t) loser (no_loser opening t ((after_legal opening lawful h legal).0.new t live))
+
 -- the owner of its transaction is there where that is live
 pub owner_by : (how : How) (opens : List Record → Type 0) (seen : List Entry) (s : PageState) (tx page : ℕ) (key : List ℕ) (new : Option (List ℕ)) (owner : Option SessionClaim) (x : Claims)
-    → MayBy how opens seen s tx key new owner → x.s ≡ owner → HasOwner seen x (link_of (record_by how tx page key new))
+    → MayBy how opens seen s tx key new owner → x.s ≡ owner → HasOwner opens seen x (link_of (record_by how tx page key new))
 owner_by (hows.Write old) opens seen s tx page key new None x may is = absurd may.0
-owner_by (hows.Write old) opens seen s tx page key new (Some o) x may is = λ live. subst (λ (q : Option SessionClaim). IsSome q × IfSome q (λ (z : SessionClaim). z.tx ≡ tx)) (sym is) (refl, may.0.0)
+owner_by (hows.Write old) opens seen s tx page key new (Some o) x may is = λ opening stands lawful legal live. subst (λ (q : Option SessionClaim). IsSome q × IfSome q (λ (z : SessionClaim). z.tx ≡ tx)) (sym is) (refl, may.0.0)
 owner_by (hows.Apply old operator argument) opens seen s tx page key new None x may is = absurd may.0
-owner_by (hows.Apply old operator argument) opens seen s tx page key new (Some o) x may is = λ live. subst (λ (q : Option SessionClaim). IsSome q × IfSome q (λ (z : SessionClaim). z.tx ≡ tx)) (sym is) (refl, may.0.0)
-owner_by (hows.Undo undo_next) opens seen s tx page key new None x may is = λ live. absurd (may.2.now live)
-owner_by (hows.Undo undo_next) opens seen s tx page key new (Some o) x may is = λ live. subst (λ (q : Option SessionClaim). IsSome q × IfSome q (λ (z : SessionClaim). z.tx ≡ tx)) (sym is) (refl, may.2.tx)
+owner_by (hows.Apply old operator argument) opens seen s tx page key new (Some o) x may is = λ opening stands lawful legal live. subst (λ (q : Option SessionClaim). IsSome q × IfSome q (λ (z : SessionClaim). z.tx ≡ tx)) (sym is) (refl, may.0.0)
+owner_by (hows.Undo undo_next) opens seen s tx page key new None x may is = λ opening stands lawful legal live. absurd (never_live opening seen tx lawful legal (may.2.loser opening stands) live)
+owner_by (hows.Undo undo_next) opens seen s tx page key new (Some o) x may is = λ opening stands lawful legal live. subst (λ (q : Option SessionClaim). IsSome q × IfSome q (λ (z : SessionClaim). z.tx ≡ tx)) (sym is) (refl, may.2.tx)
 
 pub speaker_by : (how : How) (key : List ℕ) (new : Option (List ℕ)) (owner : Option SessionClaim) → HasSpeaker owner (said_by how key new owner)
 speaker_by (hows.Write old) key new None = tt

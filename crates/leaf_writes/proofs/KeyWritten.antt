@@ -190,8 +190,6 @@ still_by (hows.Undo undo_next) opens seen h s t tx key new None begins consisten
   may.1,
   record {
     loser = may.2.loser;
-    now = may.2.over h begins consistent;
-    over = λ later longer held. may.2.over later (prefix_trans seen h later begins longer) held;
     was = λ opening stands. let w = may.2.was opening stands in (w.0, prefix_trans w.0 seen h w.1 begins, w.2);
   },
 )

@@ -43,12 +43,9 @@ pub record IsOwnUndo (opens : List Record → Type 0) (seen : List Entry) (u : U
   pub live : (opening : List Record) → opens opening → phase seen u.tx ≡ Live
   pub last : (opening : List Record) → opens opening → UndoRule (open_writes (life_log opening seen) u.tx) u
 
--- of a loser, which isn't live and never comes to life: it took the last open write back at some moment; another thread may
--- come first
+-- of a loser: it took the last open write back at some moment; another thread may come first
 pub record IsLoserUndo (opens : List Record → Type 0) (seen : List Entry) (u : Undo) : Type 0 where
   pub loser : (opening : List Record) → opens opening → is_loser opening u.tx ≡ true
-  pub now : phase seen u.tx ≡ Live → ⊥
-  pub over : (h : List Entry) → IsPrefix seen h → IsConsistent opens h → phase h u.tx ≡ Live → ⊥
   pub was : (opening : List Record) → opens opening → (before : List Entry) × IsPrefix before seen × UndoRule (open_writes (life_log opening before) u.tx) u
 
 abbrev pub IsUndone : (List Record → Type 0) → List Entry → Undo → Option SessionClaim → Type 0

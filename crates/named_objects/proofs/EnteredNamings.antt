@@ -45,10 +45,10 @@ is_group n g is spelled = subst IsGroup (sym is) (by n spelled)
     by (namings.Backup b) spelled = record { few = omega arith; kinds = refl; spelled = (spelled, tt); told = refl; alone = λ a. absurd (cc a) }
     by (namings.Run d) spelled = record { few = omega arith; kinds = refl; spelled = (spelled, tt); told = refl; alone = λ a. absurd (cc a) }
 
-pub has_rights : (n : Naming) (h : List Entry) (x : Claims) (g : Group) → g ≡ group_of (record_of n) → IsSome x.m → HasRights h x g
-has_rights n h x g is some = subst (HasRights h x) (sym is) (by n)
+pub has_rights : (n : Naming) (opens : List Record → Type 0) (h : List Entry) (x : Claims) (g : Group) → g ≡ group_of (record_of n) → IsSome x.m → HasRights opens h x g
+has_rights n opens h x g is some = subst (HasRights opens h x) (sym is) (by n)
   where
-    by : (n : Naming) → HasRights h x (group_of (record_of n))
+    by : (n : Naming) → HasRights opens h x (group_of (record_of n))
     by (namings.Backup b) = record { pages = refl; new = λ s. absurd (cc s); owners = (tt, tt); speaker = tt; maintenance = λ needs. some }
     by (namings.Run d) = record { pages = refl; new = λ s. absurd (cc s); owners = (tt, tt); speaker = tt; maintenance = λ needs. some }
 

@@ -39,6 +39,7 @@ pub(crate) fn listed<L: Disk, N: Life>(
             Ok(Listed {
                 ends: listing.entry(page),
                 unrestored: listing.is_unrestored(page.saturating_sub(1) / SEGMENT),
+                lost: listing.lost(),
             })
         }
         Err(fault) => Err(fault),

@@ -6,6 +6,8 @@ use Rattle.books.specs.Rights.{PageClaim, SessionClaim}
 use Rattle.wal_record.specs.Rules.{HasSpelling}
 use Rattle.wal_record.specs.Chains.{PageLink, page_links, Link, link_of}
 use Rattle.wal_record.specs.History.{Live, phase}
+use Rattle.wal_record.specs.Legal.{IsLegal}
+use Rattle.wal_record.specs.Sound.{AreLawful}
 use Rattle.wal_record.specs.declared.record.Checkpoint.{Checkpoint}
 use Rattle.wal_record.specs.declared.record.Record.{Record}
 use Rattle.wal_record.specs.declared.record.Record.TheVariants as kinds
@@ -148,10 +150,11 @@ has_right made x l = is_to l.page x.a || is_to l.page x.b || is_made_page made l
 abbrev pub has_rights : Option ℕ → Claims → Record → Bool
 has_rights made x r = list_all (has_right made x) (page_links r)
 
--- the right to the session whose transaction a record names, where that is live
-abbrev pub HasOwner : List Entry → Claims → Option Link → Type 0
-HasOwner h x None = Unit {0}
-HasOwner h x (Some l) = phase h l.tx ≡ Live → IsSome x.s × IfSome x.s (λ (s : SessionClaim). s.tx ≡ l.tx)
+-- The right to the session whose transaction a record names, where that is live. It is asked under a log with which the
+-- life may have begun, for nothing else tells a loser from a live transaction.
+abbrev pub HasOwner : (List Record → Type 0) → List Entry → Claims → Option Link → Type 0
+HasOwner opens h x None = Unit {0}
+HasOwner opens h x (Some l) = (opening : List Record) → opens opening → AreLawful opening → IsLegal opening h → phase h l.tx ≡ Live → IsSome x.s × IfSome x.s (λ (s : SessionClaim). s.tx ≡ l.tx)
 
 abbrev pub needs_maintenance : Record → Bool
 needs_maintenance (kinds.BackupDone b) = true
@@ -164,10 +167,10 @@ HasSpeaker None (Some said) = ⊥
 HasSpeaker (Some s) (Some said) = (said.session ≡ s.session) × (said.tx ≡ s.tx)
 
 -- after this history, these are the rights that the group needs
-pub record HasRights (h : List Entry) (x : Claims) (g : Group) : Type 0 where
+pub record HasRights (opens : List Record → Type 0) (h : List Entry) (x : Claims) (g : Group) : Type 0 where
   pub pages : IsTrue (list_all (has_rights (made_by g.recs) x) g.recs)
   -- the place of the right to the page that the group makes is free
   pub new : IsSome (made_by g.recs) → x.c ≡ None
-  pub owners : Each (λ r. HasOwner h x (link_of r)) g.recs
+  pub owners : Each (λ r. HasOwner opens h x (link_of r)) g.recs
   pub speaker : HasSpeaker x.s g.said
   pub maintenance : list_any needs_maintenance g.recs ≡ true → IsSome x.m

@@ -11,11 +11,11 @@ use Rattle.store_model.specs.declared.fault.Fault.TheVariants as faults
 use Rattle.store_model.specs.declared.range.Mode.{Mode}
 use Rattle.store_model.specs.declared.reply.Outcome.TheVariants as outcomes
 use Rattle.store_model.specs.declared.request.Request.{Request}
-use Rattle.wal_record.specs.Rules.{HasSpelling}
+use Rattle.wal_record.specs.Rules.{HasSpelling, is_number}
 use Rattle.wal_record.specs.State.{is_child}
 use Rattle.wal_record.specs.Chains.{pages, finishes, record_with}
 use Rattle.wal_record.specs.OpenWrites.{pending, is_loser, losers, open_list}
-use Rattle.wal_record.specs.Upkeep.{segment_of, unrestored, standing_runs, archived}
+use Rattle.wal_record.specs.Upkeep.{lost_pages, segment_of, unrestored, standing_runs, archived}
 use Rattle.wal_record.specs.Checkpoints.{commits, limit_of, page_head, analysis_of}
 use Rattle.wal_record.specs.History.{log_of, life_log, live_count}
 use Rattle.wal_record.specs.Locks.{Held, locks, conflict, blocks}
@@ -154,7 +154,7 @@ pub record IsFirstConflict (ls : List Held) (lock : Held) (range : Interval) : T
 
 abbrev pub IsGrant : (List Record → Type 0) → List Entry → ℕ → Held → Grant → Type 0
 IsGrant opens h tx lock (grants.Held pos) = pos ≡ length h
-IsGrant opens h tx lock (grants.Loser t) = (opening : List Record) → opens opening → IsLeastLoser opening h tx lock t
+IsGrant opens h tx lock (grants.Loser t) = IsTrue (is_number t) × ((opening : List Record) → opens opening → IsLeastLoser opening h tx lock t)
 
 -- the lock is refused, and the holder's first conflicting range is this one
 abbrev pub IsConflict : (List Record → Type 0) → List Entry → Held → Fault → Type 0
@@ -235,10 +235,11 @@ abbrev pub first_of : List ℕ → Option ℕ
 first_of [] = None
 first_of (x ∷ xs) = Some x
 
--- the page's entry in the page recovery index, and whether its segment is unrestored
+-- the page's entry in the page recovery index, whether its segment is unrestored, and how many pages the last loss told
 pub record IsListed (opens : List Record → Type 0) (h : List Entry) (page : ℕ) (x : Listed) : Type 0 where
   pub ends : (opening : List Record) → opens opening → x.ends ≡ page_head (life_log opening h) page
   pub unrestored : (opening : List Record) → opens opening → x.unrestored ≡ list_any (λ s. s == segment_of page) (unrestored (life_log opening h))
+  pub lost : (opening : List Record) → opens opening → x.lost ≡ lost_pages (life_log opening h)
 
 -- The least loser that has no end yet, the least segment that is unrestored, how many runs stand, and the last LSN that
 -- they have; up to which LSN the log is durable, as the pass has seen.

@@ -62,7 +62,7 @@ pub trait Entering<N: Life> {
         pass: &mut Pass<Entry, N>,
     ) -> Result<Entered, Fault>
         requires group { IsGroup group.old }
-        requires rights { HasRights pass.old.log rights.old group.old }
+        requires rights { HasRights N.opens pass.old.log rights.old group.old }
         requires askable { (opening : List Record) (h : List Entry) → N.opens opening → IsMoment N.opens pass.old.log rights.old h → IsAskable opening h rights.old.a group.old }
         // The loser's write was its last open one, or the segment unrestored, when the caller saw it.
         requires timely { (opening : List Record) → N.opens opening → Each (WasTimely opening pass.old.log) group.old.recs }

@@ -65,6 +65,9 @@ pub struct Listed {
     pub ends: PageHead,
     /// Whether its segment is unrestored.
     pub unrestored: bool,
+    /// How many pages there were when the data device was last lost; 0 where it never was. Those behind them were never on
+    /// the lost device.
+    pub lost: u32,
 }
 
 /// What a step of help may work on.

@@ -15,7 +15,7 @@ use Rattle.store_model.specs.declared.fault.Fault.{Fault}
 use Rattle.store_model.specs.declared.fault.Fault.TheVariants as faults
 use Rattle.store_model.specs.declared.fault.Memory.{Memory}
 use Rattle.wal_record.specs.Books.{session_transaction, unless_over}
-use Rattle.wal_record.specs.Chains.{finishes, greatest, last, tx_of}
+use Rattle.wal_record.specs.Chains.{finishes, greatest, last, link_of, tx_of}
 use Rattle.wal_record.specs.History.{Ended, Live, Phase, is_owner, is_over, last_begun, life_log, log_of, phase}
 use Rattle.wal_record.specs.Legal.{IsLegal, MayUndo}
 use Rattle.wal_record.specs.OpenWrites.{has_items, is_loser, open_writes}
@@ -38,7 +38,7 @@ use Rattle.foster_laws.proofs.InHand.{lsn_is}
 use Rattle.page_ops.specs.Asking.{IsAskable, IsLate, IsTimely, WasTimely}
 use Rattle.page_ops.specs.Claims.{Claims, SessionAgrees, no_claims}
 use Rattle.page_ops.specs.Gains.{Gains}
-use Rattle.page_ops.specs.Groups.{AreFilled, HasSpeaker, group_entries}
+use Rattle.page_ops.specs.Groups.{AreFilled, HasOwner, HasSpeaker, group_entries}
 use Rattle.page_ops.specs.Names.{LedgerName}
 use Rattle.page_ops.specs.Outcomes.{IsAnswer, IsFull, KeepsRights, SameHolders}
 use Rattle.page_ops.specs.Seeing.{Account, Enters, IsConsistent, IsMoment, known}
@@ -51,6 +51,7 @@ use Rattle.asking_laws.proofs.Alike.{alike_law}
 use Rattle.asking_laws.proofs.Asks.{asks_law}
 use Rattle.group_laws.proofs.Owners.{transaction}
 use Rattle.leaf_writes.proofs.AsksOne.{above_none}
+use Rattle.leaf_writes.proofs.EachKind.{never_live}
 use Rattle.smo.specs.Asked.{Asked, AskedIfMade, MayAsk}
 use Rattle.rollback.specs.Endings.{GainsEnd, HasEnded, IsFreed, KeepsUnended, end_by, end_of}
 use Rattle.rollback.specs.Owners.{IsSameSession, MayRollBack, claim_of}
@@ -133,7 +134,7 @@ module _ (opens : List Record → Type 0) (seen0 seen : List Entry) (tx : ℕ) (
   askable : (owner : Option SessionClaim) → MayRollBack opens seen0 tx owner → (opening : List Record) (h : List Entry) → opens opening → IsMoment opens seen (claim_of owner) h → IsAskable opening h None (end_of tx)
   askable None may opening h stands moment =
       let consistent = moment.consistent in
-      let loser = may.loser opening stands in
+      let loser = may opening stands in
       let from : IsPrefix seen0 h = prefix_trans seen0 seen h longer moment.begins in
       let fewer = (loser_law opening seen0 from.0 tx).fewer (lawful opens tx number opening stands h consistent) (subst (IsLegal opening) (sym from.1) (consistent.legal opening stands)) loser in
       let none = none_left (open_writes (life_log opening (seen0 ++ from.0)) tx) fewer.0 (sym (nothing opening stands) ∙ fewer.1) in
@@ -152,15 +153,15 @@ module _ (opens : List Record → Type 0) (seen0 seen : List Entry) (tx : ℕ) (
       let since = ((live_law opening h).live first_lawful legal tx live).1 in
       asks opens tx number opening stands h consistent (inl live) (same ∙ nothing opening stands) (λ timely. list_any-append (finishes tx) opening (log_of h) ∙ both_no (list_any (finishes tx) opening) (list_any (finishes tx) (log_of h)) before since) None
 
-  has_owner : (owner : Option SessionClaim) → IsConsistent opens seen → MayRollBack opens seen0 tx owner → phase seen tx ≡ Live → IsSome owner × IfSome owner (λ (s : SessionClaim). s.tx ≡ tx)
-  has_owner None consistent may live = absurd (may.over seen longer consistent live)
-  has_owner (Some s) consistent may live = (refl, may.tx)
+  has_owner : (owner : Option SessionClaim) → MayRollBack opens seen0 tx owner → HasOwner opens seen (claim_of owner) (link_of (end_by tx 0))
+  has_owner None may = λ opening stands lawful legal live. absurd (never_live opening seen tx lawful legal (may opening stands) live)
+  has_owner (Some s) may = λ opening stands lawful legal live. (refl, may.tx)
 
   pub may_end : (owner : Option SessionClaim) (x : Claims) (made : Result Group Memory) → x ≡ claim_of owner → IsConsistent opens seen → MayRollBack opens seen0 tx owner → IfOk made (λ (g : Group). g ≡ end_of tx) → IfOk made (MayAsk opens seen x)
   may_end owner x (Err m) is consistent may g_is = tt
   may_end owner x (Ok g) is consistent may g_is = subst (λ (q : Claims × Group). MayAsk opens seen q.0 q.1) (λ i. (sym is i, sym g_is i)) (record {
     group = record { few = omega arith; kinds = refl; spelled = (record { tx = number; prev = refl }, tt); told = refl; alone = λ n. refl };
-    rights = record { pages = refl; new = λ n. refl; owners = (has_owner owner consistent may, tt); speaker = speaker owner; maintenance = λ n. absurd (cc n) };
+    rights = record { pages = refl; new = λ n. refl; owners = (has_owner owner may, tt); speaker = speaker owner; maintenance = λ n. absurd (cc n) };
     askable = λ opening h stands moment. askable owner may opening h stands moment;
     timely = λ opening stands. (was_timely opens tx number opening stands seen consistent seen, tt);
   })

@@ -42,17 +42,14 @@ use Rattle.leaf_writes.specs.declared.change.Change.{Change}
 use Rattle.leaf_writes.specs.declared.change.How.{How}
 use Rattle.leaf_writes.specs.declared.change.How.TheVariants as hows
 use Rattle.leaf_writes.proofs.AsksOne.{above_none}
-use Rattle.rollback.specs.Owners.{IsLoserOf, MayRollBack}
+use Rattle.rollback.specs.Owners.{MayRollBack}
 use Rattle.rollback.specs.Rolls.{IfAt, IsUndoAt}
 use Rattle.rollback.specs.Undoes.{TakesBackLast}
 
 -- ---- what a pass sees more
 
-loser_later : (opens : List Record → Type 0) (seen h : List Entry) (tx : ℕ) → IsPrefix seen h → IsLoserOf opens seen tx → IsLoserOf opens h tx
-loser_later opens seen h tx longer l = record { loser = l.loser; over = λ later begins consistent live. l.over later (prefix_trans seen h later longer begins) consistent live }
-
 pub may_later : (opens : List Record → Type 0) (seen h : List Entry) (tx : ℕ) (owner : Option SessionClaim) → IsPrefix seen h → MayRollBack opens seen tx owner → MayRollBack opens h tx owner
-may_later opens seen h tx None longer may = loser_later opens seen h tx longer may
+may_later opens seen h tx None longer may = may
 may_later opens seen h tx (Some s) longer may = record { tx = may.tx; before = may.before; begins = prefix_trans may.before seen h may.begins longer; agrees = may.agrees; live = may.live }
 
 -- ---- a right that agrees with two moments
@@ -98,9 +95,7 @@ undone_by opens seen h None tx key new next at longer consistent agrees number m
   number,
   place,
   record {
-    loser = may.loser;
-    now = may.over h longer consistent;
-    over = λ later begins. may.over later (prefix_trans seen h later longer begins);
+    loser = may;
     was = λ opening stands. (seen, longer, last opening stands);
   },
 )
@@ -164,7 +159,7 @@ may_behind opens seen h tx owner owner' g result longer consistent number may ke
 
     entered : (o o' : Option SessionClaim) (pos : ℕ) → MayRollBack opens seen tx o → option_map (λ (s : SessionClaim). s.session) o' ≡ option_map (λ (s : SessionClaim). s.session) o
         → option_map (λ (s : SessionClaim). s.tx) o' ≡ option_map (λ (s : SessionClaim). s.tx) o → IfSome o' (SessionAgrees h) → IsUndoAt tx h pos → MayRollBack opens h tx o'
-    entered None None pos m session t a u = loser_later opens seen h tx longer m
+    entered None None pos m session t a u = m
     entered None (Some s') pos m session t a u = absurd (cc session)
     entered (Some s) None pos m session t a u = absurd (cc session)
     entered (Some s) (Some s') pos m session t a u =

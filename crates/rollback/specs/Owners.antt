@@ -22,14 +22,13 @@ pub record IsOwnerOf (opens : List Record → Type 0) (seen : List Entry) (t : �
   pub agrees : SessionAgrees before s
   pub live : (opening : List Record) → opens opening → phase before t ≡ Live
 
--- it is a loser, which isn't live and never comes to life
-pub record IsLoserOf (opens : List Record → Type 0) (seen : List Entry) (tx : ℕ) : Type 0 where
-  pub loser : (opening : List Record) → opens opening → is_loser opening tx ≡ true
-  pub over : (h : List Entry) → IsPrefix seen h → IsConsistent opens h → phase h tx ≡ Live → ⊥
+-- it is a loser of each log with which the life may have begun
+abbrev pub IsLoserOf : (List Record → Type 0) → ℕ → Type 0
+IsLoserOf opens tx = (opening : List Record) → opens opening → is_loser opening tx ≡ true
 
 -- after what was seen the transaction may be undone, by this right or without one
 abbrev pub MayRollBack : (List Record → Type 0) → List Entry → ℕ → Option SessionClaim → Type 0
-MayRollBack opens seen tx None = IsLoserOf opens seen tx
+MayRollBack opens seen tx None = IsLoserOf opens tx
 MayRollBack opens seen tx (Some s) = IsOwnerOf opens seen tx s
 
 -- the right that comes back is to the same session

@@ -69,7 +69,7 @@ pub fn undo_loser<N: Life, J: Journaling<N>, P: Pages<N, J>, R: Wait>(
     requires none { (P.desk pages.old).out ≡ 0 }
     requires made { IsMade N.opens pass.old.log 1 }
     requires number { IsTrue (is_number tx) }
-    requires loser { IsLoserOf N.opens pass.old.log tx }
+    requires loser { IsLoserOf N.opens tx }
     ensures over { OnOk result ((opening : List Record) → N.opens opening → list_any (finishes tx) (life_log opening pass.new.log) ≡ true) }
     ensures gains { RollsOver N.opens N.entries N.session_entries tx (standing (P.desk pages.old) (J.account journal.old) pass.old) (standing (P.desk pages.new) (J.account journal.new) pass.new) }
     ensures none { (P.desk pages.new).out ≡ 0 }

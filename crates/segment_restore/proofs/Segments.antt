@@ -166,8 +166,8 @@ module _ (segment : ℕ) (spelled : HasSpelling (kinds.Restored (record { segmen
   pub is_group : IsGroup g
   is_group = subst IsGroup (sym is) (record { few = omega arith; kinds = refl; spelled = (spelled, tt); told = refl; alone = λ a. absurd (cc a) })
 
-  pub has_rights : (h : List Entry) (x : Claims) → HasRights h x g
-  has_rights h x = subst (HasRights h x) (sym is) (record { pages = refl; new = λ s. absurd (cc s); owners = (tt, tt); speaker = tt; maintenance = λ needs. absurd (cc needs) })
+  pub has_rights : (opens : List Record → Type 0) (h : List Entry) (x : Claims) → HasRights opens h x g
+  has_rights opens h x = subst (HasRights opens h x) (sym is) (record { pages = refl; new = λ s. absurd (cc s); owners = (tt, tt); speaker = tt; maintenance = λ needs. absurd (cc needs) })
 
   suits : (opening : List Record) (before : List Entry) → is_unrestored (life_log opening before) segment ≡ true → Suits opening before (kinds.Restored (record { segment = segment }))
   suits opening before lacks = record {

@@ -360,7 +360,7 @@ impl<'a, N: Life> History<'a, N> {
         pass: &mut Pass<Entry, N>,
         counts: &mut Counts<N>,
     ) -> Result<Entered, Fault>
-        requires rights { HasRights pass.old.log rights.old group.old }
+        requires rights { HasRights N.opens pass.old.log rights.old group.old }
         requires askable { (opening : List Record) (h : List Entry) → N.opens opening → IsMoment N.opens pass.old.log rights.old h → IsAskable opening h rights.old.a group.old }
         ensures entered { EntersGroup N.opens N.entries N.session_entries group.old group.new result (known counts.old pass.old rights.old) (known counts.new pass.new rights.new) }
         ensures filled { OnEntered result (IsFilledIn group.old group.new rights.old rights.new) }

@@ -17,7 +17,7 @@ use Rattle.page_ops.specs.declared.outcome.Entered.{Entered}
 -- the conditions of entering the group at any moment since the history was seen
 pub record MayAsk (opens : List Record → Type 0) (seen : List Entry) (x : Claims) (g : Group) : Type 0 where
   pub group : IsGroup g
-  pub rights : HasRights seen x g
+  pub rights : HasRights opens seen x g
   pub askable : (opening : List Record) (h : List Entry) → opens opening → IsMoment opens seen x h → IsAskable opening h x.a g
   pub timely : (opening : List Record) → opens opening → Each (WasTimely opening seen) g.recs
 

@@ -11,7 +11,7 @@ use Rattle.buffer_pool.proofs.writing.enter_written.Goals as goal
 pub enter-requires : goal.enter-requires
 enter-requires g c = record {
   group = is_group c.args.page c.args.lsn c.requires.page c.requires.lsn _ c.requires.group;
-  rights = has_rights c.args.page c.args.lsn c.requires.page c.requires.lsn _ c.requires.group _ _ c.none-rights.ensures;
+  rights = has_rights c.args.page c.args.lsn c.requires.page c.requires.lsn _ c.requires.group _ _ _ c.none-rights.ensures;
   askable = is_askable c.args.page c.args.lsn c.requires.page c.requires.lsn _ c.requires.group g.N.Life.opens _ c.requires.named _ c.none-rights.ensures;
   timely = λ opening stands. is_timely c.args.page c.args.lsn c.requires.page c.requires.lsn _ c.requires.group opening _;
 }

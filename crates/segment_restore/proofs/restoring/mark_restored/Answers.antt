@@ -9,7 +9,7 @@ enter-requires g c =
     let spelled = spelled_by c.args.segment c.ranges.segment.fits in
     record {
       group = is_group c.args.segment spelled _ c.in-Ok.ensures;
-      rights = has_rights c.args.segment spelled _ c.in-Ok.ensures _ _;
+      rights = has_rights c.args.segment spelled _ c.in-Ok.ensures _ _ _;
       askable = is_askable c.args.segment spelled _ c.in-Ok.ensures g.N.Life.opens _ c.requires.was _;
       timely = λ opening stands. is_timely c.args.segment spelled _ c.in-Ok.ensures opening _ (c.requires.was opening stands);
     }
