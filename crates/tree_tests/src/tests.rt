@@ -297,6 +297,28 @@ fn four_hundred_of_the_longest_rows_are_a_tree_of_level_two(rt: HostRuntime) -> 
     Ok(())
 }
 
+/// A put that wants memory has entered nothing, wherever in the put that is, and made once more it splits the leaf as
+/// ever. bench/refused_memory has each allocation refused in turn.
+#[test]
+fn a_put_that_lacks_memory_enters_nothing(rt: HostRuntime) -> Result<(), Fail> {
+    let again = Step::Again(Keys {
+        deed: Deed::Write,
+        from: 144,
+        behind: 145,
+        length: 4,
+        letters: 20,
+    });
+    let Ok(told) = told(&rt, rt.alloc(), &[short(0, 144), again]) else {
+        return Err(Fail::new("no fixture"));
+    };
+    let halves = "pages 2\n0 ..- k072>2 72 0 1440 k000 k071\n0 k072..- 73 0 1460 k072 k144\n";
+    match told.as_str().strip_prefix(halves) {
+        Some("") => Ok(()),
+        Some("refused behind 0 entries\n") => Err(Fail::new("refused, and entered nothing")),
+        _ => Err(Fail::new("half a put")),
+    }
+}
+
 /// A leaf that claims other fence keys, or another level, than its parent has for it is renewed, and the value is found.
 #[test]
 fn a_page_that_does_not_fit_its_parent_is_renewed(rt: HostRuntime) -> Result<(), Fail> {

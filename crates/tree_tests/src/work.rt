@@ -11,13 +11,15 @@ use front::Pass;
 use page_ops::{Journaling, Life, Pages};
 use std::alloc::Global;
 use std::sync::Wait;
-use store_model::{Bound, Fault, KeyRange, Memory, PageNo};
+use store_model::{Bound, Fault, KeyRange, Memory, PageNo, Pos};
 use wal_record::Entry;
 
-/// Keys that are changed in turn, the end of a transaction, or a scan from one key on to another.
+/// Keys that are changed in turn, and once more where that wants memory, the end of a transaction, or a scan from one key
+/// on to another.
 #[derive(Clone, Copy)]
 pub(crate) enum Step {
     Change(Keys),
+    Again(Keys),
     Commit,
     Scan { from: u32, behind: u32 },
 }
@@ -75,7 +77,40 @@ fn range_of(from: u32, behind: u32) -> Option<KeyRange> {
     KeyRange::new(Bound::of_key(&low), Bound::of_key(&high))
 }
 
-/// Does the steps, until one is refused. How many pairs its scans found, if it made one.
+/// Changes keys, and where that wants memory once more. How many entries the first try then added.
+fn change_again<N: Life, J: Journaling<N>, P: Pages<N, J>, R: Wait>(
+    rt: &R,
+    alloc: Global,
+    pages: &mut P,
+    journal: &mut J,
+    owner: &mut Option<SessionRight<N>>,
+    keys: &Keys,
+    pass: &mut Pass<Entry, N>,
+) -> Result<Option<Pos>, Fault>
+    requires untold { (opening : List Record) → N.opens opening → ⊥ }
+    requires none { (P.desk pages.old).out ≡ 0 }
+    ensures none { (P.desk pages.new).out ≡ 0 }
+{
+    let before = journal.length(rt, pass);
+    match change_all(rt, alloc, pages, journal, owner, keys, pass) {
+        Ok(()) => return Ok(None),
+        Err(Fault::Memory) => {}
+        Err(fault) => return Err(fault),
+    }
+    let behind = journal.length(rt, pass);
+    change_all(rt, alloc, pages, journal, owner, keys, pass)?;
+    Ok(Some(behind.saturating_sub(before)))
+}
+
+/// What steps came to: how many pairs the scans found, if there was one, and how many entries a try added that wanted
+/// memory.
+#[derive(Clone, Copy)]
+struct Done {
+    found: Option<usize>,
+    refused: Option<Pos>,
+}
+
+/// Does the steps, until one is refused.
 fn do_all<N: Life, J: Journaling<N>, P: Pages<N, J>, R: Wait>(
     rt: &R,
     alloc: Global,
@@ -83,16 +118,19 @@ fn do_all<N: Life, J: Journaling<N>, P: Pages<N, J>, R: Wait>(
     pages: &mut P,
     steps: &[Step],
     pass: &mut Pass<Entry, N>,
-) -> Result<Option<usize>, Fault>
+) -> Result<Done, Fault>
     requires untold { (opening : List Record) → N.opens opening → ⊥ }
     requires none { (P.desk pages.old).out ≡ 0 }
     ensures none { (P.desk pages.new).out ≡ 0 }
 {
     let mut owner = Some(begin(rt, alloc, journal, pass)?);
-    let mut found = None;
+    let (mut found, mut refused) = (None, None);
     for step in steps {
         match step {
             Step::Change(keys) => change_all(rt, alloc, pages, journal, &mut owner, keys, pass)?,
+            Step::Again(keys) => {
+                refused = change_again(rt, alloc, pages, journal, &mut owner, keys, pass)?;
+            }
             Step::Commit => commit(rt, alloc, journal, &mut owner, pass)?,
             Step::Scan { from, behind } => {
                 if let Some(range) = range_of(*from, *behind) {
@@ -102,7 +140,7 @@ fn do_all<N: Life, J: Journaling<N>, P: Pages<N, J>, R: Wait>(
             }
         }
     }
-    Ok(found)
+    Ok(Done { found, refused })
 }
 
 /// Does the steps, damages page 2 in turn, and gives the letters of k100 that were found each time, together.
@@ -137,32 +175,37 @@ pub(crate) fn work<N: Life, J: Journaling<N>, P: Pages<N, J>, R: Wait>(
     requires untold { (opening : List Record) → N.opens opening → ⊥ }
     requires none { (P.desk pages.old).out ≡ 0 }
 {
-    let (found, full) = match do_all(rt, alloc, journal, pages, steps, pass) {
-        Ok(found) => (found, None),
+    let (done, full) = match do_all(rt, alloc, journal, pages, steps, pass) {
+        Ok(done) => (done, None),
         Err(
             Fault::Full {
                 pages,
                 pending,
                 at: _,
             },
-        ) => (None, Some((pages, pending))),
+        ) => {
+            let none = Done {
+                found: None,
+                refused: None,
+            };
+            (none, Some((pages, pending)))
+        }
         Err(fault) => return Err(fault),
     };
     let count = journal.pages(rt, pass);
     let told = told_pages::<N, J, P, R>(rt, alloc, pages, behind)?;
-    let end = end_text(alloc, found, full)?;
+    let end = end_text(alloc, done, full)?;
     Ok(format!(in alloc; "pages {count}\n{told}{end}")?)
 }
 
-/// What the scans found, and what there was where a put was refused as full.
-fn end_text(
-    alloc: Global,
-    found: Option<usize>,
-    full: Option<(u32, u32)>,
-) -> Result<String, Memory> {
-    Ok(match (found, full) {
+/// What the steps came to, and what there was where a put was refused as full.
+fn end_text(alloc: Global, done: Done, full: Option<(u32, u32)>) -> Result<String, Memory> {
+    if let Some((pages, pending)) = full {
+        return Ok(format!(in alloc; "full {pages} {pending}\n")?);
+    }
+    Ok(match (done.found, done.refused) {
         (Some(pairs), _) => format!(in alloc; "pairs {pairs}\n")?,
-        (None, Some((pages, pending))) => format!(in alloc; "full {pages} {pending}\n")?,
+        (None, Some(entries)) => format!(in alloc; "refused behind {entries} entries\n")?,
         (None, None) => String::new(alloc),
     })
 }
