@@ -1,5 +1,5 @@
 -- What the reader of lines takes from its source.
-use Rattle.std.specs.Prelude.{◌≡◌, ◌+◌, ◌<◌, ◌≤◌, ℕ, List, [], ◌∷◌, ◌++◌, length, Option, Bool, false, ◌==◌, ◌⊎◌}
+use Rattle.std.specs.Prelude.{◌≡◌, ◌+◌, ◌<◌, ◌≤◌, ℕ, List, [], ◌∷◌, ◌++◌, length, Option, Bool, true, false, ◌==◌, ◌⊎◌}
 use Rattle.std.specs.List.{list_any}
 use Rattle.std.specs.declared.result.Result.{Result}
 use Rattle.std.specs.declared.result.Result.TheVariants.{Ok, Err}
@@ -7,8 +7,6 @@ use Rattle.std.specs.Io.KnownBytes.{Consumes, IsAtEnd, prepend_known}
 use Rattle.media.specs.Cause.{Rose}
 use Rattle.line_reader.specs.declared.refusal.NotRead.{NotRead}
 use Rattle.line_reader.specs.declared.refusal.NotRead.TheVariants as refusals
-use Rattle.line_reader.specs.declared.input.Byte.{Byte}
-use Rattle.line_reader.specs.declared.input.Byte.TheVariants as bytes
 use Rattle.line_reader.specs.declared.input.Filled.{Filled}
 use Rattle.line_reader.specs.declared.input.Filled.TheVariants as fills
 use Rattle.line_reader.specs.declared.input.Next.{Next}
@@ -46,24 +44,43 @@ Fills old new left_old left_new (Ok fills.End) = Consumes (to_come old left_old)
 Fills old new left_old left_new (Ok fills.TooLong) = Consumes (to_come old left_old) (to_come new left_new) [] × (longest_script < new.taken)
 Fills old new left_old left_new (Err e) = Consumes (to_come old left_old) (to_come new left_new) []
 
--- a byte is taken
-abbrev pub TakesByte : {E : Type 0} → Reader → Reader → Option (List ℕ) → Option (List ℕ) → Result Byte E → Type 0
-TakesByte old new left_old left_new (Ok (bytes.One b)) = Consumes (to_come old left_old) (to_come new left_new) (b ∷ [])
-TakesByte old new left_old left_new (Ok bytes.End) = Consumes (to_come old left_old) (to_come new left_new) [] × IsAtEnd (to_come new left_new)
-TakesByte old new left_old left_new (Ok bytes.TooLong) = Consumes (to_come old left_old) (to_come new left_new) [] × (longest_script < new.taken)
-TakesByte old new left_old left_new (Err e) = Consumes (to_come old left_old) (to_come new left_new) []
+abbrev pub is_end : ℕ → Bool
+is_end b = b == 10
 
 abbrev pub has_end : List ℕ → Bool
-has_end line = list_any (λ b. b == 10) line
+has_end line = list_any is_end line
 
 -- a line without its end: no line end in it, and with its end at most 2,048 bytes
 pub record IsLine (line : List ℕ) : Type 0 where
   pub one : has_end line ≡ false
   pub short : length line < 2048
 
-abbrev pub CountsByte : {E : Type 0} → Reader → Reader → Result Byte E → Type 0
-CountsByte old new (Ok (bytes.One b)) = (new.taken ≡ old.taken + 1) × (new.lines ≡ old.lines) × (new.lines < new.taken)
-CountsByte old new _ = (new.taken ≡ old.taken) × (new.lines ≡ old.lines)
+-- a line end comes next, or nothing
+abbrev pub BeginsWithEnd : Bool → List ℕ → Type 0
+BeginsWithEnd true rest = (more : List ℕ) × (rest ≡ 10 ∷ more)
+BeginsWithEnd false rest = rest ≡ []
+
+-- the bytes before the first line end, and whether there is one
+pub record IsFront (bytes front : List ℕ) (ends : Bool) : Type 0 where
+  pub rest : List ℕ
+  pub whole : bytes ≡ front ++ rest
+  pub one : has_end front ≡ false
+  pub next : BeginsWithEnd ends rest
+
+-- behind a part of a line: a line end comes next, or the part is as long as it may be, or nothing more is pending
+abbrev pub IsNextEnd : Bool → ℕ → ℕ → List ℕ → Type 0
+IsNextEnd true size most pending = (more : List ℕ) × (pending ≡ 10 ∷ more)
+IsNextEnd false size most pending = (size ≡ most) ⊎ (pending ≡ [])
+
+-- a line got the pending bytes before the first line end, so many at most
+pub record GivesPart (old new : Reader) (before after : List ℕ) (most : ℕ) (ends : Bool) : Type 0 where
+  pub part : List ℕ
+  pub line : after ≡ before ++ part
+  pub pending : old.pending ≡ part ++ new.pending
+  pub one : has_end part ≡ false
+  pub bound : length part ≤ most
+  pub taken : new.taken ≡ old.taken + length part
+  pub next : IsNextEnd ends (length part) most new.pending
 
 -- the bytes are of one line: a line end stands at their own end, or nowhere
 abbrev pub IsOfOneLine : List ℕ → Type 0

@@ -1,10 +1,10 @@
 //! The lines of a source.
-ghost use Rattle.std.specs.Prelude.{◌≡◌, ◌≤◌, ◌+◌, ◌-◌, ◌<◌, IfErr, IfOk, length, ◌∷◌, nat_le, if◌then◌else◌};
+ghost use Rattle.std.specs.Prelude.{◌≡◌, ◌≤◌, ◌+◌, ◌<◌, IfErr, IfOk, IfSome, drop, length, nat_le, position, if◌then◌else◌};
 ghost use Rattle.line_reader.specs.declared.input.Next.TheVariants as nexts;
 ghost use Rattle.std.specs.Io.{ReadsAtMost};
 ghost use Rattle.std.specs.Io.KnownBytes.{ReadConsumes};
 ghost use Rattle.media.specs.Cause.{HasCause, Rose};
-ghost use Rattle.line_reader.specs.Lines.{Fills, TakesByte, CountsByte, TakesLine, IsBounded, IsReadFault, ended, first_reader, longest_script};
+ghost use Rattle.line_reader.specs.Lines.{Fills, GivesPart, IsFront, TakesLine, IsBounded, IsReadFault, ended, first_reader, is_end, longest_script};
 
 use crate::refusal::NotRead;
 use media::{Failed, Source};
@@ -15,7 +15,7 @@ use std::marker::Model;
 const PIECE: usize = 4096;
 
 /// The most bytes of a line, with its end.
-const LONGEST_LINE: u16 = 2048;
+const LONGEST_LINE: usize = 2048;
 
 /// The most bytes of a script.
 const LONGEST_SCRIPT: u64 = 16_777_216;
@@ -26,14 +26,6 @@ pub enum Next {
     Line(Vec<u8>),
     End,
     Bad,
-}
-
-/// The next byte, the end of the input, or the end of what a script may have.
-#[derive(Clone, Copy)]
-pub enum Byte {
-    One(u8),
-    End,
-    TooLong,
 }
 
 /// Whether a byte is pending, the source is at its end, or it has given all that a script may have.
@@ -115,35 +107,40 @@ impl Input {
         Ok(Filled::Some)
     }
 
-    /// The first pending byte, which is given to a line.
-    fn take(&mut self) -> u8
-        requires { 0 < length self.old.pending }
-        ensures byte { self.old.pending ≡ result ∷ self.new.pending }
-        ensures counts { (self.new.taken ≡ self.old.taken + 1) × (self.new.lines ≡ self.old.lines) }
-        ensures fewer { self.new.lines < self.new.taken }
-        ensures most { IsBounded self.new }
+    /// The bytes that no line has yet.
+    fn pending(&self) -> &[u8]
+        ensures { result.now ≡ self.now.pending }
     {
-        let byte = self.piece[self.from];
-        self.from += 1;
-        byte
+        let (_, behind) = self.piece.as_slice().split_at(self.from);
+        let (pending, _) = behind.split_at(self.upto - self.from);
+        pending
     }
 
-    /// The next byte that no line has yet.
-    fn next_byte<S: Source>(&mut self, source: &mut S) -> Result<Byte, Failed>
-        ensures bytes { TakesByte self.old self.new (S.left source.old) (S.left source.new) result }
-        ensures counts { CountsByte self.old self.new result }
+    /// The first pending bytes are given to a line.
+    fn skip(&mut self, count: usize)
+        requires { count ≤ length self.old.pending }
+        ensures pending { self.new.pending ≡ drop count self.old.pending }
+        ensures counts { (self.new.taken ≡ self.old.taken + count) × (self.new.lines ≡ self.old.lines) }
+        ensures fewer { self.new.lines + count ≤ self.new.taken }
         ensures most { IsBounded self.new }
-        ensures cause { HasCause S.faults source.old source.new result }
     {
-        let filled = match self.fill(source) {
-            Ok(filled) => filled,
-            Err(failed) => return Err(failed),
-        };
-        match filled {
-            Filled::Some => Ok(Byte::One(self.take())),
-            Filled::End => Ok(Byte::End),
-            Filled::TooLong => Ok(Byte::TooLong),
-        }
+        self.from += count;
+    }
+
+    /// Gives a line the pending bytes before the first line end, so many of them at most. Whether a line end comes next.
+    /// Without memory nothing is given.
+    fn give(&mut self, line: &mut Vec<u8>, most: usize) -> Result<bool, AllocError>
+        ensures part { IfOk result (GivesPart self.old self.new line.old.items line.new.items most) }
+        ensures none { IfErr result (λ _. self.new ≡ self.old) }
+        ensures same { (self.new.lines ≡ self.old.lines) × (IsBounded self.old → IsBounded self.new) }
+    {
+        let pending = self.pending();
+        let (first, _) = pending.split_at(pending.len().min(most));
+        let (part, ends) = before_end(first);
+        let count = part.len();
+        line.extend_from_slice(part)?;
+        self.skip(count);
+        Ok(ends)
     }
 
     /// The next line, without its end.
@@ -156,20 +153,26 @@ impl Input {
     {
         let mut line = Vec::new(alloc);
         for _ in 0..LONGEST_LINE {
-            let next = match self.next_byte(source) {
-                Ok(next) => next,
+            let filled = match self.fill(source) {
+                Ok(filled) => filled,
                 Err(_) => return Err(NotRead::SourceFault),
             };
-            let byte = match next {
-                Byte::One(byte) => byte,
-                Byte::End => return Ok(ended(&line)),
-                Byte::TooLong => return Ok(Next::Bad),
-            };
-            if byte == b'\n' {
-                return Ok(self.finish(line));
+            match filled {
+                Filled::Some => {}
+                Filled::End => return Ok(ended(&line)),
+                Filled::TooLong => return Ok(Next::Bad),
             }
-            if line.push(byte).is_err() {
-                return Err(NotRead::Memory);
+            let room = LONGEST_LINE - line.len();
+            let ends = match self.give(&mut line, room) {
+                Ok(ends) => ends,
+                Err(_) => return Err(NotRead::Memory),
+            };
+            if line.len() == LONGEST_LINE {
+                return Ok(Next::Bad);
+            }
+            if ends {
+                self.skip(1);
+                return Ok(self.finish(line));
             }
         }
         Ok(Next::Bad)
@@ -190,6 +193,26 @@ impl Input {
         self.lines += 1;
         Next::Line(line)
     }
+}
+
+/// The bytes before the first line end, and whether there is one.
+fn before_end(bytes: &[u8]) -> (&[u8], bool)
+    ensures { IsFront bytes.now result.0.now result.1 }
+{
+    match line_end(bytes) {
+        None => (bytes, false),
+        Some(i) => {
+            let (front, _) = bytes.split_at(i);
+            (front, true)
+        }
+    }
+}
+
+fn line_end(bytes: &[u8]) -> Option<usize>
+    ensures place { result ≡ position is_end bytes.now }
+    ensures within { IfSome result (λ i. i < length bytes.now) }
+{
+    bytes.iter().position(|byte| *byte == b'\n')
 }
 
 /// The input ends behind these bytes of a line.

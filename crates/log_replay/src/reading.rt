@@ -13,6 +13,7 @@ ghost use Rattle.log_manager.specs.Payload.{IsPayloadOf, bytes_of};
 ghost use Rattle.log_manager.specs.Records.{AreRecordsOf};
 ghost use Rattle.log_replay.specs.Answers.{AreRead, AreTaken, IsBadBehind, IsBadHere, IsBadIn, IsCaused, IsLogFault, IsNotReplayed, IsTaken, IsUnread, Opens, refusal_of};
 ghost use Rattle.log_replay.specs.Replayed.{HasReplayed, IsReplayOf};
+ghost use Rattle.log_replay.specs.Whole.{AreWhole};
 ghost use Rattle.log_manager.specs.Devices.{HoldEnd};
 ghost use Rattle.log_replay.specs.declared.found.NotReplayed.TheVariants as refusals;
 
@@ -43,6 +44,8 @@ pub fn replay<L: Disk>(
         → OnOk result (AreRecordsOf 0 bs rs × (log.new.next ≡ length rs + 1)) }
     // Where the disk stands for none, or counts others, too.
     ensures bad { L.tells → (bs : List Block) → IsDurable L.told L.may_leave log.old bs → IfErr result (IsBadIn bs) }
+    // Where it answers Ok, each block has the records that it counts, whatever they are.
+    ensures spelled { L.tells → (bs : List Block) → IsDurable L.told L.may_leave log.old bs → OnOk result (AreWhole bs) }
     // No byte changes.
     ensures told { L.tells → L.told log.new.device ≡ L.told log.old.device }
     ensures durable { L.tells → (bs : List Block) → IsDurable L.told L.may_leave log.old bs → IsDurable L.told L.may_leave log.new bs }

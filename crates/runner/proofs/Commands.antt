@@ -50,12 +50,14 @@ use Rattle.runner.specs.LogDisk.{Keeps, HoldsOne, Leaves, lsn_from}
 use Rattle.runner.specs.Machine.{actives, IsFused, In, Runs, IsOver, LivesOn, Adds}
 use Rattle.transcript.specs.Printing.{escaped, shown}
 use Rattle.runner.specs.Refusals.{RefusesAt, CutAt, HasNoPlace, IsRequestNotBuilt}
-use Rattle.runner.specs.Turns.{Turn, Life, Active, Stage, LeftBy, Done, LogFault, Ended, Commits, IsCutOff, IsLeftBy, history_of, IsEnd, IsEndedAt, lives_of, last_after, without, IsAid, HasRoom, IsRightLife, turn, stage_step, longer, is_known, is_lawful, no_life, tx_of, log_of_life, Answers, EndedRow, IsNoStop}
-use Rattle.runner.specs.Text.{head}
+use Rattle.runner.specs.Rows.{IsCutOff, IsEnd, IsEndedAt, IsPut, HasRoom, is_known, is_lawful, no_life, EndedRow, IsNoStop}
+use Rattle.runner.specs.Turns.{Turn, Life, Active, Fuses, with_fuse, Stage, LeftBy, Done, LogFault, Ended, IsLeftBy, history_of, lives_of, last_after, without, IsRightLife, turn, stage_step, longer, tx_of, log_of_life}
+use Rattle.runner.specs.Text.{head, device_text}
 use Rattle.runner.specs.declared.session.Session.{Session}
 use Rattle.runner.specs.Standing.{Standing}
 use Rattle.runner.specs.declared.status.Status.{Status}
 use Rattle.runner.specs.declared.status.Status.TheVariants as statuses
+use Rattle.runner.proofs.Entered.{enters_own, enters_behind}
 use Rattle.runner.proofs.Lists.{any_taken, commits_append, first_kept_is, next_is, take_drop}
 use Rattle.runner.proofs.Lives.{calm_left, keeps_same, left_stands, right_more, safe_in}
 
@@ -191,7 +193,7 @@ module _ {D : Type 0} (L : Ghosts D) where
         closed (Some z) q = absurd cc
 
     pub did_nothing : (out : List ℕ) → out ≡ [] → Adds L.tells (In L log standing) s commands.Nothing out
-    did_nothing out is = record { turn = turn commands.Nothing [] Done; is = refl; fits = record { goes = h.goes; lawful = refl; row = (tt, refl) }; holds = h; lines = is }
+    did_nothing out is = record { turn = turn commands.Nothing [] Done; is = refl; fits = record { goes = h.goes; lawful = refl; row = (tt, enters_own L.tells s commands.Nothing [] refl) }; holds = h; lines = is }
 
     -- the life has ended
     pub did_end : (c : Command) (n : ℕ) (out : List ℕ) → log.ended ≡ Some n → is_lawful s c ≡ true → EndedRow c [] → out ≡ head c ++ codes " ended " ++ decimal n ++ codes "\n" → Adds L.tells (In L log standing) s c out
@@ -213,7 +215,7 @@ module _ {D : Type 0} (L : Ghosts D) where
       active = active;
       ended = ended ∙ h.ended ∙ sym ended';
       goes = cut ∙ h.goes;
-      fused = subst (λ (b : Bool). IsFused L log'.device b) (sym armed) (subst (λ (d : D). IsFused L d s.armed) (sym same) h.fused);
+      fused = subst (λ (f : Fuses). IsFused L log'.device f.log) (sym armed) (subst (λ (d : D). IsFused L d s.armed.log) (sym same) h.fused);
       lives = runs_on log' standing' (record { opening = h.here.opening; history = h.here.history ++ es }) log'.ended (ended' ∙ none) runs;
     }
 
@@ -231,7 +233,7 @@ module _ {D : Type 0} (L : Ghosts D) where
         record {
           turn = t;
           is = refl;
-          fits = record { goes = h.goes; lawful = rw (living, idle) refl; row = ((not_ended none, idle), (standing.next, standing.next, (λ t. subst (λ (x : Option Life). last_begun (history_of x) standing.next ≡ None) (sym h.life) ((r.calm t).calm.history.sessions standing.next (omega arith))), refl)) };
+          fits = record { goes = h.goes; lawful = rw (living, idle) refl; row = ((not_ended none, idle), enters_own L.tells s (commands.Begin name) (e ∷ []) (standing.next, standing.next, (λ t. subst (λ (x : Option Life). last_begun (history_of x) standing.next ≡ None) (sym h.life) ((r.calm t).calm.history.sessions standing.next (omega arith))), refl)) };
           holds = more none (e ∷ []) log' standing' (stage_step s t) refl refl
               ((λ i. record { name = sym z.2 i; tx = sym z.3 i } ∷ idle i) ∙ sym (ap actives z.1)) refl refl refl (ap (λ (x : LogState D). x.ended) same) (ap (λ (x : LogState D). x.device) same)
               (record {
@@ -318,14 +320,8 @@ module _ {D : Type 0} (L : Ghosts D) where
               goes = h.goes;
               lawful = lawful_here;
               row = (
-                (not_ended none, tt),
-                subst (λ (x : Option ℕ). Answers L.tells (log_of_life s.life) x (requests.Get key) es) (sym tx_here) (
-                  lock ∷ [],
-                  Said z.tx z.tx (requests.Get key) (replies.Found (live (rows_of standing.page) key)),
-                  refl,
-                  (refl, refl, λ _. tt),
-                  All-cons (IsAid z.tx (requests.Get key)) lock [] (refl, refl, refl) (All-nil (IsAid z.tx (requests.Get key))),
-                ),
+                not_ended none,
+                enters_behind L.tells s c lock (Said z.tx z.tx (requests.Get key) (replies.Found (live (rows_of standing.page) key))) [] (name, requests.Get key, refl, tx_here, (refl, refl)) (z.tx, tx_here, (z.tx, live (rows_of standing.page) key, refl)),
               );
             };
             holds = asked none c es history told refl (stage_step s t) refl refl refl refl refl refl (λ lsn limit calm. calm_get h.here.opening h.here.history (rows_of standing.page) standing.head o standing.next standing.commits lsn calm key);
@@ -346,14 +342,8 @@ module _ {D : Type 0} (L : Ghosts D) where
               goes = h.goes;
               lawful = lawful_here;
               row = (
-                (not_ended none, tt),
-                subst (λ (x : Option ℕ). Answers L.tells (log_of_life s.life) x (requests.Put key value) es) (sym tx_here) (
-                  lock ∷ [],
-                  Declined z.tx z.tx (requests.Put key value) (outcomes.Full 1 z.puts),
-                  refl,
-                  (refl, refl),
-                  All-cons (IsAid z.tx (requests.Put key value)) lock [] (refl, refl, refl) (All-nil (IsAid z.tx (requests.Put key value))),
-                ),
+                not_ended none,
+                enters_behind L.tells s c lock (Declined z.tx z.tx (requests.Put key value) (outcomes.Full 1 z.puts)) [] (name, requests.Put key value, refl, tx_here, (refl, refl)) (z.tx, tx_here, inr (z.tx, 1, z.puts, refl)),
               );
             };
             holds = asked none c es history told refl (stage_step s t) refl refl refl refl refl refl
@@ -369,12 +359,25 @@ module _ {D : Type 0} (L : Ghosts D) where
         calm_here t = subst (λ (x : Option Opened). Calm h.here.opening h.here.history (rows_of standing.page) standing.head x standing.next standing.commits (running none).lsn) opened_here ((running none).calm t).calm
 
         -- there is room to undo one write more
-        room_here : L.tells → z.puts + 3 ≤ standing.limit → HasRoom (log_of_life s.life) (requests.Put key value)
+        room_here : L.tells → z.puts + 3 ≤ standing.limit → HasRoom (log_of_life s.life)
         room_here t room =
             let c = (running none).calm t in
             let l = (calm_here t).log in
             let limit = limit_kept h.here.opening (log_of h.here.history) (calm_here t).found in
-            subst (λ (x : Option Life). HasRoom (log_of_life x) (requests.Put key value)) (sym h.life) (omega (arith, l.one_page, l.unfinished, limit, c.limit, room))
+            subst (λ (x : Option Life). HasRoom (log_of_life x)) (sym h.life) (omega (arith, l.one_page, l.unfinished, limit, c.limit, room))
+
+        -- the write of a put, and its answer
+        put_answer : (lsn : ℕ) → z.puts + 3 ≤ standing.limit
+            → IsPut L.tells (log_of_life s.life) z.tx key value (Rec lsn (writing o standing.head (rows_of standing.page) key value) ∷ Said z.tx z.tx (requests.Put key value) (replies.Was (live (rows_of standing.page) key)) ∷ [])
+        put_answer lsn room = record {
+          lsn = lsn;
+          write = record { tx = z.tx; prev = z.last; page = 1; page_prev = standing.head; key = key; old = live (rows_of standing.page) key; new = Some value };
+          of = (refl, refl, refl);
+          session = z.tx;
+          was = live (rows_of standing.page) key;
+          entries = refl;
+          room = λ u. room_here u room;
+        }
 
         -- the row of a put has no place on the page
         pub did_not_fit : (line : ℕ) → z.puts + 3 ≤ standing.limit → (IsRedoable w 1 standing.page → ⊥) → RefusesAt L log.device s (commands.Ask name (requests.Put key value)) line (statuses.NoSplit line)
@@ -399,6 +402,7 @@ module _ {D : Type 0} (L : Ghosts D) where
             let es = put_entries o standing.head (rows_of standing.page) r.lsn key value in
             let lock : Entry = Lock z.tx (point key) Exclusive in
             let write : Entry = Rec (r.lsn + 1) (writing o standing.head (rows_of standing.page) key value) in
+            let said : Entry = Said z.tx z.tx (requests.Put key value) (replies.Was (live (rows_of standing.page) key)) in
             let c : Command = commands.Ask name (requests.Put key value) in
             let t : Turn = turn c es Done in
             let z' = has_put log.next z standing'.session (subst (λ (x : Option Session). HasPut log.next x standing'.session) has put) in
@@ -409,14 +413,8 @@ module _ {D : Type 0} (L : Ghosts D) where
                 goes = h.goes;
                 lawful = lawful_here;
                 row = (
-                  (not_ended none, tt),
-                  subst (λ (x : Option ℕ). Answers L.tells (log_of_life s.life) x (requests.Put key value) es) (sym tx_here) (
-                    lock ∷ write ∷ [],
-                    Said z.tx z.tx (requests.Put key value) (replies.Was (live (rows_of standing.page) key)),
-                    refl,
-                    (refl, refl, λ u. room_here u room),
-                    All-cons (IsAid z.tx (requests.Put key value)) lock (write ∷ []) (refl, refl, refl) (All-cons (IsAid z.tx (requests.Put key value)) write [] (refl, refl, refl) (All-nil (IsAid z.tx (requests.Put key value)))),
-                  ),
+                  not_ended none,
+                  enters_behind L.tells s c lock write (said ∷ []) (name, requests.Put key value, refl, tx_here, (refl, refl)) (z.tx, tx_here, inl (put_answer (r.lsn + 1) room)),
                 );
               };
               holds = more none es log' standing' (stage_step s t) refl refl (h.active ∙ ap actives has ∙ sym z'.1) refl refl refl (ap (λ (x : LogState D). x.ended) added.is) (ap (λ (x : LogState D). x.device) added.is) (record {
@@ -490,12 +488,12 @@ module _ {D : Type 0} (L : Ghosts D) where
         right_then t = calm_right h.here.opening (h.here.history ++ e ∷ []) (rows_of standing.page) standing.head None standing.next (standing.commits + 1) (r.lsn + 1) (calm_then t)
 
         -- it is entered and isn't acknowledged
-        cut_row : IsCutOff L.tells s (commands.Commit name) (e ∷ [])
+        cut_row : IsCutOff L.tells Log s (commands.Commit name) (e ∷ [])
         cut_row = record {
-          calls = tt;
+          calls = refl;
           goes = not_ended none;
           rest = Acked z.tx z.tx ∷ [];
-          enters = subst (λ (x : Option ℕ). Commits x (e ∷ Acked z.tx z.tx ∷ [])) (sym tx_here) (z.tx, r.lsn + 1, z.last, refl);
+          enters = enters_own L.tells s (commands.Commit name) (e ∷ Acked z.tx z.tx ∷ []) (z.tx, tx_here, (z.tx, r.lsn + 1, z.last, refl));
           part = inr ((λ q. cc), (λ q. cc));
         }
 
@@ -531,7 +529,7 @@ module _ {D : Type 0} (L : Ghosts D) where
               }
 
           -- a fuse refused a call of it
-          pub failed_commit : (standing' : Standing) (n : ℕ) (out : List ℕ) → standing'.session ≡ standing.session → new.ended ≡ Some n → n ≡ durable_lsn new.places → s.armed ≡ true → IsFused L new.device s.armed → out ≡ name ++ codes " commit" ++ codes " log failed\n" → Adds L.tells (In L new standing') s (commands.Commit name) out
+          pub failed_commit : (standing' : Standing) (n : ℕ) (out : List ℕ) → standing'.session ≡ standing.session → new.ended ≡ Some n → n ≡ durable_lsn new.places → s.armed.log ≡ true → IsFused L new.device s.armed.log → out ≡ name ++ codes " commit" ++ codes " log failed\n" → Adds L.tells (In L new standing') s (commands.Commit name) out
           failed_commit standing' n out same ended number armed fused is =
               let t : Turn = turn (commands.Commit name) (e ∷ []) (LogFault n) in
               let here : Option Life = longer s.life (e ∷ []) in
@@ -575,7 +573,7 @@ module _ {D : Type 0} (L : Ghosts D) where
         -- it is acknowledged
         pub did_commit : (standing' : Standing) (out : List ℕ) → log.next ≤ durable_lsn new.places → new.ended ≡ None → new.next ≡ mid.next → first_kept new ≡ first_kept mid
             → (L.tells → (stable waiting : List Record) → IsLogOf L.told L.may_leave mid 0 stable waiting → (new ≡ mid) ⊎ IsLogOf L.told L.may_leave new 0 (stable ++ waiting) [])
-            → standing'.session ≡ None → standing'.commits ≡ standing.commits + 1 → standing'.history ≡ (standing.history ++ Rec (standing.last + 1) (committing o) ∷ []) ++ Acked z.tx z.tx ∷ [] → standing'.last ≡ standing.last + 1 → standing'.page ≡ standing.page → standing'.head ≡ standing.head → standing'.next ≡ standing.next → standing'.limit ≡ standing.limit → IsFused L new.device s.armed
+            → standing'.session ≡ None → standing'.commits ≡ standing.commits + 1 → standing'.history ≡ (standing.history ++ Rec (standing.last + 1) (committing o) ∷ []) ++ Acked z.tx z.tx ∷ [] → standing'.last ≡ standing.last + 1 → standing'.page ≡ standing.page → standing'.head ≡ standing.head → standing'.next ≡ standing.next → standing'.limit ≡ standing.limit → IsFused L new.device s.armed.log
             → out ≡ name ++ codes " commit " ++ decimal (standing.commits + 1) ++ codes "\n" → Adds L.tells (In L new standing') s (commands.Commit name) out
         did_commit standing' out reached live next first flushed closed count told last page head number limit fused is =
             let es = commit_entries o r.lsn in
@@ -588,7 +586,7 @@ module _ {D : Type 0} (L : Ghosts D) where
               fits = record {
                 goes = h.goes;
                 lawful = lawful_here;
-                row = (not_ended none, subst (λ (x : Option ℕ). Commits x es) (sym tx_here) (z.tx, r.lsn + 1, z.last, refl));
+                row = (not_ended none, enters_own L.tells s (commands.Commit name) es (z.tx, tx_here, (z.tx, r.lsn + 1, z.last, refl)));
               };
               holds = record {
                 past = h.past;
@@ -652,18 +650,18 @@ module _ {D : Type 0} (L : Ghosts D) where
       did_fuse device calls out log_is is = record {
         turn = turn (commands.Fuse device calls) [] Done;
         is = refl;
-        fits = record { goes = h.goes; lawful = refl; row = (log_is, refl) };
-        holds = record { past = h.past; here = h.here; life = h.life; active = h.active; ended = h.ended; goes = h.goes; fused = record { fuse = h.fused.fuse; renewed = λ e. absurd cc }; lives = lives_still log.ended h.lives };
-        lines = is;
+        fits = record { goes = h.goes; lawful = refl; row = (log_is, enters_own L.tells s (commands.Fuse device calls) [] refl) };
+        holds = record { past = h.past; here = h.here; life = h.life; active = h.active; ended = h.ended; goes = h.goes; fused = subst (λ (d : Device). IsFused L new (with_fuse d true s.armed).log) (sym log_is) (record { fuse = h.fused.fuse; renewed = λ e. absurd cc }); lives = lives_still log.ended h.lives };
+        lines = is ∙ ap (λ (d : Device). codes "fuse " ++ device_text d ++ codes " " ++ decimal calls ++ codes "\n") (sym log_is);
       }
 
       pub did_renew : (device : Device) (out : List ℕ) → device ≡ Log → (L.fuses → L.passes new ≡ None) → out ≡ codes "renew log\n" → Adds L.tells (In L (record log { device = new }) standing) s (commands.Renew device) out
       did_renew device out log_is renewed is = record {
         turn = turn (commands.Renew device) [] Done;
         is = refl;
-        fits = record { goes = h.goes; lawful = refl; row = (log_is, refl) };
-        holds = record { past = h.past; here = h.here; life = h.life; active = h.active; ended = h.ended; goes = h.goes; fused = record { fuse = h.fused.fuse; renewed = λ e. renewed h.fused.fuse }; lives = lives_still log.ended h.lives };
-        lines = is;
+        fits = record { goes = h.goes; lawful = refl; row = (log_is, enters_own L.tells s (commands.Renew device) [] refl) };
+        holds = record { past = h.past; here = h.here; life = h.life; active = h.active; ended = h.ended; goes = h.goes; fused = subst (λ (d : Device). IsFused L new (with_fuse d false s.armed).log) (sym log_is) (record { fuse = h.fused.fuse; renewed = λ e. renewed h.fused.fuse }); lives = lives_still log.ended h.lives };
+        lines = is ∙ ap (λ (d : Device). codes "renew " ++ device_text d ++ codes "\n") (sym log_is);
       }
 
     pub other_fuse : (device : Device) (calls line : ℕ) → device ≢ Log → RefusesAt L log.device s (commands.Fuse device calls) line (statuses.NotBuilt line)

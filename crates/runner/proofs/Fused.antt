@@ -18,7 +18,8 @@ use Rattle.runner.specs.Clause.{OfCommand, NotBuiltLine, Ended, Headline}
 use Rattle.runner.specs.LogDisk.{View, IsWhole, seen, Keeps, HoldsOne}
 use Rattle.runner.specs.Machine.{Out}
 use Rattle.runner.specs.Refusals.{IsNotBuilt}
-use Rattle.runner.specs.Turns.{Last, Start, Turn, Stage, Found, MayFind, IsRightLife, begin_stage, is_lawful, stage}
+use Rattle.runner.specs.Rows.{is_lawful}
+use Rattle.runner.specs.Turns.{Last, Start, Turn, Stage, Found, MayFind, IsRightLife, begin_stage, stage}
 use Rattle.runner.proofs.Lives.{keeps_only}
 
 -- what a fuse round a device says

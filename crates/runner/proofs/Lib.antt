@@ -1,6 +1,7 @@
 pub mod Beginnings
 pub mod Causes
 pub mod Commands
+pub mod Entered
 pub mod Fused
 pub mod Known
 pub mod Lists

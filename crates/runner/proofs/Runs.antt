@@ -17,7 +17,8 @@ use Rattle.runner.specs.declared.status.Status.TheVariants as statuses
 use Rattle.line_reader.specs.Lines.{Reader, to_come, first_reader, longest_script, IsBounded, IsLine, IsNoLine}
 use Rattle.line_reader.specs.Built.{is_built}
 use Rattle.runner.specs.Causes.{LineCause}
-use Rattle.runner.specs.Turns.{Start, Turn, Stage, Cut, turn, stage, stage_step, begin_stage, bytes_after, longer, Life, Fits, IsRightLife, lives, is_lawful}
+use Rattle.runner.specs.Rows.{Fits, is_lawful}
+use Rattle.runner.specs.Turns.{Start, Turn, Stage, Cut, turn, stage, stage_step, begin_stage, bytes_after, longer, Life, IsRightLife, lives}
 use Rattle.runner.specs.Text.{text, lines}
 use Rattle.runner.specs.Refusals.{RefusesAt, CutAt, IsOpen, IsFormat, IsNotBuilt, IsSplit}
 use Rattle.runner.specs.Machine.{Safe, Out, Adds}

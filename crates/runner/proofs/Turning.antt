@@ -6,7 +6,8 @@ use Rattle.wal_record.proofs.Along.{along_push, AllAlong_back}
 use Rattle.script.specs.declared.command.Command.{Command}
 use Rattle.script.specs.Line.{reads}
 use Rattle.line_reader.specs.Lines.{IsLine}
-use Rattle.runner.specs.Turns.{Start, Turn, stage, stage_step, begin_stage, Fits, FitsAt, fits_after}
+use Rattle.runner.specs.Rows.{Fits, FitsAt, fits_after}
+use Rattle.runner.specs.Turns.{Start, Turn, stage, stage_step, begin_stage}
 use Rattle.runner.specs.Text.{text, lines}
 use Rattle.runner.specs.Clause.{Script, command_of}
 

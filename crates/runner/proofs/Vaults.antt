@@ -7,7 +7,8 @@ use Rattle.script.specs.declared.command.Command.TheVariants as commands
 use Rattle.wal_record.specs.declared.entry.Entry.{Entry}
 use Rattle.wal_record.specs.declared.record.Record.{Record}
 use Rattle.runner.specs.Machine.{Adds}
-use Rattle.runner.specs.Turns.{End, Done, LogFault, Ended, Cut, Stage, Row, IsNoStop, stage_after}
+use Rattle.runner.specs.Rows.{Row, IsNoStop}
+use Rattle.runner.specs.Turns.{End, Done, TooMany, LogFault, VaultFault, Ended, Cut, Stage, stage_after}
 use Rattle.runner.specs.Vault.{IsCycled, IsVault, Cycles, Beside}
 
 may_self : (x : Stored) → MayLeave x x
@@ -25,14 +26,20 @@ uncycled : (s : Stage) (c : Command) (es : List Entry) (found : List Record) (en
 uncycled s (commands.Stop keep) es found end h = absurd h
 uncycled s (commands.Format limit) es found Done h = refl
 uncycled s (commands.Format limit) es found (LogFault n) h = refl
+uncycled s (commands.Format limit) es found TooMany h = refl
+uncycled s (commands.Format limit) es found VaultFault h = refl
 uncycled s (commands.Format limit) es found (Ended n) h = refl
 uncycled s (commands.Format limit) es found Cut h = refl
 uncycled s (commands.Commit name) es found Done h = refl
 uncycled s (commands.Commit name) es found (LogFault n) h = refl
+uncycled s (commands.Commit name) es found TooMany h = refl
+uncycled s (commands.Commit name) es found VaultFault h = refl
 uncycled s (commands.Commit name) es found (Ended n) h = refl
 uncycled s (commands.Commit name) es found Cut h = refl
 uncycled s _ es found Done h = refl
 uncycled s _ es found (LogFault n) h = refl
+uncycled s _ es found TooMany h = refl
+uncycled s _ es found VaultFault h = refl
 uncycled s _ es found (Ended n) h = refl
 uncycled s _ es found Cut h = refl
 
@@ -46,7 +53,9 @@ kind _ = inr tt
 -- a stop that fits is done
 cycled : (tells : Type 0) (s : Stage) (keep : Option ℕ) (es : List Entry) (found : List Record) (end : End) → Row tells s (commands.Stop keep) es found end → (stage_after s (commands.Stop keep) es found end).cycled ≡ true
 cycled tells s keep es found Done row = refl
+cycled tells s keep es found TooMany row = absurd (let x = row.1 in cc)
 cycled tells s keep es found (LogFault n) row = absurd row.1.calls
+cycled tells s keep es found VaultFault row = absurd row.1.calls
 cycled tells s keep es found (Ended n) row = absurd row.1
 cycled tells s keep es found Cut row = absurd row.calls
 

@@ -31,9 +31,12 @@ use Rattle.runner.specs.LogDisk.{View, Whole, Form, IsWhole, seen, Keeps, Leaves
 use Rattle.runner.specs.Machine.{actives, IsFused, Out, In, Safe, Adds, IsAt, Steps, Refuses}
 use Rattle.runner.specs.Openings.{Makes, IsMade, IsNotMade, IsBegun, IsNotBegun}
 use Rattle.runner.specs.Refusals.{RefusesAt}
-use Rattle.runner.specs.Turns.{Life, Stage, Last, Unformatted, Stopped, Done, LogFault, IsEnd, CallsLog, MayEnter, IsCutOff, IsOpenable, turn, room_of, no_life, is_lawful, last_after, bytes_after}
+use Rattle.runner.specs.Rows.{IsEnd, IsOwn, IsCutOff, IsOpenable, Calls, no_life, is_lawful}
+use Rattle.runner.specs.Text.{device_text}
+use Rattle.runner.specs.Turns.{Life, Stage, with_fuse, Last, Unformatted, Stopped, Done, LogFault, turn, room_of, last_after, bytes_after}
 use Rattle.runner.proofs.Lists.{some_commits, commits_of_some, open_of_some, no_losers}
 use Rattle.runner.proofs.Commands.{runs_on}
+use Rattle.runner.proofs.Entered.{enters_own}
 use Rattle.runner.proofs.Openings.{begun_keeps}
 use Rattle.runner.proofs.Known.{known_none}
 use Rattle.runner.proofs.Lives.{keeps_same, keeps_only, safe_out}
@@ -71,7 +74,7 @@ module _ {D F : Type 0} (T : Type 0) (L : Ghosts D) (inside : F → Stage → Ty
   out_memory = (out_leaves, out_known)
 
   pub out_nothing : (out : List ℕ) → out ≡ [] → Adds L.tells (Out T L disk) s commands.Nothing out
-  out_nothing out is = record { turn = turn commands.Nothing [] Done; is = refl; fits = record { goes = h.goes; lawful = refl; row = (tt, refl) }; holds = h; lines = is }
+  out_nothing out is = record { turn = turn commands.Nothing [] Done; is = refl; fits = record { goes = h.goes; lawful = refl; row = (tt, enters_own L.tells s commands.Nothing [] refl) }; holds = h; lines = is }
 
   abbrev Stops : D → Command → ℕ → Status → Type 0
   Stops left c line status = RefusesAt L left s c line status × Known T L (bytes_after s.life s.bytes) left
@@ -89,8 +92,8 @@ module _ {D F : Type 0} (T : Type 0) (L : Ghosts D) (inside : F → Stage → Ty
   no_end n = subst (λ (x : Option Life). IsEnd x n) (sym h.life) tt
 
   -- a command without entries is cut off
-  none_entered : (c : Command) → CallsLog c → MayEnter L.tells s c [] → IsCutOff L.tells s c []
-  none_entered c calls enters = record { calls = calls; goes = h.ended; rest = []; enters = enters; part = inl (refl, refl) }
+  none_entered : (c : Command) → Calls c Log → IsOwn L.tells s c [] → IsCutOff L.tells Log s c []
+  none_entered c calls enters = record { calls = calls; goes = h.ended; rest = []; enters = enters_own L.tells s c [] enters; part = inl (refl, refl) }
 
   -- ---- a format
 
@@ -102,8 +105,8 @@ module _ {D F : Type 0} (T : Type 0) (L : Ghosts D) (inside : F → Stage → Ty
     did_format left out F' made may b is = record {
       turn = turn (commands.Format limit) [] Done;
       is = refl;
-      fits = record { goes = h.goes; lawful = lawful_format; row = ((may s.bytes h.bytes, λ t. (made t s.last (h.keeps t)).none), refl) };
-      holds = record { past = h.past; life = h.life; active = h.active; ended = h.ended; goes = h.goes; fused = fused_after L disk left F' b s.armed h.fused; keeps = λ t. (made t s.last (h.keeps t)).keeps; bytes = known_none T L s.bytes left (may s.bytes h.bytes) };
+      fits = record { goes = h.goes; lawful = lawful_format; row = ((may s.bytes h.bytes, λ t. (made t s.last (h.keeps t)).none), enters_own L.tells s (commands.Format limit) [] refl) };
+      holds = record { past = h.past; life = h.life; active = h.active; ended = h.ended; goes = h.goes; fused = fused_after L disk left F' b s.armed.log h.fused; keeps = λ t. (made t s.last (h.keeps t)).keeps; bytes = known_none T L s.bytes left (may s.bytes h.bytes) };
       lines = is;
     }
 
@@ -111,7 +114,7 @@ module _ {D F : Type 0} (T : Type 0) (L : Ghosts D) (inside : F → Stage → Ty
     refuses_format left line statuses.Memory not = leaves_as left s.last (λ t. not t s.last (h.keeps t))
     refuses_format left line statuses.LogFault not = record {
       entries = [];
-      fits = record { goes = h.goes; lawful = lawful_format; row = none_entered (commands.Format limit) tt refl };
+      fits = record { goes = h.goes; lawful = lawful_format; row = none_entered (commands.Format limit) refl refl };
       right = (safe_out L T disk s h).right;
       leaves = leaves_as left (Unformatted s.last (room_of limit)) (λ t. not t s.last (h.keeps t));
     }
@@ -123,14 +126,14 @@ module _ {D F : Type 0} (T : Type 0) (L : Ghosts D) (inside : F → Stage → Ty
     format_refused left line before status failed (steps.Goes out at) is r not b text stays = subst (λ (x : At D F). Adds L.tells (IsAt T L inside x) s (commands.Format limit) out.items) (sym r.2) (record {
       turn = turn (commands.Format limit) [] (LogFault 0);
       is = refl;
-      fits = record { goes = h.goes; lawful = lawful_format; row = (armed_by L disk left (status ≡ statuses.LogFault) b s.armed h.fused (λ e. omega (arith, r.3, is, e)), none_entered (commands.Format limit) tt refl, λ t. no_end s.ended) };
+      fits = record { goes = h.goes; lawful = lawful_format; row = (armed_by L disk left (status ≡ statuses.LogFault) b s.armed.log h.fused (λ e. omega (arith, r.3, is, e)), none_entered (commands.Format limit) refl refl, λ t. no_end s.ended) };
       holds = record {
         past = h.past;
         life = h.life;
         active = h.active;
         ended = h.ended;
         goes = h.goes;
-        fused = fused_after L disk left (status ≡ statuses.LogFault) b s.armed h.fused;
+        fused = fused_after L disk left (status ≡ statuses.LogFault) b s.armed.log h.fused;
         keeps = λ t. subst (λ (x : Status). IsNotMade L (room_of limit) disk left x) r.0 not t s.last (h.keeps t);
         bytes = stays s.bytes h.bytes;
       };
@@ -145,7 +148,7 @@ module _ {D F : Type 0} (T : Type 0) (L : Ghosts D) (inside : F → Stage → Ty
   refuses_open left line statuses.Memory not = leaves_as left s.last (λ t. not t s.last (h.keeps t))
   refuses_open left line statuses.LogFault not = record {
     entries = [];
-    fits = record { goes = h.goes; lawful = lawful_out; row = none_entered commands.Open tt refl };
+    fits = record { goes = h.goes; lawful = lawful_out; row = none_entered commands.Open refl refl };
     right = (safe_out L T disk s h).right;
     leaves = leaves_as left s.last (λ t. not t s.last (h.keeps t));
   }
@@ -163,14 +166,14 @@ module _ {D F : Type 0} (T : Type 0) (L : Ghosts D) (inside : F → Stage → Ty
   open_refused left line before status failed (steps.Goes out at) is r not b text stays = subst (λ (x : At D F). Adds L.tells (IsAt T L inside x) s commands.Open out.items) (sym r.2) (record {
     turn = turn commands.Open [] (LogFault 0);
     is = refl;
-    fits = record { goes = h.goes; lawful = lawful_out; row = (armed_by L disk left (status ≡ statuses.LogFault) b s.armed h.fused (λ e. omega (arith, r.3, is, e)), none_entered commands.Open tt refl, λ t. no_end s.ended) };
+    fits = record { goes = h.goes; lawful = lawful_out; row = (armed_by L disk left (status ≡ statuses.LogFault) b s.armed.log h.fused (λ e. omega (arith, r.3, is, e)), none_entered commands.Open refl refl, λ t. no_end s.ended) };
     holds = record {
       past = h.past;
       life = h.life;
       active = h.active;
       ended = h.ended;
       goes = h.goes;
-      fused = fused_after L disk left (status ≡ statuses.LogFault) b s.armed h.fused;
+      fused = fused_after L disk left (status ≡ statuses.LogFault) b s.armed.log h.fused;
       keeps = λ t. subst (λ (x : Status). IsNotBegun L line disk left x) r.0 not t s.last (h.keeps t);
       bytes = stays s.bytes h.bytes;
     };
@@ -189,18 +192,18 @@ module _ {D F : Type 0} (T : Type 0) (L : Ghosts D) (inside : F → Stage → Ty
     did_fuse device calls out log is = record {
       turn = turn (commands.Fuse device calls) [] Done;
       is = refl;
-      fits = record { goes = h.goes; lawful = refl; row = (log, refl) };
-      holds = record { past = h.past; life = h.life; active = h.active; ended = h.ended; goes = h.goes; fused = record { fuse = h.fused.fuse; renewed = λ e. absurd cc }; keeps = still_keeps; bytes = stays s.bytes h.bytes };
-      lines = is;
+      fits = record { goes = h.goes; lawful = refl; row = (log, enters_own L.tells s (commands.Fuse device calls) [] refl) };
+      holds = record { past = h.past; life = h.life; active = h.active; ended = h.ended; goes = h.goes; fused = subst (λ (d : Device). IsFused L left (with_fuse d true s.armed).log) (sym log) (record { fuse = h.fused.fuse; renewed = λ e. absurd cc }); keeps = still_keeps; bytes = stays s.bytes h.bytes };
+      lines = is ∙ ap (λ (d : Device). codes "fuse " ++ device_text d ++ codes " " ++ decimal calls ++ codes "\n") (sym log);
     }
 
     pub did_renew : (device : Device) (out : List ℕ) → device ≡ Log → (L.fuses → L.passes left ≡ None) → out ≡ codes "renew log\n" → Adds L.tells (Out T L left) s (commands.Renew device) out
     did_renew device out log renewed is = record {
       turn = turn (commands.Renew device) [] Done;
       is = refl;
-      fits = record { goes = h.goes; lawful = refl; row = (log, refl) };
-      holds = record { past = h.past; life = h.life; active = h.active; ended = h.ended; goes = h.goes; fused = record { fuse = h.fused.fuse; renewed = λ e. renewed h.fused.fuse }; keeps = still_keeps; bytes = stays s.bytes h.bytes };
-      lines = is;
+      fits = record { goes = h.goes; lawful = refl; row = (log, enters_own L.tells s (commands.Renew device) [] refl) };
+      holds = record { past = h.past; life = h.life; active = h.active; ended = h.ended; goes = h.goes; fused = subst (λ (d : Device). IsFused L left (with_fuse d false s.armed).log) (sym log) (record { fuse = h.fused.fuse; renewed = λ e. renewed h.fused.fuse }); keeps = still_keeps; bytes = stays s.bytes h.bytes };
+      lines = is ∙ ap (λ (d : Device). codes "renew " ++ device_text d ++ codes "\n") (sym log);
     }
 
   -- the fuse of another device
@@ -215,7 +218,7 @@ pub did_stop : {D : Type 0} (T : Type 0) (L : Ghosts D) (disk left : D) (s : Sta
 did_stop T L disk left s safe stays keep out may only renewed is = record {
   turn = turn (commands.Stop keep) [] Done;
   is = refl;
-  fits = record { goes = safe.goes; lawful = refl; row = (tt, refl) };
+  fits = record { goes = safe.goes; lawful = refl; row = (tt, enters_own L.tells s (commands.Stop keep) [] refl) };
   holds = record {
     past = safe.right;
     life = refl;
@@ -249,7 +252,7 @@ did_open L (Whole t) disk s h may log standing out F begun closed live b is =
     record {
       turn = record { command = commands.Open; entries = []; found = k.opening; end = Done };
       is = refl;
-      fits = record { goes = h.goes; lawful = ap no_life h.life; row = ((may s.bytes h.bytes, λ _. (k.found, openable)), refl) };
+      fits = record { goes = h.goes; lawful = ap no_life h.life; row = ((may s.bytes h.bytes, λ _. (k.found, openable)), enters_own M.tells s commands.Open [] refl) };
       holds = record {
         past = h.past;
         here = life;
@@ -257,7 +260,7 @@ did_open L (Whole t) disk s h may log standing out F begun closed live b is =
         active = h.active ∙ sym (ap actives closed);
         ended = h.ended ∙ sym live;
         goes = h.goes;
-        fused = fused_after M disk log.device F b s.armed h.fused;
+        fused = fused_after M disk log.device F b s.armed.log h.fused;
         lives = runs_on M log standing life log.ended live (record { count = count; lsn = length k.opening; calm = λ _. k.calm });
       };
       lines = is ∙ (λ i. codes "open commits=" ++ decimal ((sym count ∙ ap commits (append-nil k.opening)) i) ++ codes " losers=" ++ decimal (length (sym openable.settled i)) ++ codes "\n");
@@ -269,7 +272,7 @@ did_open L Form disk s h may log standing out F begun closed live b is =
     record {
       turn = record { command = commands.Open; entries = []; found = opening; end = Done };
       is = refl;
-      fits = record { goes = h.goes; lawful = ap no_life h.life; row = ((may s.bytes h.bytes, λ t. absurd t), refl) };
+      fits = record { goes = h.goes; lawful = ap no_life h.life; row = ((may s.bytes h.bytes, λ t. absurd t), enters_own M.tells s commands.Open [] refl) };
       holds = record {
         past = h.past;
         here = life;
@@ -277,7 +280,7 @@ did_open L Form disk s h may log standing out F begun closed live b is =
         active = h.active ∙ sym (ap actives closed);
         ended = h.ended ∙ sym live;
         goes = h.goes;
-        fused = fused_after M disk log.device F b s.armed h.fused;
+        fused = fused_after M disk log.device F b s.armed.log h.fused;
         lives = runs_on M log standing life log.ended live (record { count = ap commits (append-nil opening) ∙ commits_of_some standing.commits; lsn = 0; calm = λ t. absurd t });
       };
       lines = is ∙ (λ i. codes "open commits=" ++ decimal (sym (commits_of_some standing.commits) i) ++ codes " losers=" ++ decimal (length (sym (no_losers opening (open_of_some standing.commits)) i)) ++ codes "\n");

@@ -12,7 +12,8 @@ use Rattle.script.specs.Line.{reads}
 use Rattle.line_reader.specs.Lines.{Reader, to_come, longest_script, IsBounded, IsLine, IsNoLine}
 use Rattle.line_reader.specs.Built.{is_built}
 use Rattle.runner.specs.Bytes.{Known}
-use Rattle.runner.specs.Turns.{Start, Turn, Stage, stage, bytes_after, Fits, IsRightLife, MayFind, lives, is_lawful}
+use Rattle.runner.specs.Rows.{Fits, is_lawful}
+use Rattle.runner.specs.Turns.{Start, Turn, Stage, stage, bytes_after, IsRightLife, MayFind, lives}
 use Rattle.runner.specs.Refusals.{IsNotBuilt, IsSplit, IsOpen, IsFormat, FindsLog}
 use Rattle.runner.specs.Status.{cuts}
 use Rattle.runner.specs.Text.{text}

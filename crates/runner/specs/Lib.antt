@@ -9,6 +9,7 @@ pub mod NextCall
 pub mod Openings
 pub mod Promises
 pub mod Refusals
+pub mod Rows
 pub mod Session
 pub mod Standing
 pub mod Status

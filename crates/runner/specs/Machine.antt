@@ -27,7 +27,8 @@ use Rattle.runner.specs.Leaf.{rows_of}
 use Rattle.runner.specs.LogDisk.{Keeps, Leaves, lsn_from}
 use Rattle.runner.specs.Refusals.{RefusesAt}
 use Rattle.runner.specs.Text.{lines}
-use Rattle.runner.specs.Turns.{Turn, Life, Active, Stage, LeftBy, bytes_after, stage_step, FitsAt, IsRightLife, lives}
+use Rattle.runner.specs.Rows.{FitsAt}
+use Rattle.runner.specs.Turns.{Turn, Life, Active, Stage, LeftBy, bytes_after, stage_step, IsRightLife, lives}
 
 abbrev pub actives : Option Session → List Active
 actives None = []
@@ -45,7 +46,7 @@ pub record Out {D : Type 0} (tells : Type 0) (L : Ghosts D) (disk : D) (s : Stag
   pub active : ◌≡◌ {A = List Active} s.active []
   pub ended : s.ended ≡ None
   pub goes : s.cut ≡ false
-  pub fused : IsFused L disk s.armed
+  pub fused : IsFused L disk s.armed.log
   pub keeps : L.tells → Keeps L s.last disk
   pub bytes : Known tells L s.bytes disk
 
@@ -92,7 +93,7 @@ pub record In {D : Type 0} (L : Ghosts D) (log : LogState D) (standing : Standin
   pub active : s.active ≡ actives standing.session
   pub ended : s.ended ≡ log.ended
   pub goes : s.cut ≡ false
-  pub fused : IsFused L log.device s.armed
+  pub fused : IsFused L log.device s.armed.log
   pub lives : LivesOn L log standing here log.ended
 
 -- within a life that has this leaf in hand

@@ -18,7 +18,8 @@ use Rattle.script.specs.declared.command.Command.TheVariants as commands
 use Rattle.runner.specs.declared.status.Status.{Status}
 use Rattle.runner.specs.declared.status.Status.TheVariants as statuses
 use Rattle.runner.specs.LogDisk.{StandsOn, Leaves}
-use Rattle.runner.specs.Turns.{Stage, Last, MayFind, Cut, turn, stage_step, FitsAt, HasRoom, is_lawful, lives, log_of_life, IsRightLife}
+use Rattle.runner.specs.Rows.{FitsAt, HasRoom, is_lawful}
+use Rattle.runner.specs.Turns.{Stage, Last, MayFind, Cut, turn, stage_step, lives, log_of_life, IsRightLife}
 
 abbrev pub IsRequestNotBuilt : Request → Type 0
 IsRequestNotBuilt (requests.Get key) = ⊥
@@ -47,7 +48,7 @@ pub record HasNoPlace (log : List Record) (key value : List ℕ) : Type 0 where
   pub rows : List LeafRow
   pub leaf : image log 1 ≡ Some (only_leaf rows)
   pub size : page_room < state_size (only_leaf (with_row rows key value))
-  pub room : HasRoom log (requests.Put key value)
+  pub room : HasRoom log
 
 abbrev pub IsSplit : Type 0 → Stage → Command → Type 0
 IsSplit tells s (commands.Ask name (requests.Put key value)) = (s.ended ≡ None) × (tells → HasNoPlace (log_of_life s.life) key value)

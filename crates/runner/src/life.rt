@@ -5,7 +5,7 @@ ghost use Rattle.runner.specs.Causes.{LifeCause};
 ghost use Rattle.wal_record.specs.declared.record.Record.{Record};
 ghost use Rattle.runner.specs.Active.{is_active, puts_of, HasCommitRoom};
 ghost use Rattle.runner.specs.Standing.{standing_with, HasNumbers};
-ghost use Rattle.runner.specs.Turns.{IsNoStop};
+ghost use Rattle.runner.specs.Rows.{IsNoStop};
 ghost use Rattle.runner.specs.Machine.{BeginsOn};
 ghost use Rattle.runner.specs.Promises.{parts, Did, Refused};
 ghost use Rattle.script.specs.declared.command.Command.TheVariants as commands;

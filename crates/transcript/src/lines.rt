@@ -1,5 +1,5 @@
 //! The lines, one function each.
-ghost use Rattle.std.specs.Prelude.{◌≡◌, ◌++◌, ◌<◌, IfOk, OnOk, codes};
+ghost use Rattle.std.specs.Prelude.{◌≡◌, ◌++◌, ◌<◌, [], IfOk, OnOk, codes};
 ghost use Rattle.std.specs.Fmt.{decimal};
 ghost use Rattle.std.specs.List.{flat_map};
 ghost use Rattle.transcript.specs.Printing.{escaped, escaped_byte, digit, shown};
@@ -8,6 +8,16 @@ use itoa::Buffer;
 use script::{Name, is_plain};
 use std::alloc::{AllocError, Global};
 use store_model::{Key, Lsn, Value};
+
+/// Room for the bytes of a line whose texts are short.
+const ROOM: usize = 64;
+
+/// A line without bytes yet. It has the room of most lines, so that they are never moved.
+fn empty(alloc: Global) -> Result<Vec<u8>, AllocError>
+    ensures { IfOk result (λ out. out.items ≡ []) }
+{
+    Vec::with_capacity(alloc, ROOM)
+}
 
 fn digit(number: u8) -> u8
     requires { number < 16 }
@@ -31,7 +41,8 @@ fn add_byte(out: &mut Vec<u8>, byte: u8) -> Result<(), AllocError>
     ensures { OnOk result (out.new.items ≡ out.old.items ++ escaped_byte byte) }
 {
     if is_plain(byte) {
-        add(out, [byte].as_slice())
+        out.push(byte)?;
+        Ok(())
     } else {
         add(out, [b'%', digit(byte / 16), digit(byte % 16)].as_slice())
     }
@@ -79,7 +90,7 @@ fn add_number(out: &mut Vec<u8>, number: u64) -> Result<(), AllocError>
 pub fn format_line(alloc: Global) -> Result<Vec<u8>, AllocError>
     ensures { IfOk result (λ out. out.items ≡ codes "format ok\n") }
 {
-    let mut out = Vec::new(alloc);
+    let mut out = empty(alloc)?;
     add(&mut out, b"format ok\n".as_slice())?;
     Ok(out)
 }
@@ -88,7 +99,7 @@ pub fn format_line(alloc: Global) -> Result<Vec<u8>, AllocError>
 pub fn format_failed(alloc: Global) -> Result<Vec<u8>, AllocError>
     ensures { IfOk result (λ out. out.items ≡ codes "format log failed\n") }
 {
-    let mut out = Vec::new(alloc);
+    let mut out = empty(alloc)?;
     add(&mut out, b"format log failed\n".as_slice())?;
     Ok(out)
 }
@@ -97,7 +108,7 @@ pub fn format_failed(alloc: Global) -> Result<Vec<u8>, AllocError>
 pub fn open_line(alloc: Global, commits: u64, losers: u64) -> Result<Vec<u8>, AllocError>
     ensures { IfOk result (λ out. out.items ≡ codes "open commits=" ++ decimal commits ++ codes " losers=" ++ decimal losers ++ codes "\n") }
 {
-    let mut out = Vec::new(alloc);
+    let mut out = empty(alloc)?;
     add(&mut out, b"open commits=".as_slice())?;
     add_number(&mut out, commits)?;
     add(&mut out, b" losers=".as_slice())?;
@@ -110,7 +121,7 @@ pub fn open_line(alloc: Global, commits: u64, losers: u64) -> Result<Vec<u8>, Al
 pub fn open_failed(alloc: Global) -> Result<Vec<u8>, AllocError>
     ensures { IfOk result (λ out. out.items ≡ codes "open log failed\n") }
 {
-    let mut out = Vec::new(alloc);
+    let mut out = empty(alloc)?;
     add(&mut out, b"open log failed\n".as_slice())?;
     Ok(out)
 }
@@ -119,7 +130,7 @@ pub fn open_failed(alloc: Global) -> Result<Vec<u8>, AllocError>
 pub fn stop_line(alloc: Global) -> Result<Vec<u8>, AllocError>
     ensures { IfOk result (λ out. out.items ≡ codes "stop\n") }
 {
-    let mut out = Vec::new(alloc);
+    let mut out = empty(alloc)?;
     add(&mut out, b"stop\n".as_slice())?;
     Ok(out)
 }
@@ -128,7 +139,7 @@ pub fn stop_line(alloc: Global) -> Result<Vec<u8>, AllocError>
 pub fn fuse_line(alloc: Global, calls: u64) -> Result<Vec<u8>, AllocError>
     ensures { IfOk result (λ out. out.items ≡ codes "fuse log " ++ decimal calls ++ codes "\n") }
 {
-    let mut out = Vec::new(alloc);
+    let mut out = empty(alloc)?;
     add(&mut out, b"fuse log ".as_slice())?;
     add_number(&mut out, calls)?;
     add(&mut out, b"\n".as_slice())?;
@@ -139,7 +150,7 @@ pub fn fuse_line(alloc: Global, calls: u64) -> Result<Vec<u8>, AllocError>
 pub fn renew_line(alloc: Global) -> Result<Vec<u8>, AllocError>
     ensures { IfOk result (λ out. out.items ≡ codes "renew log\n") }
 {
-    let mut out = Vec::new(alloc);
+    let mut out = empty(alloc)?;
     add(&mut out, b"renew log\n".as_slice())?;
     Ok(out)
 }
@@ -148,7 +159,7 @@ pub fn renew_line(alloc: Global) -> Result<Vec<u8>, AllocError>
 pub fn begin_line(alloc: Global, name: &Name) -> Result<Vec<u8>, AllocError>
     ensures { IfOk result (λ out. out.items ≡ name.now ++ codes " begin\n") }
 {
-    let mut out = Vec::new(alloc);
+    let mut out = empty(alloc)?;
     add(&mut out, name.as_bytes())?;
     add(&mut out, b" begin\n".as_slice())?;
     Ok(out)
@@ -158,7 +169,7 @@ pub fn begin_line(alloc: Global, name: &Name) -> Result<Vec<u8>, AllocError>
 pub fn begin_ended(alloc: Global, name: &Name, at: Lsn) -> Result<Vec<u8>, AllocError>
     ensures { IfOk result (λ out. out.items ≡ name.now ++ codes " begin" ++ codes " ended " ++ decimal at ++ codes "\n") }
 {
-    let mut out = Vec::new(alloc);
+    let mut out = empty(alloc)?;
     add(&mut out, name.as_bytes())?;
     add(&mut out, b" begin".as_slice())?;
     add(&mut out, b" ended ".as_slice())?;
@@ -171,7 +182,7 @@ pub fn begin_ended(alloc: Global, name: &Name, at: Lsn) -> Result<Vec<u8>, Alloc
 fn get_head(alloc: Global, name: &Name, key: &Key) -> Result<Vec<u8>, AllocError>
     ensures { IfOk result (λ out. out.items ≡ name.now ++ codes " get " ++ escaped key.now) }
 {
-    let mut out = Vec::new(alloc);
+    let mut out = empty(alloc)?;
     add(&mut out, name.as_bytes())?;
     add(&mut out, b" get ".as_slice())?;
     add_escaped(&mut out, key.as_bytes())?;
@@ -208,7 +219,7 @@ pub fn get_ended(alloc: Global, name: &Name, key: &Key, at: Lsn) -> Result<Vec<u
 fn put_head(alloc: Global, name: &Name, key: &Key) -> Result<Vec<u8>, AllocError>
     ensures { IfOk result (λ out. out.items ≡ name.now ++ codes " put " ++ escaped key.now) }
 {
-    let mut out = Vec::new(alloc);
+    let mut out = empty(alloc)?;
     add(&mut out, name.as_bytes())?;
     add(&mut out, b" put ".as_slice())?;
     add_escaped(&mut out, key.as_bytes())?;
@@ -265,7 +276,7 @@ pub fn put_ended(alloc: Global, name: &Name, key: &Key, at: Lsn) -> Result<Vec<u
 pub fn commit_line(alloc: Global, name: &Name, number: u64) -> Result<Vec<u8>, AllocError>
     ensures { IfOk result (λ out. out.items ≡ name.now ++ codes " commit " ++ decimal number ++ codes "\n") }
 {
-    let mut out = Vec::new(alloc);
+    let mut out = empty(alloc)?;
     add(&mut out, name.as_bytes())?;
     add(&mut out, b" commit ".as_slice())?;
     add_number(&mut out, number)?;
@@ -277,7 +288,7 @@ pub fn commit_line(alloc: Global, name: &Name, number: u64) -> Result<Vec<u8>, A
 pub fn commit_failed(alloc: Global, name: &Name) -> Result<Vec<u8>, AllocError>
     ensures { IfOk result (λ out. out.items ≡ name.now ++ codes " commit" ++ codes " log failed\n") }
 {
-    let mut out = Vec::new(alloc);
+    let mut out = empty(alloc)?;
     add(&mut out, name.as_bytes())?;
     add(&mut out, b" commit".as_slice())?;
     add(&mut out, b" log failed\n".as_slice())?;
@@ -288,7 +299,7 @@ pub fn commit_failed(alloc: Global, name: &Name) -> Result<Vec<u8>, AllocError>
 pub fn commit_ended(alloc: Global, name: &Name, at: Lsn) -> Result<Vec<u8>, AllocError>
     ensures { IfOk result (λ out. out.items ≡ name.now ++ codes " commit" ++ codes " ended " ++ decimal at ++ codes "\n") }
 {
-    let mut out = Vec::new(alloc);
+    let mut out = empty(alloc)?;
     add(&mut out, name.as_bytes())?;
     add(&mut out, b" commit".as_slice())?;
     add(&mut out, b" ended ".as_slice())?;

@@ -14,6 +14,9 @@ returns-in-Ok-clause-records g c = λ t bs rs d hold sound.
     let all = c.in-Ok.ensures.met t bs rs d (whole_log rs bs hold one) one sound.lawful in
     on_ok c.found.result _ (whole_log rs bs hold one, all.1)
 
+pub returns-in-Ok-clause-spelled : goal.returns-in-Ok-clause-spelled
+returns-in-Ok-clause-spelled g c = λ t bs d. let read = c.in-Ok.ensures.read t bs d in on_ok c.found.result _ (read.log, read.spelled)
+
 pub returns-in-Ok-clause-cause : goal.returns-in-Ok-clause-cause
 returns-in-Ok-clause-cause g c = no_fault _ _ c.found.result c.found.ensures.kind
 

@@ -39,7 +39,7 @@ returns-in-Ok-clause-ok g c = λ v s h.
     c.committed.ensures.session c.committed.ensures.commits
     (ap (λ (l : Leaf). l.history) leaf ∙ (λ i. (c.args.self.now.leaf.history ++ commit_entries (c.args.self.now.leaf.last + 1) (opened.0 i) (opened.1 i)) ++ acknowledge_entries (opened.0 i)))
     (ap (λ (l : Leaf). l.last) leaf) (ap (λ (l : Leaf). Some l.state) leaf) (ap (λ (l : Leaf). l.head) leaf) c.committed.ensures.same.0 c.committed.ensures.same.1
-    (fused_after M c.args.self.now.log.log.device new.device (IsErrAnd c.flush_to.result IsLogFault) blames s.armed h.fused) c.requires.done
+    (fused_after M c.args.self.now.log.log.device new.device (IsErrAnd c.flush_to.result IsLogFault) blames s.armed.log h.fused) c.requires.done
 
 pub returns-then-refused-clause-ok : goal.returns-then-refused-clause-ok
 returns-then-refused-clause-ok g c = λ v s h.
@@ -55,8 +55,8 @@ returns-then-refused-clause-ok g c = λ v s h.
     failed_commit M s c.args.self.now.log.log (standing_with c.args.self.now.leaf c.args.self.now.transactions) h c.args.name.now z named.1 named.2 c.requires.goes mid new added adds c.requires.numbers.next_lsn c.args.self.now.transactions.number.1
     (λ t. let k = (running M s c.args.self.now.log.log (standing_with c.args.self.now.leaf c.args.self.now.transactions) h c.requires.goes).calm t in c.flush_to.ensures.left (tells_of v t) 0 _ _ (adds t _ _ k.stands))
     (standing_with c.commit.new.self c.args.self.now.transactions) _ c.args.failed.items refl (subst (λ (f : Fault). Refused ⊥ g.L.Disk.faults mid new f) c.in-Err-LogFault.field-0-is c.in-Err-LogFault.ensures.refused).2 refl
-    (armed_by M c.args.self.now.log.log.device new.device (IsErrAnd c.flush_to.result IsLogFault) blames s.armed h.fused (λ e. omega (arith, c.if-refused.true, c.refused.ensures, c.requires.before.0, e)))
-    (fused_after M c.args.self.now.log.log.device new.device (IsErrAnd c.flush_to.result IsLogFault) blames s.armed h.fused) c.requires.failed
+    (armed_by M c.args.self.now.log.log.device new.device (IsErrAnd c.flush_to.result IsLogFault) blames s.armed.log h.fused (λ e. omega (arith, c.if-refused.true, c.refused.ensures, c.requires.before.0, e)))
+    (fused_after M c.args.self.now.log.log.device new.device (IsErrAnd c.flush_to.result IsLogFault) blames s.armed.log h.fused) c.requires.failed
 
 pub returns-in-Err-LogFault-clause-err : goal.returns-in-Err-LogFault-clause-err
 returns-in-Err-LogFault-clause-err g c = λ line v s h.
