@@ -1,6 +1,6 @@
 -- What a device's pass and a caller's pass tell each other.
-use Rattle.std.proofs.Common.{◌≡◌, ℕ, ◌≤◌, List, sym, subst, arith, inl, inr}
-use Rattle.std.specs.Prelude.{◌⊎◌, max, Option, Result, Ok, Err, OnOk}
+use Rattle.std.proofs.Common.{◌≡◌, ℕ, ◌≤◌, List, refl, sym, subst, arith, inl, inr}
+use Rattle.std.specs.Prelude.{◌⊎◌, max, Option, Some, None, Result, Ok, Err, OnOk}
 use Rattle.std.proofs.Math.Nat.{le-max_left, le-max_right}
 use mathlib.Core.List.{IsPrefix}
 use Rattle.front.specs.Seen.{PassSeen}
@@ -42,3 +42,14 @@ write_kept opens tells told newest p known a q old new page bytes which all same
         | inr is ↦ subst (λ (z : ℕ × List ℕ). IsWritten opens q z.0 z.1) (λ i. (sym is.0 i, sym is.1 i)) (written_later opens a q page bytes mine later w)
       ],
 )
+
+-- on an empty device no image is the newest
+pub none_newest : {D T E : Type 0} (tells : Type 0) (told : D → ℕ → List ℕ → Type 0) (newest : D → ℕ → Option (List ℕ)) (device : D) (result : Result T E)
+    → ((p : ℕ) (image : List ℕ) → newest device p ≡ Some image → told device p image)
+    → (tells → OnOk result ((p : ℕ) (image : List ℕ) → told device p image → ⊥)) → tells → OnOk result ((p : ℕ) → newest device p ≡ None)
+none_newest tells told newest device (Err e) is_told empty t = tt
+none_newest tells told newest device (Ok x) is_told empty t = λ p. by p (newest device p) refl
+  where
+    by : (p : ℕ) (found : Option (List ℕ)) → newest device p ≡ found → newest device p ≡ None
+    by p None is = is
+    by p (Some image) is = absurd (empty t p image (is_told p image is))

@@ -1,5 +1,5 @@
 -- The images of pages on the data device, by what a pass has seen of the history and knows to be durable.
-use Rattle.std.specs.Prelude.{ℕ, ◌≤◌, List}
+use Rattle.std.specs.Prelude.{◌≡◌, ◌≢◌, ℕ, ◌≤◌, List, Option}
 use Rattle.front.specs.Seen.{PassSeen}
 use Rattle.wal_record.specs.History.{life_log}
 use Rattle.wal_record.specs.declared.record.Record.{Record}
@@ -17,3 +17,11 @@ IsWritten opens p page bytes = (opening : List Record) → opens opening → IsI
 -- each image that a device tells of is so
 abbrev pub AreWritten : {D : Type 0} → (List Record → Type 0) → (D → ℕ → List ℕ → Type 0) → PassSeen Entry → D → Type 0
 AreWritten {D} opens told p device = (page : ℕ) (bytes : List ℕ) → told device page bytes → IsWritten opens p page bytes
+
+-- the image of each page that was written last is the same
+abbrev pub SameNewest : {I : Type 0} → (I → ℕ → Option (List ℕ)) → I → I → Type 0
+SameNewest {I} newest old new = (page : ℕ) → newest new page ≡ newest old page
+
+-- so it is of all pages but one
+abbrev pub SameOthers : {I : Type 0} → (I → ℕ → Option (List ℕ)) → ℕ → I → I → Type 0
+SameOthers {I} newest page old new = (p : ℕ) → p ≢ page → newest new p ≡ newest old p

@@ -1,9 +1,9 @@
 //! The data device as those see it who read and write its pages.
-ghost use Rattle.std.specs.Prelude.{◌≡◌, ◌⊎◌, ◌≤◌, ℕ, OnOk};
+ghost use Rattle.std.specs.Prelude.{◌≡◌, ◌⊎◌, ◌≤◌, ℕ, List, Option, Some, None, OnOk};
 ghost use mathlib.Core.List.{IsPrefix};
 ghost use Rattle.media.specs.Cause.{HasCause};
 ghost use Rattle.media.specs.Images.{FailsVerification};
-ghost use Rattle.page_repair.specs.Images.{IsWritten};
+ghost use Rattle.page_repair.specs.Images.{IsWritten, SameNewest, SameOthers};
 
 use front::Pass;
 use media::{Failed, PageBytes};
@@ -18,6 +18,12 @@ pub trait Images<N: Life> {
     /// How often the device has failed at calls made through it.
     ghost faults: { Self → ℕ };
 
+    /// Whether such a device tells what was written last. One that threads share doesn't, since others write to it.
+    ghost tells: { Type 0 };
+
+    /// The image of a page that was written last.
+    ghost newest: { Self → ℕ → Option (List ℕ) };
+
     /// An image of the page as the log makes it, or bytes that fail verification.
     fn read<R: Wait>(
         &mut self,
@@ -27,6 +33,7 @@ pub trait Images<N: Life> {
         pass: &mut Pass<Entry, N>,
     ) -> Result<(), Failed>
         ensures image { OnOk result (FailsVerification out.new ⊎ IsWritten N.opens pass.new page out.new) }
+        ensures same { tells → SameNewest newest self.old self.new }
         ensures seen { IsPrefix pass.old.log pass.new.log × (pass.old.durable ≤ pass.new.durable) }
         ensures cause { HasCause faults self.old self.new result };
 
@@ -40,10 +47,13 @@ pub trait Images<N: Life> {
         pass: &mut Pass<Entry, N>,
     ) -> Result<(), Failed>
         requires written { IsWritten N.opens pass.old page bytes.now }
+        ensures newest { tells → OnOk result (newest self.new page ≡ Some bytes.now) }
+        ensures others { tells → SameOthers newest page self.old self.new }
         ensures seen { IsPrefix pass.old.log pass.new.log × (pass.old.durable ≤ pass.new.durable) }
         ensures cause { HasCause faults self.old self.new result };
 
     /// An empty device takes its place. After `Failed` the old images may stay.
     fn replace<R: Wait>(&mut self, rt: &R) -> Result<(), Failed>
+        ensures empty { tells → OnOk result ((page : ℕ) → newest self.new page ≡ None) }
         ensures cause { HasCause faults self.old self.new result };
 }

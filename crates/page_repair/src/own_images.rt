@@ -60,6 +60,10 @@ impl<'a, D: PageDevice, N: Life> OwnImages<'a, D, N> {
 impl<'a, D: PageDevice, N: Life> Images<N> for OwnImages<'a, D, N> {
     ghost faults = { λ i. D.faults i };
 
+    ghost tells = { D.tells };
+
+    ghost newest = { λ i. D.newest i };
+
     fn read<R: Wait>(
         &mut self,
         _rt: &R,

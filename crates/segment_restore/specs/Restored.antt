@@ -1,12 +1,19 @@
 -- A segment that is restored.
-use Rattle.std.specs.Prelude.{◌≡◌, ℕ, List, [], ◌∷◌, None, true, false}
+use Rattle.std.specs.Prelude.{◌≡◌, ◌⊎◌, ℕ, ◌≤◌, List, [], ◌∷◌, Option, Some, None, IfSome, true, false}
 use mathlib.Core.List.{IsPrefix}
 use Rattle.claim_laws.specs.Upkeep.{is_unrestored}
+use Rattle.media.specs.Cause.{Rose}
+use Rattle.wal_record.specs.Chains.{head}
 use Rattle.wal_record.specs.History.{life_log}
+use Rattle.wal_record.specs.Images.{image}
+use Rattle.wal_record.specs.Upkeep.{segment_of}
 use Rattle.wal_record.specs.declared.record.Record.{Record}
 use Rattle.wal_record.specs.declared.record.Record.TheVariants as kinds
 use Rattle.wal_record.specs.declared.entry.Entry.{Entry}
+use Rattle.page_image.specs.Image.{image_bytes}
+use Rattle.page_image.specs.declared.sealed.Sealed.{Sealed}
 use Rattle.page_ops.specs.declared.group.Group.{Group}
+use Rattle.page_repair.specs.Supplies.{IsRebuilt}
 
 -- after some beginning of this history the segment was unrestored
 abbrev pub WasUnrestored : List Record → List Entry → ℕ → Type 0
@@ -18,3 +25,30 @@ IsRestored opening h segment = is_unrestored (life_log opening h) segment ≡ fa
 
 abbrev pub restored_group : ℕ → Group
 restored_group segment = record { recs = kinds.Restored (record { segment = segment }) ∷ []; said = None; room = false; lsn = 0 }
+
+-- ---- images on the data device
+
+-- the page's logged image at this head
+abbrev pub IsHeadImage : (List Record → Type 0) → List Entry → ℕ → ℕ → Option (List ℕ) → Type 0
+IsHeadImage opens h page lsn written = (x : Sealed) × IsRebuilt opens h page lsn x × (written ≡ Some (image_bytes page lsn x.state))
+
+-- what was written last is the page's sealed image in the log, if it has one
+abbrev pub IsImageOf : List Record → ℕ → Option (List ℕ) → Type 0
+IsImageOf log page written = IfSome (image log page) (λ state. written ≡ Some (image_bytes page (head log page) state))
+
+-- so it is as the log was at some moment from the first history to the second
+pub record IsBack (opens : List Record → Type 0) (first second : List Entry) (page : ℕ) (written : Option (List ℕ)) : Type 0 where
+  pub moment : List Entry
+  pub begins : IsPrefix first moment
+  pub goes_on : IsPrefix moment second
+  pub image : (opening : List Record) → opens opening → IsImageOf (life_log opening moment) page written
+
+-- a page of the segment, no later than the last one that was lost
+pub record IsLost (segment lost page : ℕ) : Type 0 where
+  pub positive : 1 ≤ page
+  pub inside : segment_of page ≡ segment
+  pub upto : page ≤ lost
+
+-- each of these pages is back on the device, or the device has failed
+abbrev pub AreBack : (List Record → Type 0) → List Entry → List Entry → (ℕ → Type 0) → (ℕ → Option (List ℕ)) → ℕ → ℕ → Type 0
+AreBack opens first second which newest before now = (page : ℕ) → which page → IsBack opens first second page (newest page) ⊎ Rose before now

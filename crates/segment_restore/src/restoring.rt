@@ -1,13 +1,15 @@
 //! A segment is restored.
-ghost use Rattle.std.specs.Prelude.{◌≡◌, ◌≤◌, List, IfErr, IfOk, OnOk};
+ghost use Rattle.std.specs.Prelude.{◌≡◌, ◌≤◌, ◌⊎◌, List, IfErr, IfOk, OnOk};
+ghost use Rattle.media.specs.Cause.{Rose};
 ghost use Rattle.page_ops.specs.Causes.{FailsToBring, MeetsNoEnd};
 ghost use Rattle.page_ops.specs.Claims.{no_claims};
 ghost use Rattle.page_ops.specs.Seeing.{Upholds, is_none, known};
+ghost use Rattle.page_repair.specs.Images.{SameOthers};
 ghost use Rattle.page_repair.specs.Supplies.{is_restored};
 ghost use Rattle.wal_record.specs.Upkeep.{segment_of};
 ghost use Rattle.wal_record.specs.declared.record.Record.{Record};
 ghost use Rattle.segment_restore.specs.Faults.{no_faults};
-ghost use Rattle.segment_restore.specs.Restored.{IsRestored, WasUnrestored, restored_group};
+ghost use Rattle.segment_restore.specs.Restored.{AreBack, IsBack, IsLost, IsRestored, WasUnrestored, restored_group};
 
 use crate::writing::restore_page;
 use front::Pass;
@@ -29,7 +31,7 @@ pub(crate) fn segment_of(page: PageNo) -> u32
     page.saturating_sub(1) / SEGMENT
 }
 
-/// Restores the page, if it was made.
+/// Restores the page, if it was made. The device may fail.
 fn restore_listed<N: Life, J: Entering<N>, I: Images<N>, R: Wait>(
     rt: &R,
     alloc: Global,
@@ -38,7 +40,9 @@ fn restore_listed<N: Life, J: Entering<N>, I: Images<N>, R: Wait>(
     page: PageNo,
     operators: &Operators,
     pass: &mut Pass<Entry, N>,
-) -> Result<bool, Fault>
+) -> Result<(), Fault>
+    ensures written { I.tells → OnOk result (IsBack N.opens pass.old.log pass.new.log page (I.newest images.new page) ⊎ Rose (I.faults images.old) (I.faults images.new)) }
+    ensures others { I.tells → SameOthers I.newest page images.old images.new }
     ensures images { I.faults images.old ≤ I.faults images.new }
     ensures entered { Upholds N.opens N.entries N.session_entries is_none (known (J.account journal.old) pass.old no_claims) (known (J.account journal.new) pass.new no_claims) }
     ensures open { OnOk result (MeetsNoEnd (J.account journal.old) (J.account journal.new)) }
@@ -46,7 +50,7 @@ fn restore_listed<N: Life, J: Entering<N>, I: Images<N>, R: Wait>(
 {
     let listed = journal.listed(rt, page, pass)?;
     if listed.ends.head == 0 {
-        return Ok(true);
+        return Ok(());
     }
     restore_page(
         rt,
@@ -73,6 +77,7 @@ pub fn restore<N: Life, J: Entering<N>, I: Images<N>, R: Wait>(
     operators: &Operators,
     pass: &mut Pass<Entry, N>,
 ) -> Result<(), Fault>
+    ensures written { I.tells → OnOk result (AreBack N.opens pass.old.log pass.new.log (IsLost segment lost) (I.newest images.new) (I.faults images.old) (I.faults images.new)) }
     ensures images { I.faults images.old ≤ I.faults images.new }
     ensures entered { Upholds N.opens N.entries N.session_entries is_none (known (J.account journal.old) pass.old no_claims) (known (J.account journal.new) pass.new no_claims) }
     ensures open { OnOk result (MeetsNoEnd (J.account journal.old) (J.account journal.new)) }
@@ -81,8 +86,8 @@ pub fn restore<N: Life, J: Entering<N>, I: Images<N>, R: Wait>(
     let before = segment.saturating_mul(SEGMENT);
     let last = lost.min(before.saturating_add(SEGMENT));
     journal.see(rt, &mut Rights::none(), pass);
-    for page in before.saturating_add(1)..last.saturating_add(1) {
-        restore_listed(rt, alloc, journal, images, page, operators, pass)?;
+    for done in before..last {
+        restore_listed(rt, alloc, journal, images, done + 1, operators, pass)?;
     }
     Ok(())
 }

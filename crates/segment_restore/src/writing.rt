@@ -1,10 +1,14 @@
 //! A page that is rebuilt is written back.
-ghost use Rattle.std.specs.Prelude.{◌≤◌, IfErr, OnOk};
+ghost use Rattle.std.specs.Prelude.{◌≡◌, ◌≤◌, ◌⊎◌, Some, IfErr, OnOk};
+ghost use Rattle.media.specs.Cause.{Rose};
+ghost use Rattle.page_image.specs.Image.{image_bytes};
 ghost use Rattle.page_ops.specs.Causes.{FailsToBring, MeetsNoEnd};
 ghost use Rattle.page_ops.specs.Claims.{no_claims};
 ghost use Rattle.page_ops.specs.Seeing.{Upholds, is_none, known};
+ghost use Rattle.page_repair.specs.Images.{SameOthers};
 ghost use Rattle.page_repair.specs.Supplies.{IsHead, IsRebuilt};
 ghost use Rattle.segment_restore.specs.Faults.{no_faults};
+ghost use Rattle.segment_restore.specs.Restored.{IsHeadImage};
 
 use crate::rebuilding::rebuild_in_life;
 use front::Pass;
@@ -17,7 +21,8 @@ use std::sync::Wait;
 use store_model::{Fault, Lsn, PageNo};
 use wal_record::Entry;
 
-/// Writes an image of the page, once the log is durable up to its LSN. False where the device failed.
+/// Writes an image of the page, once the log is durable up to its LSN. The device may fail; the page is then repaired when it
+/// is brought.
 fn write_image<N: Life, J: Entering<N>, I: Images<N>, R: Wait>(
     rt: &R,
     journal: &mut J,
@@ -26,9 +31,11 @@ fn write_image<N: Life, J: Entering<N>, I: Images<N>, R: Wait>(
     head: Lsn,
     sealed: &Sealed,
     pass: &mut Pass<Entry, N>,
-) -> Result<bool, Fault>
+) -> Result<(), Fault>
     requires head { IsHead N.opens pass.old.log page head }
     requires rebuilt { IsRebuilt N.opens pass.old.log page head sealed.now }
+    ensures written { I.tells → OnOk result ((I.newest images.new page ≡ Some (image_bytes page head sealed.now.state)) ⊎ Rose (I.faults images.old) (I.faults images.new)) }
+    ensures others { I.tells → SameOthers I.newest page images.old images.new }
     ensures images { I.faults images.old ≤ I.faults images.new }
     ensures entered { Upholds N.opens N.entries N.session_entries is_none (known (J.account journal.old) pass.old no_claims) (known (J.account journal.new) pass.new no_claims) }
     ensures open { OnOk result (MeetsNoEnd (J.account journal.old) (J.account journal.new)) }
@@ -36,12 +43,12 @@ fn write_image<N: Life, J: Entering<N>, I: Images<N>, R: Wait>(
 {
     journal.flush(rt, head, pass)?;
     let bytes = seal(&sealed.state, page, head);
-    let written = images.write(rt, page, &bytes, pass);
+    let _written = images.write(rt, page, &bytes, pass);
     journal.see(rt, &mut Rights::none(), pass);
-    Ok(written.is_ok())
+    Ok(())
 }
 
-/// Rebuilds the page at this head, from nothing, and writes it to the data device. False where the device failed.
+/// Rebuilds the page at this head, from nothing, and writes it to the data device, which may fail.
 pub(crate) fn restore_page<N: Life, J: Entering<N>, I: Images<N>, R: Wait>(
     rt: &R,
     alloc: Global,
@@ -51,8 +58,10 @@ pub(crate) fn restore_page<N: Life, J: Entering<N>, I: Images<N>, R: Wait>(
     head: Lsn,
     operators: &Operators,
     pass: &mut Pass<Entry, N>,
-) -> Result<bool, Fault>
+) -> Result<(), Fault>
     requires head { IsHead N.opens pass.old.log page head }
+    ensures written { I.tells → OnOk result (IsHeadImage N.opens pass.new.log page head (I.newest images.new page) ⊎ Rose (I.faults images.old) (I.faults images.new)) }
+    ensures others { I.tells → SameOthers I.newest page images.old images.new }
     ensures images { I.faults images.old ≤ I.faults images.new }
     ensures entered { Upholds N.opens N.entries N.session_entries is_none (known (J.account journal.old) pass.old no_claims) (known (J.account journal.new) pass.new no_claims) }
     ensures open { OnOk result (MeetsNoEnd (J.account journal.old) (J.account journal.new)) }

@@ -1,7 +1,9 @@
+use Rattle.std.proofs.Common.{sym, inl}
 use Rattle.std.proofs.lemmas.Result.{err_from_is_err_and}
 use Rattle.segment_restore.specs.Faults.{no_faults}
 use Rattle.segment_restore.proofs.Chains.{looks, upheld_both}
 use Rattle.segment_restore.proofs.Segments.{enter_fails, listed_head}
+use Rattle.segment_restore.proofs.Written.{back_unmade, listed_back}
 use Rattle.segment_restore.proofs.restoring.restore_listed.Goals as goal
 
 pub returns-in_err-listed-clause-entered : goal.returns-in_err-listed-clause-entered
@@ -20,3 +22,14 @@ returns-clause-entered g c = upheld_both _ _ _ _ _ _ _ _ _ (looks _ _ _ _ _ _ _ 
 
 pub restore_page-requires : goal.restore_page-requires
 restore_page-requires g c = record { head = listed_head g.N.Life.opens c.listed.new.pass.log c.args.page c.in_ok-listed.listed c.in_ok-listed.ensures.listed c.if-listed-eq0.false }
+
+pub returns-then-listed-eq0-clause-written : goal.returns-then-listed-eq0-clause-written
+returns-then-listed-eq0-clause-written g c = λ t.
+    inl (back_unmade g.N.Life.opens c.args.pass.now.log c.listed.new.pass.log c.args.page c.in_ok-listed.listed _ c.listed.ensures.seen.now.begins c.in_ok-listed.ensures.listed c.if-listed-eq0.true)
+
+pub returns-clause-written : goal.returns-clause-written
+returns-clause-written g c =
+    let v = c.restore_page.ensures.entered in
+    λ t.
+    listed_back c.restore_page.result g.N.Life.opens c.args.pass.now.log c.listed.new.pass.log c.restore_page.new.pass.log c.args.page c.in_ok-listed.listed _ _ c.listed.ensures.seen.now.begins (v.gained, sym v.is) c.in_ok-listed.ensures.listed c.if-listed-eq0.false
+    (c.restore_page.ensures.written t)

@@ -4,6 +4,7 @@ use Rattle.page_ops.proofs.Gaining.{goes_met, goes_of, goes_then, upheld_then}
 use Rattle.segment_restore.specs.Faults.{no_faults}
 use Rattle.segment_restore.proofs.Chains.{looks, open_then}
 use Rattle.segment_restore.proofs.Segments.{flush_fails, may_write, open_met}
+use Rattle.segment_restore.proofs.Written.{written_or}
 use Rattle.segment_restore.proofs.writing.write_image.Goals as goal
 
 pub returns-in_err-flush-clause-entered : goal.returns-in_err-flush-clause-entered
@@ -26,3 +27,7 @@ returns-clause-entered g c =
 
 pub returns-clause-open : goal.returns-clause-open
 returns-clause-open g c = open_then _ _ _ (open_met (g.J.Entering.account c.args.journal.now) (g.J.Entering.account c.flush.new.self) c.in_ok-flush.ensures.ends) c.see.ensures.calm.end
+
+pub returns-clause-written : goal.returns-clause-written
+returns-clause-written g c = λ t.
+    written_or c.write-written.result _ _ _ _ _ c.seal-bytes.ensures (c.write-written.ensures.newest t) c.write-written.ensures.cause.failed

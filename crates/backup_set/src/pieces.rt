@@ -1,0 +1,87 @@
+//! A page in bytes of an object, for whoever doesn't read them from a vault itself.
+ghost use Rattle.std.specs.Prelude.{◌≡◌, ◌+◌, ◌*◌, ◌%◌, ◌-◌, ℕ, List, take, drop, IfOk, IfErr, IfSome};
+ghost use Rattle.wal_record.specs.State.{KeepsState};
+ghost use Rattle.wal_record.specs.Upkeep.{segment_of};
+ghost use Rattle.backup_set.specs.Answers.{FailsToFind, GivesCopy, HasImage, IsBad};
+ghost use Rattle.backup_set.specs.Backup.{IsAmong, IsBackup, backup_name};
+ghost use Rattle.backup_set.specs.declared.copy.PageCopy.{PageCopy};
+ghost use Rattle.backup_set.specs.declared.layout.TheConstants.{IMAGES_AT, IMAGE_BYTES};
+
+use crate::image::first_image;
+use crate::layout::{IMAGE_BYTES, IMAGES_AT};
+use crate::part::{Part, segment_of};
+use crate::search::{head_of, search};
+use page_image::{PageFault, Sealed, open_page};
+use std::alloc::Global;
+use store_model::{Fault, Memory, ObjectName, PageNo};
+
+/// The object of the backup that has the page's segment.
+pub fn object_of(backup: u64, page: PageNo) -> ObjectName
+    ensures { result ≡ backup_name backup (segment_of page) }
+{
+    let part = Part {
+        backup,
+        segment: segment_of(page),
+    };
+    part.name()
+}
+
+/// Where the page's image begins in the object of a whole segment.
+pub fn image_place(page: PageNo) -> u64
+    ensures { result ≡ IMAGES_AT + IMAGE_BYTES * ((page - 1) % 16) }
+{
+    IMAGES_AT as u64 + IMAGE_BYTES as u64 * u64::from(page.saturating_sub(1) % 16)
+}
+
+/// The page, by the first 20 bytes of the object and the 4,096 from the page's place in a whole segment on; None where its
+/// image doesn't stand there.
+pub fn page_in_place(
+    alloc: Global,
+    backup: u64,
+    page: PageNo,
+    head: &[u8],
+    image: &[u8],
+) -> Result<Option<Sealed>, Memory>
+    ensures held { (bytes : List ℕ) → head.now ≡ take IMAGES_AT bytes → image.now ≡ take IMAGE_BYTES (drop (IMAGES_AT + IMAGE_BYTES * ((page - 1) % 16)) bytes)
+        → IfOk result (λ found. IfSome found (HasImage backup (segment_of page) page bytes)) }
+    ensures rules { IfOk result (λ found. IfSome found (λ x. KeepsState x.state)) }
+{
+    let part = Part {
+        backup,
+        segment: segment_of(page),
+    };
+    let place = page.saturating_sub(1) % 16;
+    let Ok(count) = head_of(part, head) else {
+        return Ok(None);
+    };
+    if count <= place {
+        return Ok(None);
+    }
+    let Some(image) = first_image(image) else {
+        return Ok(None);
+    };
+    match open_page(alloc, &image, page) {
+        Ok(sealed) => Ok(Some(sealed)),
+        Err(PageFault::Memory) => Err(Memory),
+        Err(_) => Ok(None),
+    }
+}
+
+/// The page in the object with these bytes. A faulty object is named with its first faulty field; one without the page, with
+/// its count.
+pub fn page_in_object(
+    alloc: Global,
+    backup: u64,
+    page: PageNo,
+    bytes: &[u8],
+) -> Result<Sealed, Fault>
+    ensures found { (copies : List PageCopy) → IsBackup backup (segment_of page) copies bytes.now → (c : PageCopy) → IsAmong c copies → c.page ≡ page → GivesCopy c result }
+    ensures held { IfOk result (HasImage backup (segment_of page) page bytes.now) }
+    ensures refused { IfErr result (FailsToFind (IsBad backup (segment_of page) page bytes.now)) }
+{
+    let part = Part {
+        backup,
+        segment: segment_of(page),
+    };
+    search(alloc, part, page, bytes)
+}
