@@ -1,6 +1,5 @@
 -- What a command enters: its own entries, and others beside them.
-use Rattle.std.proofs.Common.{ℕ, List, [], ◌∷◌, ◌++◌, refl}
-use Rattle.std.specs.List.{All}
+use Rattle.std.proofs.Common.{List, [], ◌∷◌, refl}
 use Rattle.std.proofs.lemmas.List.Elements.{All-cons, All-nil}
 use Rattle.script.specs.declared.command.Command.{Command}
 use Rattle.wal_record.specs.declared.entry.Entry.{Entry}

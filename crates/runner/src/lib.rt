@@ -27,11 +27,12 @@
 //!
 //! The layer's promise is the clause `headline` of [`run_words`]. There are turns (`specs/Turns`), each a command with the
 //! entries that it adds to the history of its life. Their commands are those of the lines read, each fits behind those
-//! before it, and their text (`specs/Text`) is what was written, all of it where the run is done (`specs/Clause`). Each
-//! life of theirs opens a log that the life before may have left, or that was handed in or made; it is legal, has the
-//! replies of a serial run, and whatever a stop may leave of it has its first transactions. The log disk that is handed
-//! back holds such a rest, also after a crash (`specs/LogDisk`). The vault is as it was until the machine stops, and then as
-//! stops leave it (`specs/Vault`). Each status comes for its own cause (`specs/Refusals`, `specs/Causes`).
+//! before it (`specs/Rows`), and their text (`specs/Text`) is what was written, all of it where the run is done
+//! (`specs/Clause`). Each life of theirs opens a log that the life before may have left, or that was handed in or made; it
+//! is legal, has the replies of a serial run, and whatever a stop may leave of it has its first transactions. The log disk
+//! that is handed back holds such a rest, also after a crash (`specs/LogDisk`). The vault is as it was until the machine
+//! stops, and then as stops leave it (`specs/Vault`). Each status comes for its own cause (`specs/Refusals`,
+//! `specs/Causes`).
 //!
 //! A call may begin with any use that may have left the log disk so (`Last` in `specs/Turns`), and the log disk that it
 //! hands back may be handed to the next call (`laws`). It may begin, too, with what is known of the bytes alone
