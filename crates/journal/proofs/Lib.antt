@@ -9,3 +9,4 @@ pub mod Lookup
 pub mod Starting
 pub mod Grouping
 pub mod Overs
+pub mod Restoring

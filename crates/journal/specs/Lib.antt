@@ -4,3 +4,4 @@ pub mod Kept
 pub mod Locks
 pub mod Groups
 pub mod Lookups
+pub mod Restored

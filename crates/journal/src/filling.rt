@@ -1,21 +1,15 @@
 //! Records added to the log, and small tests of numbers.
 ghost use Rattle.std.specs.Prelude.{◌≡◌, ◌+◌, ◌<◌, ◌≤◌, ◌^◌, ◌++◌, List, [], ◌∷◌, ℕ, length, false, None, IfOk, OnOk, OnErr, IfSome, IsTrue};
 ghost use Rattle.std.specs.List.{All};
-ghost use Rattle.log_index.specs.Listing.{IsListingOf};
 ghost use Rattle.listed_log.specs.Listed.{IsLogWith, Joins};
 ghost use Rattle.log_manager.specs.Payload.{bytes_of};
-ghost use Rattle.page_ops.specs.Asking.{IsTimely};
-ghost use Rattle.wal_record.specs.History.{life_log};
-ghost use Rattle.wal_record.specs.OpenWrites.{is_loser};
 ghost use Rattle.wal_record.specs.Rules.{HasSpelling};
 ghost use Rattle.wal_record.specs.Sound.{AreLawful};
-ghost use Rattle.wal_record.specs.declared.entry.Entry.{Entry};
 ghost use Rattle.wal_record.specs.declared.record.Record.{Record};
 ghost use Rattle.wal_record.specs.declared.record.Record.TheVariants as kinds;
 
 use books::PageRight;
 use listed_log::ListedLog;
-use log_index::Listing;
 use media::Disk;
 use page_ops::{Life, Said};
 use std::alloc::Global;
@@ -80,16 +74,6 @@ pub(crate) fn in_range(lsn: Lsn) -> Lsn
     ensures same { lsn < 2 ^ 63 → result ≡ lsn }
 {
     if lsn < HIGHEST { lsn } else { HIGHEST }
-}
-
-/// Whether the record restores no segment, or one that is unrestored.
-pub(crate) fn is_still_open(listing: &Listing, rec: &Record) -> bool
-    ensures { IsTrue result → (opening : List Record) (h : List Entry) → ((t : ℕ) → is_loser opening t ≡ false) → IsListingOf (life_log opening h) listing.now → IsTimely opening h rec.now }
-{
-    match rec {
-        Record::Restored(restored) => listing.is_unrestored(restored.segment),
-        _ => true,
-    }
 }
 
 /// The number, or the highest one of its type where that is less: of a log that is told there is none above that.

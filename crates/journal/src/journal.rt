@@ -4,7 +4,7 @@ ghost use Rattle.std.specs.List.{All, list_any};
 ghost use Rattle.group_filling.specs.Fitting.{AreInRange};
 ghost use Rattle.log_manager.specs.Payload.{bytes_of};
 ghost use Rattle.listed_log.specs.Listed.{IsLogWith, Joins};
-ghost use Rattle.page_ops.specs.Asking.{HasNumbers, HasRoomFor, IsAskable, IsTimely, LacksRoomFor, MayBeDeclined, MayFollow, WasTimely};
+ghost use Rattle.page_ops.specs.Asking.{HasNumbers, HasRoomFor, IsAskable, IsLate, IsTimely, LacksRoomFor, MayBeDeclined, MayFollow, WasTimely, can_be_late};
 ghost use Rattle.page_ops.specs.Causes.{Ends, FailsToEnter, FailsToFlush, NoOther, OrConflict, OrFull, OrTooMany, with_one};
 ghost use Rattle.page_ops.specs.Claims.{Agree, SessionAgrees, session_alone};
 ghost use Rattle.page_ops.specs.Groups as groups;
@@ -29,7 +29,8 @@ ghost use Rattle.journal.specs.Locks.{HasNoLosers};
 ghost use Rattle.journal.specs.Groups.{EndsSession, EntersFilled, EntersNow, GroupFollows, IsNext, IsNextPage};
 
 use crate::ends::{check_open, make_room, note_fault, tell_durable};
-use crate::filling::{append_all, child_of, end_of, in_range, is_still_open, number_of};
+use crate::filling::{append_all, child_of, end_of, in_range, number_of};
+use crate::restored::{first_late, note_group, prepare_group};
 use crate::taken::Taken;
 use books::{PageRight, SessionRight};
 use front::{Mark, Pass};
@@ -41,6 +42,7 @@ use page_ops::{Committed, Entered, Grant, Group, Life, LogFaults, Rights, Said};
 use range_lock::{LockRefused, RangeLocks};
 use std::alloc::Global;
 use std::cmp::min;
+use std::collections::BTreeMap;
 use std::marker::{Brand, Model};
 use std::sync::ledger::Book;
 use store_model::{
@@ -63,18 +65,21 @@ pub struct Journal<'a, L: Disk, N: Life> {
     pub(crate) faults: Book<LogFaults<N>>,
     // The right to the page that the next group makes which makes one, where it was opened already.
     made: Option<PageRight<N>>,
+    // Where the last Restored of each segment stands.
+    restored: BTreeMap<u32, Pos>,
 }
 
 impl<'a, L: Disk, N: Life> Model for Journal<'a, L, N> {
     ghost use Rattle.std.specs.Prelude.{◌≡◌, List};
     ghost use Rattle.wal_record.specs.declared.entry.Entry.{Entry};
     ghost use Rattle.journal.specs.Kept.{IsKept};
+    ghost use Rattle.journal.specs.Restored.{AreRestored};
 
     ghost Value = { List Entry };
 
     ghost view = { λ j. j.history };
 
-    ghost invariant = { λ j. (j.mark ≡ j.marked) × IsKept N.opens L.tells L.told L.may_leave j.history j.log.log j.log.listing j.locks j.marked j.faults.total };
+    ghost invariant = { λ j. (j.mark ≡ j.marked) × IsKept N.opens L.tells L.told L.may_leave j.history j.log.log j.log.listing j.locks j.marked j.faults.total × AreRestored j.history j.restored };
 }
 
 impl<'a, L: Disk, N: Life> Journal<'a, L, N> {
@@ -105,6 +110,7 @@ impl<'a, L: Disk, N: Life> Journal<'a, L, N> {
             marked: 0,
             faults,
             made: None,
+            restored: BTreeMap::new(alloc),
         }
     }
 
@@ -501,16 +507,18 @@ impl<'a, L: Disk, N: Life> Journal<'a, L, N> {
         if let Some(end) = end_of(recs, said) {
             return self.enter_end(alloc, end, new, rights, counts);
         }
-        let last = self.log.last();
-        if last == 0 || last >= MOST || self.history.length() >= MOST {
+        let (last, before) = (self.log.last(), self.history.length());
+        if last == 0 || last >= MOST || before >= MOST {
             return Err(Memory);
         }
         if !is_fit(rights, new, recs) || !have_numbers(recs) {
             return Err(Memory);
         }
+        prepare_group(&mut self.restored, recs)?;
         let lsn = append_all(&mut self.log, alloc, recs)?;
         self.history
             .enter_group(lsn, recs, said, new.take(), rights, counts);
+        note_group(&mut self.restored, before, recs);
         Ok(lsn)
     }
 
@@ -658,14 +666,14 @@ impl<'a, L: Disk, N: Life> Journal<'a, L, N> {
     {
         self.history.see(rights, pass, counts);
         check_open(&self.log, &mut self.faults, counts)?;
+        if let Some(place) = self.late(group) {
+            return Ok(Entered::Late(place));
+        }
         let taken = self.taken()?;
         if !self.has_room(group, &taken) {
             let declined = self.decline(group, &taken, rights, pass, counts);
             self.history.see(rights, pass, counts);
             return declined;
-        }
-        if !self.is_timely(group) {
-            return Err(Fault::Memory);
         }
         match self.write(alloc, group, rights, counts) {
             Ok(()) => {
@@ -676,16 +684,12 @@ impl<'a, L: Disk, N: Life> Journal<'a, L, N> {
         }
     }
 
-    /// Whether no segment that the group says to be restored was restored before.
-    fn is_timely(&self, group: &Group) -> bool
-        ensures { IsTrue result → (opening : List Record) → N.opens opening → Each (IsTimely opening self.now) group.now.recs }
+    /// Where the entry stands that came before a record of the group, if one did.
+    fn late(&self, group: &Group) -> Option<Pos>
+        ensures none { IfNone result ((opening : List Record) → N.opens opening → Each (IsTimely opening self.now) group.now.recs) }
+        ensures late { IfSome result (λ place. (opening : List Record) → N.opens opening → IsLate opening self.now place group.now.recs) }
+        ensures kind { IfSome result (λ place. IsTrue (list_any can_be_late group.now.recs)) }
     {
-        let listing = self.log.listing();
-        match group.recs.as_slice() {
-            [] => true,
-            [one] => is_still_open(listing, one),
-            [one, two] => is_still_open(listing, one) && is_still_open(listing, two),
-            _ => false,
-        }
+        first_late(self.log.listing(), &self.restored, group.recs.as_slice())
     }
 }

@@ -33,14 +33,18 @@
 //! 7. A fault of the log disk ends the life. From then on each call that enters or flushes tells that, and enters
 //!    nothing; through one account it is always the same LSN.
 //!
-//! A group that isn't built yet is refused as one that wants memory, which the traits allow; so is one that restores a
-//! segment that another thread has restored. Not built: checkpoints, answers `Late`, lives that begin with losers.
+//! 8. It keeps where each segment was restored last. A group that restores a segment that isn't unrestored any more isn't
+//!    entered, and its answer is `Late`, with the place of the entry that came first.
+//!
+//! A group that isn't built yet is refused as one that wants memory, which the traits allow. Not built: checkpoints, lives
+//! that begin with losers.
 #![tactic(auto)]
 
 mod ends;
 mod filling;
 mod journal;
 mod reading;
+mod restored;
 mod taken;
 
 pub use journal::Journal;

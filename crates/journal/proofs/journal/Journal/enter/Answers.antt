@@ -1,14 +1,23 @@
-use Rattle.std.proofs.Common.{refl, sym, ◌∙◌}
+use Rattle.std.proofs.Common.{List, refl, sym, ◌∙◌, subst}
 use Rattle.std.proofs.lemmas.Result.{err_from_is_err_and}
 use Rattle.journal.proofs.Declining.{declined_group, full_of}
 use Rattle.journal.proofs.Ending.{told_stops, stopped_ends}
 use Rattle.journal.proofs.Entering.{entered_group, filled_in}
+use Rattle.page_ops.specs.Asking.{IsLate}
+use Rattle.wal_record.specs.declared.entry.Entry.{Entry}
 use Rattle.journal.proofs.journal.Journal.enter.Goals as goal
 
 pub returns-in_err-check_open-clause-ends : goal.returns-in_err-check_open-clause-ends
 returns-in_err-check_open-clause-ends g c =
     let p = err_from_is_err_and c.from_residual.result c.from_residual.ensures.1 in
     rw (p.1, p.2) (stopped_ends _ g.N.Life.log_faults _ _ _ _ _ _ c.see.ensures.counts (told_stops g.N.Life.log_faults _ _ _ c.in_err-check_open.ensures.ended))
+
+pub returns-in-Some-clause-answer : goal.returns-in-Some-clause-answer
+returns-in-Some-clause-answer g c =
+    let see = c.see.ensures in (
+      c.in-Some.ensures.kind,
+      λ opening stands. subst (λ (h : List Entry). IsLate opening h c.in-Some.place c.args.group.now.recs) (sym (see.pass ∙ sym see.same)) (c.in-Some.ensures.late opening stands),
+    )
 
 pub returns-then-not-has_room-clause-entered : goal.returns-then-not-has_room-clause-entered
 returns-then-not-has_room-clause-entered g c =

@@ -14,6 +14,7 @@ use Rattle.journal.specs.Groups.{EntersFilled, GroupFollows, IsNext}
 use Rattle.journal.proofs.Entering.{enters_filled}
 use Rattle.journal.proofs.Living.{kept_group, kept_refused}
 use Rattle.journal.proofs.Grouping.{next_of, page_agrees}
+use Rattle.journal.proofs.Restoring.{restored_kept, restored_same}
 use Rattle.journal.proofs.journal.Journal.enter_filled.Goals as goal
 
 pub enter_group-requires-clause-fresh : goal.enter_group-requires-clause-fresh
@@ -21,11 +22,15 @@ enter_group-requires-clause-fresh g c =
     subst (λ (z : List Entry × Option PageClaim). IfSome z.1 (PageAgrees g.N.Life.opens z.0)) (λ i. (sym c.self.view_is i, sym c.take.ensures.value i)) (page_agrees g.N.Life.opens c.args.self.now c.requires.consistent c.args.new.now c.requires.page)
 
 pub invariant_of-self : goal.invariant_of-self
-invariant_of-self g c =
+invariant_of-self g c = (c.self.invariant.0, c.self.invariant.1, restored_kept c.self.inside.history c.self.inside.restored c.prepare_group.new.places c.self.invariant.2 c.prepare_group.ensures.same)
+
+pub invariant_of-self-in_err-lsn : goal.invariant_of-self-in_err-lsn
+invariant_of-self-in_err-lsn g c =
     let done = c.append_all.ensures in (
       c.self.invariant.0,
       kept_refused _ _ _ _ _ _ c.self.inside.log.log c.append_all.new.log.log c.self.inside.log.listing c.append_all.new.log.listing c.self.inside.locks c.self.inside.locks _ c.self.inside.faults.total c.self.inside.faults.total c.self.invariant.1 refl refl done.spare done.disk.0 done.disk.1
           (λ opening stands. c.in_err-lsn.ensures.same _ (c.self.invariant.1.life.records opening stands)),
+      restored_kept c.self.inside.history c.self.inside.restored c.prepare_group.new.places c.self.invariant.2 c.prepare_group.ensures.same,
     )
 
 pub invariant_of-self-2 : goal.invariant_of-self-2
@@ -41,6 +46,7 @@ invariant_of-self-2 g c =
           let at = next opening stands in
           done.more (life_log opening c.self.inside.history) (k.life.records opening stands)
           (subst (λ (h : List Entry). AreLawful (life_log opening h ++ c.args.recs.now)) (sym c.self.view_is) (follows.lawful opening stands)) (omega (arith, at.0, at.1))),
+      restored_same _ _ c.note_group.new.places (c.note_group.ensures c.self.inside.history lsn c.args.said.now (restored_kept c.self.inside.history c.self.inside.restored c.prepare_group.new.places c.self.invariant.2 c.prepare_group.ensures.same) c.length-before.ensures) c.enter_group.ensures.history,
     )
 
 pub enter_end-requires-clause-follows : goal.enter_end-requires-clause-follows

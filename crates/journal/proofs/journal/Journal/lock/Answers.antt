@@ -16,6 +16,7 @@ use Rattle.journal.proofs.Ending.{told_stops, stopped_ends}
 use Rattle.journal.proofs.Entering.{looked, entered_entry}
 use Rattle.journal.proofs.Living.{kept_entry, kept_locks}
 use Rattle.journal.proofs.Locking.{lock_consistent, refused_consistent, conflict_told, held_more, held_refused}
+use Rattle.journal.proofs.Restoring.{restored_entry, restored_same}
 use Rattle.journal.proofs.journal.Journal.lock.Goals as goal
 
 pub returns-in_err-check_open-clause-ends : goal.returns-in_err-check_open-clause-ends
@@ -46,6 +47,7 @@ invariant_of-self-in-Ok g c =
       c.self.invariant.0,
       kept_entry _ _ _ _ _ _ c.self.inside.log.log c.self.inside.log.log c.self.inside.log.listing c.self.inside.log.listing c.self.inside.locks c.acquire.new.self _ _ _ k c.check_open.ensures.total e
           (own.history ∙ ap (λ (l : List Entry). l ++ e ∷ []) watch.same) refl (held_more c.self.inside.history c.self.inside.locks k.life.locks c.acquire.new.self a gains) (own.live.0 ∙ ap live_count watch.same) (λ t p waits. waits),
+      restored_entry c.self.inside.history _ c.self.inside.restored e c.self.invariant.2 (own.history ∙ ap (λ (l : List Entry). l ++ e ∷ []) watch.same) (λ s. refl),
     )
 
 pub returns-in-Ok-clause-entered : goal.returns-in-Ok-clause-entered
@@ -92,6 +94,7 @@ invariant_of-self-in-Err-Overlap g c =
       c.self.invariant.0,
       kept_entry _ _ _ _ _ _ c.self.inside.log.log c.self.inside.log.log c.self.inside.log.listing c.self.inside.log.listing c.self.inside.locks c.acquire.new.self _ _ _ k c.check_open.ensures.total e
           (own.history ∙ ap (λ (l : List Entry). l ++ e ∷ []) watch.same) refl (held_refused c.self.inside.history c.self.inside.locks k.life.locks c.acquire.new.self a c.in-Err-Overlap.holder c.in-Err-Overlap.ensures.err) (own.live.0 ∙ ap live_count watch.same) (λ t p waits. waits),
+      restored_entry c.self.inside.history _ c.self.inside.restored e c.self.invariant.2 (own.history ∙ ap (λ (l : List Entry). l ++ e ∷ []) watch.same) (λ s. refl),
     )
 
 pub returns-in-Err-Overlap-clause-entered : goal.returns-in-Err-Overlap-clause-entered
@@ -136,4 +139,4 @@ returns-in-Err-Overlap-clause-conflict g c =
 
 pub invariant_of-self-in-Err-Memory : goal.invariant_of-self-in-Err-Memory
 invariant_of-self-in-Err-Memory g c =
-    (c.self.invariant.0, kept_locks _ _ _ _ _ _ c.self.inside.log.log c.self.inside.log.log c.self.inside.log.listing c.self.inside.log.listing c.self.inside.locks c.acquire.new.self _ _ _ c.self.invariant.1 c.check_open.ensures.total c.watch_session.ensures.same c.in-Err-Memory.ensures.err)
+    (c.self.invariant.0, kept_locks _ _ _ _ _ _ c.self.inside.log.log c.self.inside.log.log c.self.inside.log.listing c.self.inside.log.listing c.self.inside.locks c.acquire.new.self _ _ _ c.self.invariant.1 c.check_open.ensures.total c.watch_session.ensures.same c.in-Err-Memory.ensures.err, restored_same c.self.inside.history _ c.self.inside.restored c.self.invariant.2 c.watch_session.ensures.same)
