@@ -1,3 +1,4 @@
 pub mod Chains
+pub mod Owned
 pub mod Segments
 pub mod Written

@@ -8,15 +8,21 @@
 //! the log has forgotten wants memory: archive runs aren't read yet.
 //!
 //! A lost device comes back segment by segment (Graefe, Guy and Sauer 2015): [`restore`] writes the images of a segment's
-//! pages, and [`mark_restored`] enters that it is restored. [`LogSupply`] does both as a pool first wants a page of it.
+//! pages, and [`mark_restored`] enters that it is restored. [`LogSupply`] does both as a pool first wants a page of it. Where
+//! the device tells what was written last, `restore` has to have written the image of each page that was lost, or the device
+//! has failed.
+//!
+//! [`Bases`] gives the images that a repair begins from; [`NoBases`] gives none.
 #![tactic(auto)]
 
+mod bases;
 mod following;
 mod rebuilding;
 mod restoring;
 mod supply;
 mod writing;
 
+pub use bases::{Bases, NoBases};
 pub use rebuilding::rebuild_in_life;
 pub use restoring::{mark_restored, restore};
 pub use supply::LogSupply;

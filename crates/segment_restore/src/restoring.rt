@@ -8,9 +8,10 @@ ghost use Rattle.page_repair.specs.Images.{SameOthers};
 ghost use Rattle.page_repair.specs.Supplies.{is_restored};
 ghost use Rattle.wal_record.specs.Upkeep.{segment_of};
 ghost use Rattle.wal_record.specs.declared.record.Record.{Record};
-ghost use Rattle.segment_restore.specs.Faults.{no_faults};
+ghost use Rattle.segment_restore.specs.Faults.{no_faults, of_vault};
 ghost use Rattle.segment_restore.specs.Restored.{AreBack, IsBack, IsLost, IsRestored, WasUnrestored, restored_group};
 
+use crate::bases::Bases;
 use crate::writing::restore_page;
 use front::Pass;
 use operators::Operators;
@@ -32,21 +33,23 @@ pub(crate) fn segment_of(page: PageNo) -> u32
 }
 
 /// Restores the page, if it was made. The device may fail.
-fn restore_listed<N: Life, J: Entering<N>, I: Images<N>, R: Wait>(
+fn restore_listed<N: Life, J: Entering<N>, I: Images<N>, B: Bases<N, J>, R: Wait>(
     rt: &R,
     alloc: Global,
     journal: &mut J,
     images: &mut I,
+    bases: &mut B,
     page: PageNo,
     operators: &Operators,
     pass: &mut Pass<Entry, N>,
 ) -> Result<(), Fault>
     ensures written { I.tells → OnOk result (IsBack N.opens pass.old.log pass.new.log page (I.newest images.new page) ⊎ Rose (I.faults images.old) (I.faults images.new)) }
     ensures others { I.tells → SameOthers I.newest page images.old images.new }
+    ensures faults { B.vault_faults bases.old ≤ B.vault_faults bases.new }
     ensures images { I.faults images.old ≤ I.faults images.new }
     ensures entered { Upholds N.opens N.entries N.session_entries is_none (known (J.account journal.old) pass.old no_claims) (known (J.account journal.new) pass.new no_claims) }
     ensures open { OnOk result (MeetsNoEnd (J.account journal.old) (J.account journal.new)) }
-    ensures refused { IfErr result (FailsToBring N.opens N.log_faults N.made no_faults no_faults (J.account journal.old) (J.account journal.new) pass.new.log) }
+    ensures refused { IfErr result (FailsToBring N.opens N.log_faults N.made (of_vault (B.vault_faults bases.old)) (of_vault (B.vault_faults bases.new)) (J.account journal.old) (J.account journal.new) pass.new.log) }
 {
     let listed = journal.listed(rt, page, pass)?;
     if listed.ends.head == 0 {
@@ -57,6 +60,7 @@ fn restore_listed<N: Life, J: Entering<N>, I: Images<N>, R: Wait>(
         alloc,
         journal,
         images,
+        bases,
         page,
         listed.ends.head,
         operators,
@@ -65,29 +69,31 @@ fn restore_listed<N: Life, J: Entering<N>, I: Images<N>, R: Wait>(
 }
 
 /// Writes the images of the segment's pages up to `lost`, the number of pages at the last loss of the data device, in order of
-/// page: each is rebuilt as the log has it now. Pages that came later were never on the lost device. It enters nothing. Where
+/// page: each is rebuilt from its base as the log has it now. Pages that came later were never on the lost device. It enters nothing. Where
 /// the device doesn't take an image, the page will be repaired when it is brought.
-pub fn restore<N: Life, J: Entering<N>, I: Images<N>, R: Wait>(
+pub fn restore<N: Life, J: Entering<N>, I: Images<N>, B: Bases<N, J>, R: Wait>(
     rt: &R,
     alloc: Global,
     journal: &mut J,
     images: &mut I,
+    bases: &mut B,
     segment: u32,
     lost: u32,
     operators: &Operators,
     pass: &mut Pass<Entry, N>,
 ) -> Result<(), Fault>
     ensures written { I.tells → OnOk result (AreBack N.opens pass.old.log pass.new.log (IsLost segment lost) (I.newest images.new) (I.faults images.old) (I.faults images.new)) }
+    ensures faults { B.vault_faults bases.old ≤ B.vault_faults bases.new }
     ensures images { I.faults images.old ≤ I.faults images.new }
     ensures entered { Upholds N.opens N.entries N.session_entries is_none (known (J.account journal.old) pass.old no_claims) (known (J.account journal.new) pass.new no_claims) }
     ensures open { OnOk result (MeetsNoEnd (J.account journal.old) (J.account journal.new)) }
-    ensures refused { IfErr result (FailsToBring N.opens N.log_faults N.made no_faults no_faults (J.account journal.old) (J.account journal.new) pass.new.log) }
+    ensures refused { IfErr result (FailsToBring N.opens N.log_faults N.made (of_vault (B.vault_faults bases.old)) (of_vault (B.vault_faults bases.new)) (J.account journal.old) (J.account journal.new) pass.new.log) }
 {
     let before = segment.saturating_mul(SEGMENT);
     let last = lost.min(before.saturating_add(SEGMENT));
     journal.see(rt, &mut Rights::none(), pass);
     for done in before..last {
-        restore_listed(rt, alloc, journal, images, done + 1, operators, pass)?;
+        restore_listed(rt, alloc, journal, images, bases, done + 1, operators, pass)?;
     }
     Ok(())
 }

@@ -1,6 +1,7 @@
-//! A supply of pages from the log alone.
-ghost use Rattle.segment_restore.specs.Faults.{no_faults};
+//! A supply of pages from the log.
+ghost use Rattle.segment_restore.specs.Faults.{of_vault};
 
+use crate::bases::Bases;
 use crate::rebuilding::rebuild_in_life;
 use crate::restoring::{mark_restored, restore, segment_of};
 use front::Pass;
@@ -13,24 +14,23 @@ use std::sync::Wait;
 use store_model::{Fault, Lsn, PageNo};
 use wal_record::Entry;
 
-/// A supply of pages that are rebuilt from what the log keeps. Backups and archive runs aren't read yet.
+/// A supply of pages that are rebuilt from their bases, or from nothing, and from what the log keeps. Archive runs aren't read
+/// yet.
 #[derive(Drop)]
-pub struct LogSupply<'a> {
+pub struct LogSupply<'a, B> {
     pub operators: &'a Operators,
-    /// How many pages there were at the last loss of the data device, 0 for none. Where it says too few, the others are repaired
-    /// one by one as they are brought.
-    pub lost: u32,
+    pub bases: B,
 }
 
-impl<'a, N: Life, J: Entering<N>> Supply<N, J> for LogSupply<'a> {
-    ghost faults = { λ s. no_faults };
+impl<'a, N: Life, J: Entering<N>, B: Bases<N, J>> Supply<N, J> for LogSupply<'a, B> {
+    ghost faults = { λ s. of_vault (B.vault_faults s.bases) };
 
     fn log_faults(&self) -> u64 {
         0
     }
 
     fn vault_faults(&self) -> u64 {
-        0
+        self.bases.vault_faults()
     }
 
     fn ready<I: Images<N>, R: Wait>(
@@ -52,8 +52,9 @@ impl<'a, N: Life, J: Entering<N>> Supply<N, J> for LogSupply<'a> {
             alloc,
             journal,
             images,
+            &mut self.bases,
             segment,
-            self.lost,
+            listed.lost,
             self.operators,
             pass,
         )?;
@@ -70,6 +71,10 @@ impl<'a, N: Life, J: Entering<N>> Supply<N, J> for LogSupply<'a> {
         head: Lsn,
         pass: &mut Pass<Entry, N>,
     ) -> Result<Sealed, Fault> {
+        if base.is_some() {
+            return rebuild_in_life(rt, alloc, journal, page, base, head, self.operators, pass);
+        }
+        let base = self.bases.base(rt, alloc, journal, page, head, pass)?;
         rebuild_in_life(rt, alloc, journal, page, base, head, self.operators, pass)
     }
 }

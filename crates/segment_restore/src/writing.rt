@@ -7,9 +7,10 @@ ghost use Rattle.page_ops.specs.Claims.{no_claims};
 ghost use Rattle.page_ops.specs.Seeing.{Upholds, is_none, known};
 ghost use Rattle.page_repair.specs.Images.{SameOthers};
 ghost use Rattle.page_repair.specs.Supplies.{IsHead, IsRebuilt};
-ghost use Rattle.segment_restore.specs.Faults.{no_faults};
+ghost use Rattle.segment_restore.specs.Faults.{no_faults, of_vault};
 ghost use Rattle.segment_restore.specs.Restored.{IsHeadImage};
 
+use crate::bases::Bases;
 use crate::rebuilding::rebuild_in_life;
 use front::Pass;
 use operators::Operators;
@@ -48,12 +49,13 @@ fn write_image<N: Life, J: Entering<N>, I: Images<N>, R: Wait>(
     Ok(())
 }
 
-/// Rebuilds the page at this head, from nothing, and writes it to the data device, which may fail.
-pub(crate) fn restore_page<N: Life, J: Entering<N>, I: Images<N>, R: Wait>(
+/// Rebuilds the page at this head, from its base or from nothing, and writes it to the data device, which may fail.
+pub(crate) fn restore_page<N: Life, J: Entering<N>, I: Images<N>, B: Bases<N, J>, R: Wait>(
     rt: &R,
     alloc: Global,
     journal: &mut J,
     images: &mut I,
+    bases: &mut B,
     page: PageNo,
     head: Lsn,
     operators: &Operators,
@@ -62,11 +64,13 @@ pub(crate) fn restore_page<N: Life, J: Entering<N>, I: Images<N>, R: Wait>(
     requires head { IsHead N.opens pass.old.log page head }
     ensures written { I.tells → OnOk result (IsHeadImage N.opens pass.new.log page head (I.newest images.new page) ⊎ Rose (I.faults images.old) (I.faults images.new)) }
     ensures others { I.tells → SameOthers I.newest page images.old images.new }
+    ensures faults { B.vault_faults bases.old ≤ B.vault_faults bases.new }
     ensures images { I.faults images.old ≤ I.faults images.new }
     ensures entered { Upholds N.opens N.entries N.session_entries is_none (known (J.account journal.old) pass.old no_claims) (known (J.account journal.new) pass.new no_claims) }
     ensures open { OnOk result (MeetsNoEnd (J.account journal.old) (J.account journal.new)) }
-    ensures refused { IfErr result (FailsToBring N.opens N.log_faults N.made no_faults no_faults (J.account journal.old) (J.account journal.new) pass.new.log) }
+    ensures refused { IfErr result (FailsToBring N.opens N.log_faults N.made (of_vault (B.vault_faults bases.old)) (of_vault (B.vault_faults bases.new)) (J.account journal.old) (J.account journal.new) pass.new.log) }
 {
-    let sealed = rebuild_in_life(rt, alloc, journal, page, None, head, operators, pass)?;
+    let base = bases.base(rt, alloc, journal, page, head, pass)?;
+    let sealed = rebuild_in_life(rt, alloc, journal, page, base, head, operators, pass)?;
     write_image(rt, journal, images, page, head, &sealed, pass)
 }

@@ -1,6 +1,7 @@
 use Rattle.std.proofs.Common.{refl, sym, arith}
 use Rattle.std.proofs.lemmas.Result.{err_from_is_err_and}
-use Rattle.segment_restore.proofs.Chains.{fails_then, looks, open_then, upheld_both}
+use Rattle.segment_restore.proofs.Chains.{looks, open_then, upheld_both}
+use Rattle.segment_restore.proofs.Owned.{fails_after}
 use Rattle.segment_restore.proofs.Written.{more_back, none_back}
 use Rattle.segment_restore.proofs.restoring.restore.Goals as goal
 
@@ -9,6 +10,7 @@ loop-done-init g c = record {
   written = λ t. none_back g.N.Life.opens c.args.pass.now.log c.see.new.pass.log c.args.segment c.args.lost (g.I.Images.newest c.args.images.now) _ _ _ (omega arith);
   entered = looks _ _ _ _ _ _ _ _ _ c.see.ensures.seen;
   open_still = c.see.ensures.calm.end;
+  faults = omega arith;
   images = omega arith;
 }
 
@@ -21,6 +23,7 @@ loop-done-preserved g c = record {
       (c.loop-done.invariant.written t) (c.in_ok-restore_listed.ensures.written t);
   entered = upheld_both _ _ _ _ _ _ _ _ _ c.loop-done.invariant.entered c.restore_listed.ensures.entered;
   open_still = open_then _ _ _ c.loop-done.invariant.open_still c.in_ok-restore_listed.ensures.open;
+  faults = let i = c.loop-done.invariant.faults in let j = c.restore_listed.ensures.faults in omega (arith, i, j);
   images = let i = c.loop-done.invariant.images in let j = c.restore_listed.ensures.images in omega (arith, i, j);
 }
 
@@ -30,4 +33,4 @@ returns-in_err-restore_listed-clause-entered g c = upheld_both _ _ _ _ _ _ _ _ _
 pub returns-in_err-restore_listed-clause-refused : goal.returns-in_err-restore_listed-clause-refused
 returns-in_err-restore_listed-clause-refused g c =
     let p = err_from_is_err_and c.from_residual.result c.from_residual.ensures.1 in
-    rw (p.1, p.2) (fails_then _ _ _ _ _ _ _ _ _ c.loop-done.invariant.open_still c.loop-done.invariant.entered.keeps c.in_err-restore_listed.ensures.refused)
+    rw (p.1, p.2) (fails_after g.N.Life.opens g.N.Life.log_faults g.N.Life.made _ _ _ _ _ _ c.loop-done.invariant.open_still c.loop-done.invariant.entered.keeps _ _ c.loop-done.invariant.faults c.in_err-restore_listed.ensures.refused)

@@ -10,5 +10,6 @@ invariant-loop-done g l = record {
   written : g.I.Images.tells → AreBackTo g.N.Life.opens l.fn.pass.log l.pass.log l.segment l.lost (g.I.Images.newest l.images) (g.I.Images.faults l.fn.images) (g.I.Images.faults l.images) l.done;
   entered : Upholds g.N.Life.opens g.N.Life.entries g.N.Life.session_entries is_none (known (g.J.Entering.account l.fn.journal) l.fn.pass no_claims) (known (g.J.Entering.account l.journal) l.pass no_claims);
   open_still : MeetsNoEnd (g.J.Entering.account l.fn.journal) (g.J.Entering.account l.journal);
+  faults : g.B.Bases.vault_faults l.fn.bases ≤ g.B.Bases.vault_faults l.bases;
   images : g.I.Images.faults l.fn.images ≤ g.I.Images.faults l.images;
 }

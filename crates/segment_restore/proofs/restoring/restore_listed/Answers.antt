@@ -1,6 +1,5 @@
 use Rattle.std.proofs.Common.{sym, inl}
 use Rattle.std.proofs.lemmas.Result.{err_from_is_err_and}
-use Rattle.segment_restore.specs.Faults.{no_faults}
 use Rattle.segment_restore.proofs.Chains.{looks, upheld_both}
 use Rattle.segment_restore.proofs.Segments.{enter_fails, listed_head}
 use Rattle.segment_restore.proofs.Written.{back_unmade, listed_back}
@@ -12,7 +11,7 @@ returns-in_err-listed-clause-entered g c = looks _ _ _ _ _ _ _ _ _ c.listed.ensu
 pub returns-in_err-listed-clause-refused : goal.returns-in_err-listed-clause-refused
 returns-in_err-listed-clause-refused g c =
     let p = err_from_is_err_and c.from_residual.result c.from_residual.ensures.1 in
-    rw (p.1, p.2) (enter_fails _ _ _ no_faults _ _ _ _ c.in_err-listed.ensures.refused c.in_err-listed.ensures.ends)
+    rw (p.1, p.2) (enter_fails _ _ _ _ _ _ _ _ c.in_err-listed.ensures.refused c.in_err-listed.ensures.ends)
 
 pub returns-then-listed-eq0-clause-entered : goal.returns-then-listed-eq0-clause-entered
 returns-then-listed-eq0-clause-entered g c = looks _ _ _ _ _ _ _ _ _ c.listed.ensures.seen

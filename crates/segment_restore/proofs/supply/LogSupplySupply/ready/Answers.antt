@@ -1,9 +1,10 @@
 use Rattle.std.proofs.lemmas.Result.{err_from_is_err_and}
 use Rattle.page_ops.proofs.Gaining.{keeps_then, upheld}
 use Rattle.page_repair.specs.Supplies.{is_restored}
-use Rattle.segment_restore.specs.Faults.{no_faults}
-use Rattle.segment_restore.proofs.Chains.{fails_then, open_then}
-use Rattle.segment_restore.proofs.Segments.{fails_behind, open_met, restored_both, restored_more}
+use Rattle.std.proofs.Common.{arith}
+use Rattle.segment_restore.proofs.Chains.{open_then}
+use Rattle.segment_restore.proofs.Owned.{fails_after, result_behind_own}
+use Rattle.segment_restore.proofs.Segments.{open_met, restored_both, restored_more}
 use Rattle.segment_restore.proofs.supply.LogSupplySupply.ready.Goals as goal
 
 pub returns-in_err-listed-clause-entered : goal.returns-in_err-listed-clause-entered
@@ -18,7 +19,7 @@ returns-in_err-restore-clause-entered g c = restored_both _ _ _ _ _ _ (upheld _ 
 pub returns-in_err-restore-clause-refused : goal.returns-in_err-restore-clause-refused
 returns-in_err-restore-clause-refused g c =
     let p = err_from_is_err_and c.from_residual-in_err-restore.result c.from_residual-in_err-restore.ensures.1 in
-    rw (p.1, p.2) (fails_then _ _ _ _ _ _ _ _ _ (open_met (g.J.Entering.account c.args.journal.now) (g.J.Entering.account c.listed.new.self) c.in_ok-listed.ensures.ends) c.listed.ensures.seen.keeps c.in_err-restore.ensures.refused)
+    rw (p.1, p.2) (fails_after g.N.Life.opens g.N.Life.log_faults g.N.Life.made _ _ _ _ _ _ (open_met (g.J.Entering.account c.args.journal.now) (g.J.Entering.account c.listed.new.self) c.in_ok-listed.ensures.ends) c.listed.ensures.seen.keeps _ _ (omega arith) c.in_err-restore.ensures.refused)
 
 pub returns-clause-entered : goal.returns-clause-entered
 returns-clause-entered g c =
@@ -27,5 +28,5 @@ returns-clause-entered g c =
 pub returns-clause-refused : goal.returns-clause-refused
 returns-clause-refused g c =
     let none = open_then (g.J.Entering.account c.args.journal.now) (g.J.Entering.account c.listed.new.self) (g.J.Entering.account c.restore.new.journal) (open_met (g.J.Entering.account c.args.journal.now) (g.J.Entering.account c.listed.new.self) c.in_ok-listed.ensures.ends) c.in_ok-restore.ensures.open in
-    fails_behind g.N.Life.opens g.N.Life.log_faults g.N.Life.made no_faults (g.J.Entering.account c.args.journal.now) (g.J.Entering.account c.restore.new.journal) (g.J.Entering.account c.mark_restored.new.journal) c.mark_restored.new.pass.log none c.mark_restored.result
-    (keeps_then (g.J.Entering.account c.args.journal.now) (g.J.Entering.account c.listed.new.self) (g.J.Entering.account c.restore.new.journal) c.listed.ensures.seen.keeps c.restore.ensures.entered.keeps) c.mark_restored.ensures.refused
+    result_behind_own g.N.Life.opens g.N.Life.log_faults g.N.Life.made _ _ (g.J.Entering.account c.args.journal.now) (g.J.Entering.account c.restore.new.journal) (g.J.Entering.account c.mark_restored.new.journal) c.mark_restored.new.pass.log none
+    (keeps_then (g.J.Entering.account c.args.journal.now) (g.J.Entering.account c.listed.new.self) (g.J.Entering.account c.restore.new.journal) c.listed.ensures.seen.keeps c.restore.ensures.entered.keeps) c.mark_restored.result c.mark_restored.ensures.refused
