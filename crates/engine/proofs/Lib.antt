@@ -1,0 +1,11 @@
+pub mod Going
+pub mod Beside
+pub mod Serving
+pub mod Failing
+pub mod LockAsked
+pub mod Told
+pub mod Said
+pub mod Owned
+pub mod Turns
+pub mod Whole
+pub mod Behind

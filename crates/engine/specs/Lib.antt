@@ -1,0 +1,6 @@
+pub mod Sittings
+pub mod Requests
+pub mod Beside
+pub mod Answers
+pub mod Saying
+pub mod Completes

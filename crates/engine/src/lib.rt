@@ -1,0 +1,38 @@
+//! The requests of one thread, over any journal and any pages.
+//!
+//! A caller has [`Session`]s, each with at most one transaction, and a thread's way to the journal and to the pages. A
+//! request locks what it touches first, and only then looks at it. It stands over the traits alone: whoever shares the
+//! journal and the pages with other threads calls the same functions. So far there are sessions, the beginning and the
+//! commit of transactions, and [`get`].
+//!
+//! The model of a session is what its right claims, and what its pass has seen of the history. What is promised:
+//!
+//! 1. [`begin`] gives a session a transaction, and [`commit`] ends it: its Commit and then its acknowledgement are entered,
+//!    and the log is durable up to the Commit. A session's transaction is live, unless a commit of it was refused
+//!    (`specs/Sittings`).
+//! 2. A request that is answered has its answer last in the history, told to its session's transaction, and its reply is
+//!    that of the ordered map of the current contents (`said`). Where its lock is refused, that is entered last, and
+//!    nothing is behind any other refusal of a get (`answers`).
+//! 3. Beside them a request enters at most its lock, the undo and the end of losers that were in the way of the lock, what
+//!    keeps the tree up, and what the upkeep of pages enters (`specs/Beside`). No loser is undone for a request that
+//!    conflicts with a live transaction.
+//! 4. Each refusal has its cause, said of what was known before the call (`refused`, `ends`); a call that is done met no
+//!    end of the life (`open`).
+//! 5. No page is held behind a call, and no frame reserved (`none`, `reserved`).
+#![tactic(auto)]
+
+mod answered;
+mod asking;
+mod beginning;
+mod committing;
+mod getting;
+mod locking;
+mod saying;
+mod seeing;
+mod session;
+
+pub use answered::Answered;
+pub use asking::get;
+pub use beginning::{begin, new_session};
+pub use committing::commit;
+pub use session::Session;
