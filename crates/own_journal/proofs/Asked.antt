@@ -19,7 +19,7 @@ use Rattle.wal_record.specs.Checkpoints.{analysis_of, last_open, page_head}
 use Rattle.wal_record.specs.History.{life_log, log_of}
 use Rattle.wal_record.specs.OpenWrites.{open_list, open_writes}
 use Rattle.wal_record.specs.Rules.{HasSpelling}
-use Rattle.wal_record.specs.Upkeep.{archived, segment_of, standing_runs, unrestored}
+use Rattle.wal_record.specs.Upkeep.{archived, lost_pages, segment_of, standing_runs, unrestored}
 use Rattle.wal_record.specs.declared.entry.Entry.{Entry}
 use Rattle.wal_record.specs.declared.record.OpenWrite.{OpenWrite}
 use Rattle.wal_record.specs.declared.record.Record.{Record}
@@ -66,8 +66,8 @@ first_is (s ∷ ss) o is = is
 -- ---- what is told
 
 module _ (opens : List Record → Type 0) (seen : PassSeen Entry) (h : List Entry) (same : seen.log ≡ h) where
-  pub listed_is : (page segment : ℕ) (x : Listed) → ((opening : List Record) → opens opening → x.ends ≡ page_head (life_log opening h) page) → ((opening : List Record) → opens opening → x.unrestored ≡ list_any (λ s. s == segment) (unrestored (life_log opening h))) → segment ≡ segment_of page → IsListed opens seen.log page x
-  listed_is page segment x ends whole is = subst (λ (l : List Entry). IsListed opens l page x) (sym same) (record { ends = ends; unrestored = λ opening stands. whole opening stands ∙ ap (λ (n : ℕ). list_any (λ s. s == n) (unrestored (life_log opening h))) is })
+  pub listed_is : (page segment : ℕ) (x : Listed) → ((opening : List Record) → opens opening → x.ends ≡ page_head (life_log opening h) page) → ((opening : List Record) → opens opening → x.unrestored ≡ list_any (λ s. s == segment) (unrestored (life_log opening h))) → segment ≡ segment_of page → ((opening : List Record) → opens opening → x.lost ≡ lost_pages (life_log opening h)) → IsListed opens seen.log page x
+  listed_is page segment x ends whole is lost = subst (λ (l : List Entry). IsListed opens l page x) (sym same) (record { ends = ends; unrestored = λ opening stands. whole opening stands ∙ ap (λ (n : ℕ). list_any (λ s. s == n) (unrestored (life_log opening h))) is; lost = lost })
 
   pub survey_is : (x : Survey) → ((opening : List Record) → opens opening → x.analysis ≡ analysis_of (life_log opening h)) → ((opening : List Record) → opens opening → x.losers ≡ losers_left opening h) → x.undone ≡ length (filter is_undo (log_of h)) → x.repaired ≡ length (filter is_repaired h)
       → ((opening : List Record) → opens opening → x.last ≡ length (life_log opening h)) → x.first_kept ≤ x.durable + 1 → x.durable ≡ seen.durable → x.durable ≤ x.last → IsSurvey opens seen x
