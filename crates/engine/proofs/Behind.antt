@@ -1,6 +1,6 @@
 -- A request behind its lock that is answered alone: the leaf found, the session's right shown, the answer told.
-use Rattle.std.proofs.Common.{◌≡◌, ℕ, ◌-◌, Bool, true, false, List, [], ◌∷◌, ◌++◌, length, Option, Some, None, Result, Ok, Err, refl, sym, ap, subst, ◌∙◌, inl}
-use Rattle.std.specs.Prelude.{IfErr, IfOk, IfSome, OnErr, OnOk}
+use Rattle.std.proofs.Common.{◌≡◌, ℕ, ◌-◌, true, List, [], length, Option, Some, None, Result, Ok, Err, refl, sym, ap, subst, ◌∙◌, inl}
+use Rattle.std.specs.Prelude.{IfErr, IfSome, OnOk}
 use Rattle.std.specs.Option.{option_map}
 use mathlib.Core.List.{IsPrefix}
 use Rattle.books.specs.Rights.{SessionClaim}
@@ -33,7 +33,6 @@ use Rattle.engine.specs.Completes.{Completes, CompletesFor, IsSaidFor, OwnsLock}
 use Rattle.engine.specs.Requests.{lock_of}
 use Rattle.engine.specs.Saying.{MaySay, said_entries}
 use Rattle.engine.specs.Sittings.{IsOwned}
-use Rattle.engine.specs.declared.answered.Answered.{Answered}
 use Rattle.engine.proofs.Serving.{Upkept, begins_upkept, entered_last, nothing_last, upkept_looked, upkept_of, upkept_then}
 use Rattle.engine.proofs.LockAsked.{root_made}
 use Rattle.engine.proofs.Owned.{owned_later, owned_locked, owned_said}

@@ -1,6 +1,5 @@
 -- Entries beside a request's own, and losers in the way of its lock.
-use Rattle.std.proofs.Common.{◌≡◌, ℕ, eqb, Bool, true, false, List, [], ◌∷◌, ◌++◌, refl, sym, ap, subst, ◌∙◌}
-use Rattle.std.specs.Prelude.{◌||◌}
+use Rattle.std.proofs.Common.{◌≡◌, ℕ, eqb, Bool, true, List, [], ◌∷◌, ◌++◌, refl, sym, subst}
 use Rattle.std.specs.List.{list_all, list_any}
 use mathlib.Core.List.{IsPrefix}
 use Rattle.store_model.proofs.Bools.{both_true, and_true, or_left, or_right}
@@ -14,10 +13,9 @@ use Rattle.wal_record.specs.declared.entry.Entry.{Entry}
 use Rattle.wal_record.specs.declared.entry.Entry.TheVariants as entries
 use Rattle.wal_record.proofs.Along.{AllAlong_less}
 use Rattle.claim_laws.proofs.Losers.{loser_law}
-use Rattle.page_ops.specs.Groups.{Each}
 use Rattle.page_ops.specs.Seeing.{IsConsistent, is_upkeep}
 use Rattle.rollback.specs.Endings.{rolls_over}
-use Rattle.engine.specs.Beside.{AreInWay, IsInWay, is_beside, is_one_of}
+use Rattle.engine.specs.Beside.{IsInWay, is_beside, is_one_of}
 
 -- ---- kinds
 

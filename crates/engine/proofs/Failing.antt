@@ -1,11 +1,11 @@
 -- Why a request is refused, behind calls that met no end.
-use Rattle.std.proofs.Common.{◌≡◌, ◌<◌, List, Result, Ok, Err, sym, ap, subst, ◌∙◌, arith}
-use Rattle.std.specs.Prelude.{IfErr, OnOk}
+use Rattle.std.proofs.Common.{List, Result, Ok, Err, sym, ◌∙◌}
+use Rattle.std.specs.Prelude.{IfErr}
 use Rattle.store_model.specs.declared.fault.Fault.{Fault}
 use Rattle.store_model.specs.declared.fault.Fault.TheVariants as faults
 use Rattle.wal_record.specs.declared.record.Record.{Record}
 use Rattle.wal_record.specs.declared.entry.Entry.{Entry}
-use Rattle.page_ops.specs.Causes.{Ends, EndsBy, FailsToBring, FailsToEnter, IsOpen, MeetsNoEnd, NoOther, OrConflict}
+use Rattle.page_ops.specs.Causes.{EndsBy, FailsToBring, FailsToEnter, IsOpen, MeetsNoEnd, OrConflict}
 use Rattle.page_ops.specs.Desks.{Faults, KeepsFaults}
 use Rattle.page_ops.specs.Names.{LedgerName}
 use Rattle.page_ops.specs.Seeing.{Account, Keeps}

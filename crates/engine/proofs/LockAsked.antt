@@ -1,6 +1,5 @@
 -- A lock asked for, and losers in the way of it.
-use Rattle.std.proofs.Common.{◌≡◌, ℕ, ◌+◌, ◌<◌, Bool, true, false, eqb, cond, List, [], ◌∷◌, ◌++◌, length, Option, Some, None, Result, Ok, Err, refl, sym, ap, subst, ◌∙◌, arith}
-use Rattle.std.specs.Prelude.{IfErr, IsTrue, is_some}
+use Rattle.std.proofs.Common.{◌≡◌, ℕ, ◌+◌, ◌<◌, true, List, [], ◌∷◌, ◌++◌, Result, Ok, Err, refl, sym, ap, subst, ◌∙◌, arith}
 use Rattle.books.specs.Rights.{SessionClaim}
 use Rattle.front.specs.Seen.{PassSeen}
 use Rattle.store_model.specs.Range.{Interval}
@@ -8,18 +7,16 @@ use Rattle.store_model.specs.declared.fault.Fault.{Fault}
 use Rattle.store_model.specs.declared.fault.Fault.TheVariants as faults
 use Rattle.store_model.specs.declared.range.Mode.{Mode}
 use Rattle.wal_record.specs.History.{life_log}
-use Rattle.wal_record.specs.Images.{image}
 use Rattle.wal_record.specs.Legal.{held}
 use Rattle.wal_record.specs.OpenWrites.{is_loser}
 use Rattle.wal_record.specs.declared.record.Record.{Record}
 use Rattle.wal_record.specs.declared.entry.Entry.{Entry}
 use Rattle.wal_record.specs.declared.entry.Entry.TheVariants as entries
 use Rattle.tree_laws.proofs.Whole.{tree}
-use Rattle.page_ops.specs.Causes.{Ends, EndsBy, FailsToEnter, OrConflict}
 use Rattle.page_ops.specs.Claims.{session_alone}
 use Rattle.page_ops.specs.Desks.{IsMade}
 use Rattle.page_ops.specs.Names.{LedgerName}
-use Rattle.page_ops.specs.Outcomes.{IsGrant, IsLeastLoser, locked}
+use Rattle.page_ops.specs.Outcomes.{IsGrant, locked}
 use Rattle.page_ops.specs.Seeing.{Account, Enters, IsConsistent, Known, known}
 use Rattle.page_ops.specs.declared.outcome.Grant.{Grant}
 use Rattle.page_ops.specs.declared.outcome.Grant.TheVariants as grants

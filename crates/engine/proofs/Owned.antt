@@ -1,5 +1,5 @@
 -- The session's transaction is live, as long as no commit of it was refused.
-use Rattle.std.proofs.Common.{◌≡◌, ℕ, ◌+◌, ◌<◌, Bool, true, false, cond, List, [], ◌∷◌, ◌++◌, Option, Some, None, Result, Ok, Err, refl, sym, ap, subst, ◌∙◌}
+use Rattle.std.proofs.Common.{◌≡◌, ℕ, ◌+◌, Bool, true, false, cond, List, [], ◌∷◌, ◌++◌, Some, Result, Ok, Err, refl, sym, ap, subst, ◌∙◌}
 use Rattle.std.specs.Prelude.{IfOk, is_ok}
 use mathlib.Core.List.{IsPrefix}
 use Rattle.books.specs.Rights.{SessionClaim}
@@ -11,7 +11,7 @@ use Rattle.store_model.specs.declared.range.Mode.{Mode}
 use Rattle.store_model.specs.declared.reply.Reply.{Reply}
 use Rattle.store_model.specs.declared.request.Request.{Request}
 use Rattle.wal_record.specs.Books.{session_entries}
-use Rattle.wal_record.specs.History.{Live, Phase, life_log, phase}
+use Rattle.wal_record.specs.History.{Live, phase}
 use Rattle.wal_record.specs.Legal.{IsLegal}
 use Rattle.wal_record.specs.Locks.{Held}
 use Rattle.wal_record.specs.declared.record.Record.{Record}
@@ -25,7 +25,6 @@ use Rattle.page_ops.specs.Outcomes.{begun}
 use Rattle.page_ops.specs.Seeing.{Account, Enters, IsConsistent, Known, known}
 use Rattle.group_laws.proofs.Owners.{transaction}
 use Rattle.group_laws.proofs.Quiet.{stays}
-use Rattle.rollback.specs.Owners.{IsOwnerOf}
 use Rattle.engine.specs.Answers.{HasLocked}
 use Rattle.engine.specs.Sittings.{IsOwned, IsSeated}
 

@@ -1,9 +1,8 @@
 -- An answer handed to the journal alone, as the body has it.
-use Rattle.std.proofs.Common.{◌≡◌, ℕ, ◌+◌, Bool, true, false, List, [], ◌∷◌, ◌++◌, length, Option, Some, None, Result, Ok, Err, refl, sym, ap, subst, ◌∙◌, arith, append-nil}
+use Rattle.std.proofs.Common.{◌≡◌, ℕ, true, false, List, [], ◌∷◌, ◌++◌, Option, Some, None, Result, Ok, Err, refl, sym, ap, subst, ◌∙◌, arith, append-nil}
 use Rattle.std.specs.Prelude.{IfErr, IfOk, IfSome, IsSome, OnErr}
 use Rattle.std.specs.List.{list_all}
 use Rattle.std.specs.Option.{option_map}
-use mathlib.Core.List.{IsPrefix}
 use Rattle.books.specs.Rights.{PageClaim, SessionClaim}
 use Rattle.front.specs.Seen.{PassSeen}
 use Rattle.store_model.specs.declared.fault.Fault.{Fault}
@@ -18,21 +17,20 @@ use Rattle.wal_record.specs.Rules.{is_number}
 use Rattle.wal_record.specs.declared.record.Record.{Record}
 use Rattle.wal_record.specs.declared.entry.Entry.{Entry}
 use Rattle.page_ops.specs.Causes.{FailsToEnter, NoOther, OrFull}
-use Rattle.page_ops.specs.Claims.{AreInRange, Claims, IsInRange, PageAgrees, SessionAgrees, no_claims}
-use Rattle.page_ops.specs.Groups.{AreFilled, HasSpeaker, group_entries}
+use Rattle.page_ops.specs.Claims.{AreInRange, Claims, IsInRange, PageAgrees, no_claims}
+use Rattle.page_ops.specs.Groups.{AreFilled, group_entries}
 use Rattle.page_ops.specs.Hands.{Hand, IsInHand}
 use Rattle.page_ops.specs.Names.{LedgerName}
 use Rattle.page_ops.specs.Outcomes.{IsAnswer, IsFull, KeepsRights, SameHolders, page_of}
-use Rattle.page_ops.specs.Seeing.{Account, Enters, Known, known}
+use Rattle.page_ops.specs.Seeing.{Account, Enters, known}
 use Rattle.page_ops.specs.declared.group.Group.{Group}
-use Rattle.page_ops.specs.declared.group.Said.{Said}
 use Rattle.page_ops.specs.declared.outcome.Entered.{Entered}
 use Rattle.page_ops.specs.declared.outcome.Entered.TheVariants.{At, NoRoom, Late}
 use Rattle.page_ops.proofs.Staying.{longer_log}
 use Rattle.smo.specs.Asked.{Asked, AskedIfMade, MayAsk}
 use Rattle.smo.specs.Settled.{claims_of}
 use Rattle.leaf_writes.proofs.Owners.{keeps_owner, leaves}
-use Rattle.engine.specs.Saying.{KeepsHolder, MaySay, Says, said_entries, told_alone}
+use Rattle.engine.specs.Saying.{KeepsHolder, MaySay, said_entries, told_alone}
 
 -- a told answer has no record
 pub none_logged : (result : Result ℕ Fault) (owner : Option SessionClaim) (request : Request) (told : Result Reply Memory) → log_of (said_entries result owner request told) ≡ []

@@ -1,11 +1,10 @@
 -- What the calls of a request enter, one after the other.
-use Rattle.std.proofs.Common.{◌≡◌, ℕ, Bool, true, false, List, [], ◌∷◌, ◌++◌, Option, Some, None, Result, Ok, Err, refl, sym, ap, subst, ◌∙◌, append_assoc, append-nil}
+use Rattle.std.proofs.Common.{◌≡◌, ℕ, true, false, List, [], ◌∷◌, ◌++◌, Result, Ok, Err, refl, sym, ap, subst, ◌∙◌, append_assoc, append-nil}
 use Rattle.std.specs.List.{list_all}
 use mathlib.Core.List.{IsPrefix}
 use Rattle.books.specs.Rights.{SessionClaim}
 use Rattle.front.specs.Seen.{PassSeen}
 use Rattle.store_model.specs.declared.fault.Fault.{Fault}
-use Rattle.store_model.specs.declared.fault.Fault.TheVariants as faults
 use Rattle.store_model.specs.declared.request.Request.{Request}
 use Rattle.wal_record.specs.Locks.{Held}
 use Rattle.wal_record.specs.declared.record.Record.{Record}
@@ -15,7 +14,7 @@ use Rattle.page_ops.specs.Claims.{Claims, no_claims}
 use Rattle.page_ops.specs.Desks.{Desk, Faults, KeepsFaults}
 use Rattle.page_ops.specs.Gains.{Gains}
 use Rattle.page_ops.specs.Names.{LedgerName}
-use Rattle.page_ops.specs.Seeing.{Account, Enters, IsConsistent, Upholds, is_upkeep, known}
+use Rattle.page_ops.specs.Seeing.{Account, Enters, Upholds, is_upkeep, known}
 use Rattle.page_ops.proofs.Gaining.{gains_of, gains_of_upheld, gains_then}
 use Rattle.rollback.specs.Endings.{RollsOver}
 use Rattle.rollback.specs.Rolls.{Standing, known_by, standing}

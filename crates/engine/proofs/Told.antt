@@ -1,26 +1,23 @@
 -- Answers that are told alone, from a leaf in hand.
-use Rattle.std.proofs.Common.{◌≡◌, ℕ, ◌-◌, ◌<◌, Bool, true, false, cond, eqb, List, [], ◌∷◌, ◌++◌, length, Option, Some, None, Result, Ok, Err, refl, sym, ap, subst, ◌∙◌, inl}
+use Rattle.std.proofs.Common.{◌≡◌, ℕ, Bool, true, cond, List, [], ◌∷◌, ◌++◌, length, Option, Some, None, refl, sym, ap, subst, ◌∙◌, inl}
 use Rattle.std.specs.Prelude.{not, option_map}
 use Rattle.std.specs.List.{list_any}
 use Rattle.std.proofs.lemmas.List.Folds.{list_any-append}
 use mathlib.Core.List.{IsPrefix}
 use Rattle.books.specs.Rights.{PageClaim, SessionClaim}
-use Rattle.front.specs.Seen.{PassSeen}
 use Rattle.store_model.proofs.Bools.{and_true, or_left}
 use Rattle.store_model.specs.Answer.{Answer, answer}
 use Rattle.store_model.specs.Contents.{Contents}
 use Rattle.store_model.specs.Range.{Interval, includes, is_below, point}
-use Rattle.store_model.specs.declared.fault.Fault.{Fault}
-use Rattle.store_model.specs.declared.fault.Fault.TheVariants as faults
 use Rattle.store_model.specs.declared.reply.Reply.{Reply}
 use Rattle.store_model.specs.declared.reply.Reply.TheVariants as replies
 use Rattle.store_model.specs.declared.request.Request.{Request}
 use Rattle.store_model.specs.declared.request.Request.TheVariants as requests
 use Rattle.wal_record.specs.Books.{session_entries}
 use Rattle.wal_record.specs.Contents.{current}
-use Rattle.wal_record.specs.History.{is_owner, life_log}
+use Rattle.wal_record.specs.History.{life_log}
 use Rattle.wal_record.specs.Images.{IsLeafOf}
-use Rattle.wal_record.specs.Legal.{IsLegal, ReplyRule, held, untold}
+use Rattle.wal_record.specs.Legal.{IsLegal, ReplyRule, held}
 use Rattle.wal_record.specs.Locks.{Held, covers, locks, loser_locks, taken_locks}
 use Rattle.wal_record.specs.State.{leaf_rows, live}
 use Rattle.wal_record.specs.declared.record.Record.{Record}
@@ -31,17 +28,16 @@ use Rattle.log_laws.proofs.Central.{eqb_self}
 use Rattle.log_laws.proofs.Locked.{in_point}
 use Rattle.foster_laws.proofs.CutRows.{not_itself}
 use Rattle.page_ops.specs.Asking.{IsAskable}
-use Rattle.page_ops.specs.Claims.{Claims, SessionAgrees}
+use Rattle.page_ops.specs.Claims.{SessionAgrees}
 use Rattle.page_ops.specs.Hands.{Hand, IsInHand}
 use Rattle.page_ops.specs.Names.{LedgerName}
-use Rattle.page_ops.specs.Seeing.{Account, Enters, IsConsistent, IsMoment, Known, known}
+use Rattle.page_ops.specs.Seeing.{Enters, IsConsistent, IsMoment, Known}
 use Rattle.group_laws.proofs.Follows.{get_follows, page_and_session}
 use Rattle.group_laws.proofs.Owners.{transaction}
 use Rattle.group_laws.proofs.Quiet.{stays}
-use Rattle.smo.specs.Settled.{claims_of}
 use Rattle.engine.specs.Answers.{HasLocked, IsSaidAt}
 use Rattle.engine.specs.Requests.{lock_of}
-use Rattle.engine.specs.Saying.{MaySay, said_entries, told_alone}
+use Rattle.engine.specs.Saying.{MaySay, told_alone}
 use Rattle.store_model.specs.declared.pair.Pair.{Pair}
 use Rattle.front.proofs.Keeping.{prefix_trans}
 use Rattle.wal_record.specs.declared.page.PageState.{PageState}
@@ -55,7 +51,6 @@ use Rattle.page_ops.specs.Asking.{AnswersFrom, EndsRange}
 use Rattle.group_laws.proofs.Follows.{Ready, answer_alone, is_image, lock_stays, stay, value_is}
 use Rattle.foster_tree.specs.Scans.{Collects, KeepsLocked}
 use Rattle.foster_tree.proofs.Scanning.{stays as collects_stays}
-use Rattle.engine.specs.declared.answered.Answered.{Answered}
 
 -- ---- locks that stay
 

@@ -1,6 +1,5 @@
 -- A turn of locking: the lock is granted, refused, or a loser in its way is undone.
-use Rattle.std.proofs.Common.{◌≡◌, ℕ, ◌+◌, ◌<◌, Bool, true, false, List, [], ◌∷◌, ◌++◌, length, Option, Some, None, Result, Ok, Err, refl, sym, ap, subst, ◌∙◌, arith}
-use Rattle.std.specs.Prelude.{IfErr}
+use Rattle.std.proofs.Common.{◌≡◌, ℕ, ◌+◌, ◌<◌, List, [], length, Result, Ok, Err, refl, sym, ap, subst, ◌∙◌}
 use mathlib.Core.List.{IsPrefix}
 use Rattle.books.specs.Rights.{SessionClaim}
 use Rattle.front.specs.Seen.{PassSeen}
@@ -12,10 +11,9 @@ use Rattle.store_model.specs.declared.range.Mode.{Mode}
 use Rattle.wal_record.specs.Legal.{held}
 use Rattle.wal_record.specs.declared.record.Record.{Record}
 use Rattle.wal_record.specs.declared.entry.Entry.{Entry}
-use Rattle.wal_record.specs.declared.entry.Entry.TheVariants as entries
-use Rattle.page_ops.specs.Causes.{Ends, EndsBy, FailsToBring, FailsToEnter, MeetsNoEnd, OrConflict}
+use Rattle.page_ops.specs.Causes.{Ends, FailsToBring, FailsToEnter, MeetsNoEnd, OrConflict}
 use Rattle.page_ops.specs.Claims.{session_alone}
-use Rattle.page_ops.specs.Desks.{Desk, Faults, KeepsFaults}
+use Rattle.page_ops.specs.Desks.{Desk}
 use Rattle.page_ops.specs.Names.{LedgerName}
 use Rattle.page_ops.specs.Outcomes.{IsGrant, locked}
 use Rattle.page_ops.specs.Seeing.{Account, Enters, known}

@@ -1,10 +1,8 @@
 -- A request and its lock together: the right behind the lock is to the same session and transaction.
-use Rattle.std.proofs.Common.{◌≡◌, ℕ, ◌+◌, ◌<◌, Bool, true, false, List, [], ◌∷◌, ◌++◌, length, Option, Some, None, Result, Ok, Err, refl, sym, ap, subst, ◌∙◌, inl, inr}
-use Rattle.std.specs.Prelude.{◌⊎◌, IfErr, IfOk, IfSome, IsSome, OnErr, OnOk}
+use Rattle.std.proofs.Common.{◌≡◌, ℕ, ◌+◌, Bool, true, false, List, [], ◌∷◌, length, Option, Some, None, Result, Ok, Err, refl, sym, ap, subst, ◌∙◌, inl, inr}
+use Rattle.std.specs.Prelude.{IfErr, IfOk, IfSome, IsSome, OnOk}
 use Rattle.std.specs.Option.{option_map}
-use mathlib.Core.List.{IsPrefix}
 use Rattle.books.specs.Rights.{SessionClaim}
-use Rattle.front.specs.Seen.{PassSeen}
 use Rattle.store_model.specs.declared.fault.Fault.{Fault}
 use Rattle.store_model.specs.declared.fault.Fault.TheVariants as faults
 use Rattle.store_model.specs.declared.reply.Outcome.TheVariants as outcomes
@@ -16,11 +14,11 @@ use Rattle.wal_record.specs.declared.entry.Entry.{Entry}
 use Rattle.wal_record.specs.declared.entry.Entry.TheVariants as entries
 use Rattle.page_ops.specs.Causes.{FailsToBring, MeetsNoEnd, OrConflict}
 use Rattle.page_ops.specs.Claims.{SessionAgrees}
-use Rattle.page_ops.specs.Desks.{Desk, Faults, KeepsFaults}
+use Rattle.page_ops.specs.Desks.{Faults, KeepsFaults}
 use Rattle.page_ops.specs.Names.{LedgerName}
 use Rattle.page_ops.specs.Outcomes.{IsConflict}
 use Rattle.page_ops.specs.Seeing.{Account, Keeps}
-use Rattle.rollback.specs.Rolls.{Standing, standing}
+use Rattle.rollback.specs.Rolls.{Standing}
 use Rattle.rollback.proofs.Failing.{none_then}
 use Rattle.engine.specs.Answers.{AreLast, Answers, FailsToAsk, HasLocked, IsSaidAt, Locks, Tells, lock_answer}
 use Rattle.engine.specs.Completes.{Completes, CompletesFor, IsSaidFor, OwnsLock}

@@ -1,5 +1,5 @@
 -- What a request enters and answers.
-use Rattle.std.specs.Prelude.{◌≡◌, ◌⊎◌, ◌<◌, ℕ, List, [], ◌∷◌, ◌++◌, length, Option, Some, None, Result, Ok, Err, Bool, true, false, IsTrue}
+use Rattle.std.specs.Prelude.{◌≡◌, ◌⊎◌, ◌<◌, ℕ, List, [], ◌∷◌, ◌++◌, length, Some, Result, Ok, Err, Bool, true, false, IsTrue}
 use Rattle.std.specs.List.{list_all}
 use Rattle.std.specs.Option.{option_map}
 use Rattle.books.specs.Rights.{SessionClaim}
@@ -19,7 +19,7 @@ use Rattle.wal_record.specs.declared.entry.Entry.{Entry}
 use Rattle.wal_record.specs.declared.entry.Entry.TheVariants as entries
 use Rattle.page_ops.specs.Causes.{FailsToBring, IsOpen}
 use Rattle.page_ops.specs.Claims.{SessionAgrees}
-use Rattle.page_ops.specs.Desks.{Desk, Faults, KeepsFaults}
+use Rattle.page_ops.specs.Desks.{Faults, KeepsFaults}
 use Rattle.page_ops.specs.Gains.{Gains}
 use Rattle.page_ops.specs.Names.{LedgerName}
 use Rattle.page_ops.specs.Seeing.{Account, IsConsistent}

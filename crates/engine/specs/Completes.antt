@@ -1,5 +1,5 @@
 -- What a request enters and answers behind its lock.
-use Rattle.std.specs.Prelude.{ℕ, List, [], ◌++◌, Option, Some, None, Result, true, IsTrue}
+use Rattle.std.specs.Prelude.{List, [], ◌++◌, Option, Some, None, Result, true, IsTrue}
 use Rattle.std.specs.List.{list_all}
 use Rattle.books.specs.Rights.{SessionClaim}
 use Rattle.store_model.specs.declared.fault.Fault.{Fault}

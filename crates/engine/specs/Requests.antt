@@ -1,5 +1,4 @@
 -- What a request locks, and for which reasons it may be refused beside those of a page that is brought.
-use Rattle.std.specs.Prelude.{ℕ}
 use Rattle.store_model.specs.Range.{Interval, point}
 use Rattle.store_model.specs.declared.fault.Fault.{Fault}
 use Rattle.store_model.specs.declared.fault.Fault.TheVariants as faults

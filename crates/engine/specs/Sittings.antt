@@ -1,5 +1,5 @@
 -- What a caller's token of a session holds.
-use Rattle.std.specs.Prelude.{◌≡◌, ◌<◌, ℕ, List, Option, Some, None, IsSome, Bool, false}
+use Rattle.std.specs.Prelude.{◌≡◌, ◌<◌, List, Option, Some, None, IsSome, Bool, false}
 use Rattle.books.specs.Rights.{SessionClaim}
 use Rattle.front.specs.Seen.{PassSeen}
 use Rattle.wal_record.specs.declared.record.Record.{Record}
