@@ -11,4 +11,6 @@ mod life;
 #[cfg(test)]
 mod locks;
 #[cfg(test)]
+mod restores;
+#[cfg(test)]
 mod runs;
