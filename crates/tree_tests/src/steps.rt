@@ -13,17 +13,19 @@ use books::SessionRight;
 use foster_tree::{find_leaf, lookup};
 use front::Pass;
 use leaf_writes::{Change, How, write_key};
+use operators::join;
 use page_ops::{Entering, Held, Life, Pages, Rights};
 use std::alloc::Global;
 use std::sync::Wait;
-use store_model::{Fault, HIGHEST, Key, TxId, Value};
+use store_model::{Fault, HIGHEST, Key, OpValue, TxId, Value};
 use wal_record::Entry;
 
-/// What becomes of a key: it is put, or deleted where there are no letters; or its last write is taken back, and it has so
-/// many letters again, or none.
+/// What becomes of a key: it is put, or deleted where there are no letters; or so many letters are joined to its value; or
+/// its last write is taken back, and it has so many letters again, or none.
 #[derive(Clone, Copy)]
 pub(crate) enum Deed {
     Write,
+    Join,
     Undo,
 }
 
@@ -65,6 +67,25 @@ fn value_of(letters: usize) -> Option<Value> {
     Value::new([b'v'; 256].get(..letters)?)
 }
 
+/// The operator join, which puts so many letters behind this value.
+#[tactic(auto, unfolding(operators::specs::Means::made_by))]
+fn join_of(letters: usize, tx: TxId, key: Key, old: Option<Value>) -> Option<Change>
+    ensures { IfSome result (IsChangeOf tx key old) }
+{
+    let argument = OpValue::new([b'v'; 64].get(..letters)?)?;
+    let joined = join(&old, &argument)?;
+    Some(Change {
+        tx,
+        key,
+        new: Some(Value::new(joined.as_bytes())?),
+        how: How::Apply {
+            old,
+            operator: 3,
+            argument,
+        },
+    })
+}
+
 /// The change of a key that has this value.
 fn change_of(keys: &Keys, tx: TxId, key: &Key, old: &Option<Value>) -> Option<Change>
     ensures { IfSome result (IsChangeOf tx key.now old.now) }
@@ -82,6 +103,7 @@ fn change_of(keys: &Keys, tx: TxId, key: &Key, old: &Option<Value>) -> Option<Ch
             how: How::Write { old },
         }),
         Deed::Write => None,
+        Deed::Join => join_of(keys.letters, tx, key, old),
         Deed::Undo => Some(Change {
             tx,
             key,
@@ -137,7 +159,7 @@ fn leaf_for<N: Life, J: Entering<N>, P: Pages<N, J>, R: Wait>(
     ensures none { IfErr result (λ fault. (P.desk pages.new).out ≡ 0) }
 {
     match deed {
-        Deed::Write => find_leaf_for_write(rt, alloc, pages, journal, key, pass),
+        Deed::Write | Deed::Join => find_leaf_for_write(rt, alloc, pages, journal, key, pass),
         Deed::Undo => {
             pages.reserve_new(rt, alloc, journal, pass)?;
             find_leaf(rt, alloc, pages, journal, key, pass)

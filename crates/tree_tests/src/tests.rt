@@ -155,6 +155,17 @@ fn undo(from: u32, behind: u32, letters: usize) -> Step {
     })
 }
 
+/// Letters are joined to the values of keys of 4 bytes.
+fn join(from: u32, behind: u32, letters: usize) -> Step {
+    Step::Change(Keys {
+        deed: Deed::Join,
+        from,
+        behind,
+        length: 4,
+        letters,
+    })
+}
+
 fn scan(from: u32, behind: u32) -> Step {
     Step::Scan { from, behind }
 }
@@ -255,6 +266,22 @@ fn an_undo_is_never_refused_for_room(rt: HostRuntime) -> Result<(), Fail> {
     let split = told(&rt, rt.alloc(), &steps)?;
     let wanted = "pages 2\n0 ..- k073>2 73 0 1460 k000 k072\n0 k073..- 72 0 1431 k073 k144\n";
     assert_eq!(rt; split.as_str(), wanted);
+    Ok(())
+}
+
+/// 144 short rows and 6 bytes more are 4,038: 13 letters more fill the leaf, and for 14 it is split. The undo gives the
+/// value back.
+#[test]
+fn what_an_operator_makes_longer_splits_its_leaf(rt: HostRuntime) -> Result<(), Fail> {
+    let full = told(&rt, rt.alloc(), &[short(0, 144), join(0, 1, 13)])?;
+    assert_eq!(rt; full.as_str(), "pages 1\n0 ..- 144 0 2893 k000 k143\n");
+    let split = told(&rt, rt.alloc(), &[short(0, 144), join(0, 1, 14)])?;
+    let wanted = "pages 2\n0 ..- k072>2 72 0 1454 k000 k071\n0 k072..- 72 0 1440 k072 k143\n";
+    assert_eq!(rt; split.as_str(), wanted);
+    let steps = [short(0, 144), join(0, 1, 14), undo(0, 1, 20)];
+    let undone = told(&rt, rt.alloc(), &steps)?;
+    let wanted = "pages 2\n0 ..- k072>2 72 0 1440 k000 k071\n0 k072..- 72 0 1440 k072 k143\n";
+    assert_eq!(rt; undone.as_str(), wanted);
     Ok(())
 }
 
