@@ -174,6 +174,19 @@ fn too_high(alloc: Global) -> Option<PageState>
     })
 }
 
+/// It claims the fence keys of page 4.
+fn another(alloc: Global) -> Option<PageState>
+    ensures { IfSome result KeepsState }
+{
+    Some(PageState {
+        level: 0,
+        low: Bound::at(b"k144")?,
+        high: Bound::at(b"k216")?,
+        foster: None,
+        rows: Rows::Leaf(List::new(alloc)),
+    })
+}
+
 /// It is no leaf.
 fn no_leaf(alloc: Global) -> Option<PageState>
     ensures { IfSome result KeepsState }
@@ -197,6 +210,7 @@ fn wrong_state(alloc: Global, number: u32) -> Option<PageState>
     match number {
         0 => too_low(alloc),
         1 => too_high(alloc),
+        2 => another(alloc),
         _ => no_leaf(alloc),
     }
 }
@@ -255,7 +269,7 @@ pub(crate) fn ask_all<N: Life, J: Entering<N>, P: Pages<N, J>, R: Wait>(
     ensures none { (P.desk pages.new.pages).out ≡ 0 }
 {
     let mut letters = 0usize;
-    for number in 0..3 {
+    for number in 0..4 {
         if let Some(state) = wrong_state(alloc, number) {
             spoil_page::<N, J, P, R>(rt, pages, 2, state);
         }

@@ -346,7 +346,8 @@ fn a_put_that_lacks_memory_enters_nothing(rt: HostRuntime) -> Result<(), Fail> {
     }
 }
 
-/// A leaf that claims other fence keys, or another level, than its parent has for it is renewed, and the value is found.
+/// A leaf that claims other fence keys than its parent has for it, those of another leaf among them, or another level, is
+/// renewed, and the value is found.
 #[test]
 fn a_page_that_does_not_fit_its_parent_is_renewed(rt: HostRuntime) -> Result<(), Fail> {
     let tree = Tree {
@@ -356,7 +357,7 @@ fn a_page_that_does_not_fit_its_parent_is_renewed(rt: HostRuntime) -> Result<(),
         behind: 0,
     };
     let told = told_of(&rt, rt.alloc(), tree)?;
-    let wanted = "1 ..- >3 k072>2 k144>4 k216>5\n0 k072..k144 72 0 1440 k072 k143\nletters 60\n";
+    let wanted = "1 ..- >3 k072>2 k144>4 k216>5\n0 k072..k144 72 0 1440 k072 k143\nletters 80\n";
     assert_eq!(rt; told.as_str(), wanted);
     Ok(())
 }
