@@ -1,0 +1,99 @@
+//! What a life begins with.
+ghost use Rattle.std.specs.Prelude.{◌≡◌, ◌≢◌, ◌≤◌, ℕ, List, [], ◌∷◌, ◌++◌, None, IfOk};
+ghost use Rattle.books.specs.Booking.{entry, entry_of};
+ghost use Rattle.page_index.specs.Index.{IsIn, limit_of};
+ghost use Rattle.wal_record.specs.Sound.{AreLawful, IsSound};
+ghost use Rattle.wal_record.specs.declared.record.Record.{Record};
+ghost use Rattle.log_index.specs.Listing.{IsListingOf};
+ghost use Rattle.life_history.specs.Kept.{AreKept, Begins, IsSmall};
+ghost use Rattle.opening_rights.specs.Opened.{AreAtHome, ArePagesOf, Homes, NoneAbove};
+
+use books::{Book, BookNames, BookTables, Books, MaintRight, PageBook, PageRight};
+use log_index::Listing;
+use page_index::PageIndex;
+use page_ops::Life;
+use std::alloc::Global;
+use store_model::{Lsn, Memory, PageNo, TxId};
+
+/// The rights to the pages, each at home, that to maintenance, and the numbers that come next.
+#[derive(Drop)]
+pub struct Opening<N: BookNames> {
+    pub index: PageIndex<N>,
+    pub maint: MaintRight<N>,
+    pub next_page: PageNo,
+    pub next_tx: TxId,
+}
+
+/// The rights of a life of which no right was handed out, after the log of this listing. The index has room for as many
+/// pages as the store may have. `Memory` where there is none for it.
+pub fn begin<N: Life>(
+    alloc: Global,
+    tables: &BookTables<N>,
+    books: &mut Books<N>,
+    listing: &Listing,
+) -> Result<Opening<N>, Memory>
+    requires empty { (books.old.pages ≡ []) × (books.old.sessions ≡ []) × (books.old.maint ≡ []) }
+    requires listed { (opening : List Record) → N.opens opening → IsListingOf opening listing.now }
+    requires sound { (opening : List Record) → N.opens opening → IsSound opening × (opening ≢ []) }
+    ensures books { IfOk result (λ o. AreKept N.opens [] (record { pages = books.new.pages; sessions = books.new.sessions; maint = books.new.maint })) }
+    ensures sessions { books.new.sessions ≡ [] }
+    ensures small { IfOk result (λ o. IsSmall o.next_page (record { pages = books.new.pages; sessions = books.new.sessions; maint = books.new.maint })) }
+    ensures number { IfOk result (λ o. 1 ≤ o.next_tx) }
+    ensures begins { IfOk result (λ o. (opening : List Record) → N.opens opening → Begins opening o.next_tx) }
+    ensures homes { IfOk result (λ o. (opening : List Record) → N.opens opening → AreAtHome opening o.index) }
+    ensures maint { IfOk result (λ o. o.maint ≡ record { number = 0; lsn = 0 }) }
+{
+    let pages = match u32::try_from(listing.pages()) {
+        Ok(pages) if pages < u32::MAX => pages,
+        _ => return Err(Memory),
+    };
+    let index = open_pages(alloc, tables, &mut books.pages, listing, pages)?;
+    Ok(Opening {
+        index,
+        maint: MaintRight::of(books.maint.open(&tables.maint, 0)),
+        next_page: pages + 1,
+        next_tx: listing.next_tx().max(1),
+    })
+}
+
+/// The rights to so many pages, each at home.
+fn open_pages<N: BookNames>(
+    alloc: Global,
+    tables: &BookTables<N>,
+    book: &mut Book<PageBook<N>>,
+    listing: &Listing,
+    pages: u32,
+) -> Result<PageIndex<N>, Memory>
+    requires empty { book.old ≡ [] }
+    ensures few { IfOk result (λ index. NoneAbove pages book.new) }
+    ensures pages { IfOk result (λ index. (log : List Record) → IsListingOf log listing.now → AreLawful log → ArePagesOf log pages index book.new) }
+{
+    let mut index = PageIndex::new(alloc, listing.limit().max(pages))?;
+    let mut page = 0;
+    while page < pages {
+        page += 1;
+        let (head, written) = (listing.head(page), listing.written_lsn(page));
+        open_page(tables, book, &mut index, page, head, written);
+    }
+    Ok(index)
+}
+
+/// The right to a page that stands at this head is at home, and the page is written as that LSN.
+fn open_page<N: BookNames>(
+    tables: &BookTables<N>,
+    book: &mut Book<PageBook<N>>,
+    index: &mut PageIndex<N>,
+    page: PageNo,
+    head: Lsn,
+    written: Lsn,
+)
+    requires none { entry_of page book.old ≡ None }
+    requires page { IsIn index.old page }
+    ensures book { book.new ≡ book.old ++ entry page head 0 ∷ [] }
+    ensures home { Homes index.old index.new page head written }
+{
+    let right = book.open(&tables.pages, page);
+    let right = PageRight::of(book.set(&tables.pages, right, head, 0));
+    index.give_right(right);
+    index.note_written(page, written);
+}
