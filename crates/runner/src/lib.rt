@@ -64,6 +64,3 @@ mod turns;
 pub use laws::{next_call_law, standing_law};
 pub use run::run_words;
 pub use status::Status;
-
-#[cfg(test)]
-mod tests;

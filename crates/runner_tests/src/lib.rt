@@ -1,8 +1,8 @@
-//! What runs leave whose log disk refuses a call, or whose machine stops.
+//! Whole scripts, and what runs leave whose log disk refuses a call, or whose machine stops.
 //!
-//! The crate has tests alone. They run whole scripts on devices in memory: a stop after each call of a commit and of a
-//! format, with each number of bytes kept, and a small example of a bank. What they expect is written down beside the
-//! scripts. They stand in a crate of their own, since a crate with tests is proved a second time with them.
+//! The crate has tests alone. They run scripts on devices in memory: worked ones, random ones beside an ordered map, a stop
+//! after each call of a commit and of a format, with each number of bytes kept, and a small example of a bank. What they
+//! expect is written down beside the scripts. They stand in a crate of their own, since a crate with tests is proved a second time with them.
 #![tactic(auto)]
 
 #[cfg(test)]
@@ -13,3 +13,5 @@ mod commits;
 mod fixture;
 #[cfg(test)]
 mod formats;
+#[cfg(test)]
+mod scripts;

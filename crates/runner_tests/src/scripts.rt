@@ -1,10 +1,10 @@
 //! Worked scripts, and random ones beside an ordered map.
 ghost use Rattle.std.specs.Prelude.{◌≡◌, ◌<◌};
 
-use super::*;
 use media::Devices;
 use media_mem::{MemDisk, MemPages, MemSink, MemSource, MemVault};
 use operators::boxed_operators;
+use runner::{Status, run_words};
 use std::alloc::Global;
 use std::collections::BTreeMap;
 use std::test::Fail;
