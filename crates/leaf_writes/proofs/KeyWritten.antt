@@ -8,6 +8,7 @@ use Rattle.front.specs.Seen.{PassSeen}
 use Rattle.front.proofs.Keeping.{prefix_trans}
 use Rattle.store_model.specs.declared.fault.Fault.{Fault}
 use Rattle.store_model.specs.declared.fault.Fault.TheVariants as faults
+use Rattle.store_model.specs.declared.reply.Outcome.TheVariants as outcomes
 use Rattle.wal_record.specs.State.{KeepsState, leaf_rows, live}
 use Rattle.wal_record.specs.Books.{session_entries}
 use Rattle.wal_record.specs.Images.{IsLeafOf, purged, with_value}
@@ -30,12 +31,13 @@ use Rattle.page_ops.specs.Causes.{Ends, MeetsNoFault}
 use Rattle.page_ops.specs.Claims.{Claims, SessionAgrees}
 use Rattle.page_ops.specs.Desks.{Desk}
 use Rattle.page_ops.specs.Gains.{Gains}
-use Rattle.page_ops.specs.Groups.{AreFilled, group_entries}
+use Rattle.page_ops.specs.Groups.{AreFilled, declined_entries, group_entries}
 use Rattle.page_ops.specs.Hands.{Hand}
 use Rattle.page_ops.specs.Names.{LedgerName}
-use Rattle.page_ops.specs.Outcomes.{EntersGroup, IsAnswer, IsFilledIn, IsFull, OnEntered, answered}
+use Rattle.page_ops.specs.Outcomes.{EntersGroup, IsAnswer, IsFull, OnEntered, answered}
 use Rattle.page_ops.specs.Seeing.{Account, Enters, IsConsistent, Keeps, Known, known}
 use Rattle.page_ops.specs.declared.group.Group.{Group}
+use Rattle.page_ops.specs.declared.group.Said.{Said}
 use Rattle.page_ops.specs.declared.outcome.Entered.{Entered}
 use Rattle.page_ops.specs.declared.outcome.Entered.TheVariants.{At, NoRoom, Late}
 use Rattle.page_ops.proofs.Composing.{done_meets_none, ends_then}
@@ -46,10 +48,10 @@ use Rattle.group_laws.proofs.Quiet.{stays}
 use Rattle.smo.specs.Asked.{Asked}
 use Rattle.smo.specs.Purges.{EntersPurge, purge_of}
 use Rattle.smo.specs.Settled.{IsSettled}
-use Rattle.leaf_writes.specs.Changes.{UnlessEntered, change_group, half_of, record_by, split_change_group}
+use Rattle.leaf_writes.specs.Changes.{UnlessEntered, change_group, half_of, record_by, said_by, split_change_group}
 use Rattle.leaf_writes.specs.Halves.{SplitsLeaf, lower_written}
 use Rattle.leaf_writes.specs.KeyWrites.{WritesAlone, WritesBy, WritesKey, group_on, has_room, needs_purge, state_on, desk_on, found}
-use Rattle.leaf_writes.specs.Owners.{EndsWith, KeepsOwner}
+use Rattle.leaf_writes.specs.Owners.{EndsWith, IsDeclined, KeepsOwner}
 use Rattle.leaf_writes.specs.MayChange.{IsOwnUndo, IsWriter, MayBy, MayChange, undo_of}
 use Rattle.leaf_writes.specs.declared.change.Change.{Change}
 use Rattle.leaf_writes.specs.declared.change.How.{How}
@@ -294,3 +296,22 @@ pub agrees_split : (opens : List Record → Type 0) (ledger sessions : LedgerNam
     → SplitsLeaf opens ledger sessions g key value seen leaf leaf_now result old new → OnOk result (IfSome new.claims.s (SessionAgrees new.log))
 agrees_split opens ledger sessions g key value seen leaf leaf_now (Ok e) old new splits = splits.enters.enters.now.rights.s
 agrees_split opens ledger sessions g key value seen leaf leaf_now (Err f) old new splits = tt
+
+-- ---- a request that is declined
+
+declined_by : (opens : List Record → Type 0) (ledger sessions : LedgerName) (c : Change) (owner : Option SessionClaim) (g now : Group) (f : Fault) (old new : Known) → g.said ≡ said_by c.how c.key c.new owner → Enters opens ledger sessions old (answered now.lsn now.recs g.said (Err f)) new → IsDeclined c owner new.claims.s new.log f
+declined_by opens ledger sessions c owner g now (faults.Full p q at) old new is e = ((e.moment, e.is ∙ ap (λ (s : Option Said). e.moment ++ declined_entries s (outcomes.Full p q)) is), e.now.rights.s)
+declined_by opens ledger sessions c owner g now _ old new is e = tt
+
+pub declined_of : (opens : List Record → Type 0) (ledger sessions : LedgerName) (c : Change) (owner : Option SessionClaim) (page : ℕ) (result : Result Entered Fault) (old new : Known) → Asked opens ledger sessions (change_group c owner page) result old new → IfErr result (IsDeclined c owner new.claims.s new.log)
+declined_of opens ledger sessions c owner page (Ok e) old new asked = tt
+declined_of opens ledger sessions c owner page (Err f) old new asked = declined_by opens ledger sessions c owner (change_group c owner page) asked.now f old new refl asked.enters.enters
+
+pub declined_split : (opens : List Record → Type 0) (ledger sessions : LedgerName) (c : Change) (owner : Option SessionClaim) (page : ℕ) (s : PageState) (key : List ℕ) (value : Option (List ℕ)) (seen : PassSeen Entry) (leaf leaf_now : Hand) (result : Result Entered Fault) (old new : Known)
+    → SplitsLeaf opens ledger sessions (split_change_group c owner page s) key value seen leaf leaf_now result old new → IfErr result (IsDeclined c owner new.claims.s new.log)
+declined_split opens ledger sessions c owner page s key value seen leaf leaf_now (Ok e) old new splits = tt
+declined_split opens ledger sessions c owner page s key value seen leaf leaf_now (Err f) old new splits = declined_by opens ledger sessions c owner (split_change_group c owner page s) splits.now f old new refl splits.enters.enters
+
+-- behind a purge
+pub declined_behind : (c : Change) (owner owner' owner'' : Option SessionClaim) (h : List Entry) (result : Result Entered Fault) → owner' ≡ owner → IfErr result (IsDeclined c owner' owner'' h) → IfErr result (IsDeclined c owner owner'' h)
+declined_behind c owner owner' owner'' h result same declined = subst (λ (o : Option SessionClaim). IfErr result (IsDeclined c o owner'' h)) same declined

@@ -1,5 +1,5 @@
 -- A change of a key's row on its leaf, which is purged or split first where the new value doesn't fit.
-use Rattle.std.specs.Prelude.{◌≡◌, ◌⊎◌, ℕ, List, [], ◌∷◌, ◌++◌, Option, Result, IfOk, Bool, true, false, not, ◌&&◌, if◌then◌else◌}
+use Rattle.std.specs.Prelude.{◌≡◌, ◌⊎◌, ℕ, List, [], ◌∷◌, ◌++◌, Option, Result, IfErr, IfOk, Bool, true, false, not, ◌&&◌, if◌then◌else◌}
 use Rattle.books.specs.Rights.{SessionClaim}
 use Rattle.front.specs.Seen.{PassSeen}
 use Rattle.store_model.specs.declared.fault.Fault.{Fault}
@@ -10,6 +10,7 @@ use Rattle.wal_record.specs.declared.record.Record.{Record}
 use Rattle.wal_record.specs.declared.entry.Entry.{Entry}
 use Rattle.wal_record.specs.declared.entry.Entry.TheVariants as entries
 use Rattle.foster_laws.specs.Purges.{has_tombstone}
+use Rattle.page_ops.specs.Causes.{FailsToEnter, NoOther}
 use Rattle.page_ops.specs.Desks.{Desk}
 use Rattle.page_ops.specs.Gains.{Gains}
 use Rattle.page_ops.specs.Groups.{AreFilled, group_entries}
@@ -65,6 +66,7 @@ pub record WritesOn (opens : List Record → Type 0) (ledger sessions : LedgerNa
 -- the purge was refused, and nothing was entered
 pub record PurgeRefused (opens : List Record → Type 0) (ledger sessions : LedgerName) (leaf leaf_now : Hand) (result : Result Entered Fault) (old new : Known) : Type 0 where
   pub refused : IfOk result (λ x. ⊥)
+  pub why : IfErr result (FailsToEnter NoOther)
   pub same : leaf_now ≡ leaf
   pub gains : Gains opens ledger sessions [] old new
 

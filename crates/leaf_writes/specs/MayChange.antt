@@ -15,7 +15,6 @@ use Rattle.wal_record.specs.declared.record.Undo.{Undo}
 use Rattle.wal_record.specs.declared.record.Record.{Record}
 use Rattle.wal_record.specs.declared.entry.Entry.{Entry}
 use Rattle.page_ops.specs.Claims.{SessionAgrees}
-use Rattle.page_ops.specs.Seeing.{IsConsistent}
 use Rattle.leaf_writes.specs.declared.change.Change.{Change}
 use Rattle.leaf_writes.specs.declared.change.How.{How}
 use Rattle.leaf_writes.specs.declared.change.How.TheVariants as hows

@@ -11,7 +11,7 @@ ghost use Rattle.wal_record.specs.Images.{IsLeafOf, purged};
 ghost use Rattle.leaf_writes.specs.Changes.{change_group};
 ghost use Rattle.leaf_writes.specs.KeyWrites.{WritesAlone, WritesKey, desk_on, found, has_room};
 ghost use Rattle.leaf_writes.specs.MayChange.{MayChange};
-ghost use Rattle.leaf_writes.specs.Owners.{KeepsOwner};
+ghost use Rattle.leaf_writes.specs.Owners.{IsDeclined, KeepsOwner};
 
 use crate::change::Change;
 use crate::split_writing::split_leaf;
@@ -51,6 +51,7 @@ pub fn write_key<N: Life, J: Entering<N>, P: Pages<N, J>, R: Wait>(
     ensures agrees { OnOk result (IfSome owner.new (SessionAgrees pass.new.log)) }
     ensures answer { IfOk result (IsAnswer N.opens pass.new.log (change_group change.now owner.old leaf.old.page)) }
     ensures full { IfErr result (IsFull N.opens pass.new.log (change_group change.now owner.old leaf.old.page)) }
+    ensures declined { IfErr result (IsDeclined change.now owner.old owner.new pass.new.log) }
     ensures desk { P.desk pages.new ≡ desk_on (has_room change.now (found change.now leaf.old.state)) (P.desk pages.old) result }
     ensures refused { IfErr result (FailsToEnter OrFull) }
     ensures ends { Ends N.opens N.log_faults N.made (J.account journal.old) (J.account journal.new) pass.new.log result }
@@ -84,6 +85,7 @@ fn write_here<N: Life, J: Entering<N>, P: Pages<N, J>, R: Wait>(
     ensures agrees { OnOk result (IfSome owner.new (SessionAgrees pass.new.log)) }
     ensures answer { IfOk result (IsAnswer N.opens pass.new.log (change_group change.now owner.old leaf.old.page)) }
     ensures full { IfErr result (IsFull N.opens pass.new.log (change_group change.now owner.old leaf.old.page)) }
+    ensures declined { IfErr result (IsDeclined change.now owner.old owner.new pass.new.log) }
     ensures desk { P.desk pages.new ≡ desk_on (has_room change.now leaf.old.state) (P.desk pages.old) result }
     ensures refused { IfErr result (FailsToEnter OrFull) }
     ensures ends { Ends N.opens N.log_faults N.made (J.account journal.old) (J.account journal.new) pass.new.log result }

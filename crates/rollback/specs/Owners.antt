@@ -8,7 +8,6 @@ use Rattle.wal_record.specs.OpenWrites.{is_loser}
 use Rattle.wal_record.specs.declared.record.Record.{Record}
 use Rattle.wal_record.specs.declared.entry.Entry.{Entry}
 use Rattle.page_ops.specs.Claims.{Claims, SessionAgrees}
-use Rattle.page_ops.specs.Seeing.{IsConsistent}
 
 -- the right to a session, if there is one
 abbrev pub claim_of : Option SessionClaim → Claims

@@ -1,7 +1,7 @@
 use Rattle.std.proofs.Common.{ap, sym, ◌∙◌}
 use Rattle.page_ops.specs.Hands.{Hand}
 use Rattle.leaf_writes.specs.KeyWrites.{has_room}
-use Rattle.leaf_writes.proofs.KeyWritten.{agrees_of, agrees_split, answer_of, fit_alone, full_of, split_alone}
+use Rattle.leaf_writes.proofs.KeyWritten.{agrees_of, agrees_split, answer_of, declined_of, declined_split, fit_alone, full_of, split_alone}
 use Rattle.leaf_writes.proofs.key_writing.write_here.Goals as goal
 
 pub returns-then-fits_with-clause-written : goal.returns-then-fits_with-clause-written
@@ -25,3 +25,9 @@ returns-then-fits_with-clause-agrees g c = agrees_of g.N.Life.opens g.N.Life.ent
 
 pub returns-else-fits_with-clause-agrees : goal.returns-else-fits_with-clause-agrees
 returns-else-fits_with-clause-agrees g c = agrees_split g.N.Life.opens g.N.Life.entries g.N.Life.session_entries _ _ _ _ _ _ c.split_leaf.result _ _ c.split_leaf.ensures.split
+
+pub returns-then-fits_with-clause-declined : goal.returns-then-fits_with-clause-declined
+returns-then-fits_with-clause-declined g c = declined_of g.N.Life.opens g.N.Life.entries g.N.Life.session_entries c.args.change.now c.args.owner.now c.args.leaf.now.page c.write_leaf.result _ _ c.write_leaf.ensures.asked
+
+pub returns-else-fits_with-clause-declined : goal.returns-else-fits_with-clause-declined
+returns-else-fits_with-clause-declined g c = declined_split g.N.Life.opens g.N.Life.entries g.N.Life.session_entries c.args.change.now c.args.owner.now c.args.leaf.now.page c.args.leaf.now.state c.args.change.now.key c.args.change.now.new c.split_leaf.new.pass c.args.leaf.now c.split_leaf.new.leaf c.split_leaf.result _ _ c.split_leaf.ensures.split

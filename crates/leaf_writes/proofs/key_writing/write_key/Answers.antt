@@ -5,7 +5,7 @@ use Rattle.wal_record.specs.State.{KeepsState}
 use Rattle.foster_laws.specs.Purges.{has_tombstone}
 use Rattle.page_ops.specs.Hands.{Hand}
 use Rattle.leaf_writes.specs.KeyWrites.{has_room}
-use Rattle.leaf_writes.proofs.KeyWritten.{answer_behind, desk_purged, ends_behind, full_behind, key_behind, owner_behind, purged_whole, still_may}
+use Rattle.leaf_writes.proofs.KeyWritten.{answer_behind, declined_behind, desk_purged, ends_behind, full_behind, key_behind, owner_behind, purged_whole, still_may}
 use Rattle.leaf_writes.proofs.Owners.{keeps_same}
 use Rattle.leaf_writes.proofs.key_writing.write_key.Goals as goal
 
@@ -48,3 +48,6 @@ returns-clause-owner g c = owner_behind c.write_here-2.result c.args.owner.now c
 
 pub returns-in_err-purge-clause-owner : goal.returns-in_err-purge-clause-owner
 returns-in_err-purge-clause-owner g c = keeps_same _ c.args.owner.now
+
+pub returns-clause-declined : goal.returns-clause-declined
+returns-clause-declined g c = declined_behind c.args.change.now c.args.owner.now c.see_owner.new.owner c.write_here-2.new.owner c.write_here-2.new.pass.log c.write_here-2.result c.see_owner.ensures.same c.write_here-2.ensures.declined
