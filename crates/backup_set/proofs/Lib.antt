@@ -3,3 +3,4 @@ pub mod Sizes
 pub mod Images
 pub mod Walking
 pub mod Answering
+pub mod Placed

@@ -1,7 +1,8 @@
 -- What a read of a page from a backup answers.
-use Rattle.std.specs.Prelude.{◌≡◌, ◌⊎◌, ℕ, ◌+◌, ◌*◌, ◌<◌, List, [], take, drop, Result, Ok, Err, IsTrue}
+use Rattle.std.specs.Prelude.{◌≡◌, ◌⊎◌, ℕ, ◌+◌, ◌-◌, ◌*◌, ◌%◌, ◌<◌, List, [], take, drop, Result, Ok, Err, IsTrue}
 use Rattle.wal_record.specs.Rules.{is_number}
 use Rattle.wal_record.specs.State.{KeepsState}
+use Rattle.wal_record.specs.Upkeep.{segment_of}
 use Rattle.page_image.specs.Image.{image_bytes}
 use Rattle.page_image.specs.declared.sealed.Sealed.{Sealed}
 use Rattle.store_model.specs.declared.fault.Fault.{Fault}
@@ -10,7 +11,7 @@ use Rattle.store_model.specs.declared.object.ObjectName.{ObjectName}
 use Rattle.backup_set.specs.Backup.{backup_name}
 use Rattle.backup_set.specs.Reading.{IsFirstFault, IsHeadFault, LacksPage, head_at}
 use Rattle.backup_set.specs.declared.copy.PageCopy.{PageCopy}
-use Rattle.backup_set.specs.declared.layout.TheConstants.{IMAGES_AT, IMAGE_BYTES}
+use Rattle.backup_set.specs.declared.layout.TheConstants.{IMAGES_AT, IMAGE_BYTES, SEGMENT_PAGES}
 
 -- the answer is what this copy says, but for want of memory and a fault of the vault
 abbrev pub GivesCopy : PageCopy → Result Sealed Fault → Type 0
@@ -22,6 +23,20 @@ GivesCopy c (Err fault) = ⊥
 -- the image at this place of the object is the page's, and says this
 pub record HasAt (page : ℕ) (bytes : List ℕ) (place : ℕ) (x : Sealed) : Type 0 where
   pub image : take IMAGE_BYTES (drop (IMAGES_AT + IMAGE_BYTES * place) bytes) ≡ image_bytes page x.lsn x.state
+  pub state : KeepsState x.state
+  pub lsn : IsTrue (is_number x.lsn)
+
+-- which image the page's is in the object of its whole segment
+abbrev pub place_of : ℕ → ℕ
+place_of page = (page - 1) % SEGMENT_PAGES
+
+-- the object's first bytes count an image at the page's place in a whole segment, and the image there is the page's, and says
+-- this
+pub record StandsInPlace (backup page : ℕ) (head image : List ℕ) (x : Sealed) : Type 0 where
+  pub count : ℕ
+  pub counts : head_at backup (segment_of page) (take IMAGES_AT head) ≡ Ok (count, [])
+  pub counted : place_of page < count
+  pub here : take IMAGE_BYTES image ≡ image_bytes page x.lsn x.state
   pub state : KeepsState x.state
   pub lsn : IsTrue (is_number x.lsn)
 

@@ -1,12 +1,12 @@
 //! The head of a backup object.
-ghost use Rattle.std.specs.Prelude.{◌≡◌, ℕ, List};
+ghost use Rattle.std.specs.Prelude.{◌≡◌};
 ghost use Rattle.std.specs.Int.{w32};
 ghost use Rattle.wal_record.specs.Reading.{number_at};
 ghost use Rattle.wal_record.specs.Rules.{is_page_count};
 ghost use Rattle.state_codec.specs.Gives.{Gives};
 ghost use Rattle.backup_set.specs.Reading.{head_at, is_next_page};
 
-use crate::layout::MARK;
+use crate::layout::{MARK, SEGMENT_PAGES};
 use crate::part::{Part, segment_of};
 use state_codec::{FieldFault, u32_in_front};
 use store_model::{MOST_PAGES, PageNo};
@@ -17,7 +17,7 @@ fn count_at(bytes: &[u8]) -> Result<(u32, &[u8]), FieldFault>
     ensures { Gives (λ x. (x.0, x.1.now)) result (number_at w32 is_page_count bytes.now) }
 {
     match u32_in_front(bytes) {
-        Some((count, rest)) if count >= 1 && count <= 16 => Ok((count, rest)),
+        Some((count, rest)) if count >= 1 && count <= SEGMENT_PAGES => Ok((count, rest)),
         _ => Err(FieldFault::Bad { left: bytes.len() }),
     }
 }

@@ -1,5 +1,5 @@
 //! An image in a backup object.
-ghost use Rattle.std.specs.Prelude.{◌≡◌, ◌↔◌, ◌<◌, ◌≤◌, true, length, take, drop, IfOk, IfErr, MatchOption};
+ghost use Rattle.std.specs.Prelude.{◌≡◌, ◌↔◌, ◌<◌, ◌≤◌, true, length, take, IfOk, IfErr, MatchOption};
 ghost use Rattle.std.specs.Int.{w8};
 ghost use Rattle.page_image.specs.Reading.{Verifies, is_format};
 ghost use Rattle.state_codec.specs.Gives.{Gives};

@@ -12,5 +12,5 @@ pub const IMAGES_AT: usize = 20;
 /// The bytes of an image.
 pub const IMAGE_BYTES: usize = 4_096;
 
-/// The most images of an object: those of a whole segment.
-pub const MOST_IMAGES: usize = 16;
+/// So many neighbouring pages are a segment, and so many images are the most of an object.
+pub const SEGMENT_PAGES: u32 = 16;

@@ -2,8 +2,10 @@
 ghost use Rattle.std.specs.Prelude.{◌≡◌};
 ghost use Rattle.store_model.specs.declared.fault.Fault.TheVariants as faults;
 ghost use Rattle.wal_record.specs.Upkeep.{segment_of};
+ghost use Rattle.backup_set.specs.Answers.{place_of};
 ghost use Rattle.backup_set.specs.Backup.{backup_name};
 
+use crate::layout::SEGMENT_PAGES;
 use store_model::{Fault, ObjectKind, ObjectName, PageNo};
 
 /// One segment of a backup.
@@ -40,5 +42,12 @@ impl Part {
 pub fn segment_of(page: PageNo) -> u32
     ensures { result ≡ segment_of page }
 {
-    page.saturating_sub(1) / 16
+    page.saturating_sub(1) / SEGMENT_PAGES
+}
+
+/// Which image the page's is in the object of its whole segment, counted from 0.
+pub fn place_of(page: PageNo) -> u32
+    ensures { result ≡ place_of page }
+{
+    page.saturating_sub(1) % SEGMENT_PAGES
 }

@@ -1,15 +1,16 @@
 //! A page in bytes of an object, for whoever doesn't read them from a vault itself.
-ghost use Rattle.std.specs.Prelude.{◌≡◌, ◌+◌, ◌*◌, ◌%◌, ◌-◌, ℕ, List, take, drop, IfOk, IfErr, IfSome};
+ghost use Rattle.std.specs.Prelude.{◌≡◌, ◌+◌, ◌*◌, ℕ, List, Some, take, drop, IfOk, IfErr, IfSome};
 ghost use Rattle.wal_record.specs.State.{KeepsState};
 ghost use Rattle.wal_record.specs.Upkeep.{segment_of};
-ghost use Rattle.backup_set.specs.Answers.{FailsToFind, GivesCopy, HasImage, IsBad};
+ghost use Rattle.backup_set.specs.Answers.{FailsToFind, GivesCopy, HasImage, IsBad, StandsInPlace, place_of};
 ghost use Rattle.backup_set.specs.Backup.{IsAmong, IsBackup, backup_name};
 ghost use Rattle.backup_set.specs.declared.copy.PageCopy.{PageCopy};
+ghost use Rattle.page_image.specs.declared.sealed.Sealed.{Sealed};
 ghost use Rattle.backup_set.specs.declared.layout.TheConstants.{IMAGES_AT, IMAGE_BYTES};
 
 use crate::image::first_image;
 use crate::layout::{IMAGE_BYTES, IMAGES_AT};
-use crate::part::{Part, segment_of};
+use crate::part::{Part, place_of, segment_of};
 use crate::search::{head_of, search};
 use page_image::{PageFault, Sealed, open_page};
 use std::alloc::Global;
@@ -28,13 +29,13 @@ pub fn object_of(backup: u64, page: PageNo) -> ObjectName
 
 /// Where the page's image begins in the object of a whole segment.
 pub fn image_place(page: PageNo) -> u64
-    ensures { result ≡ IMAGES_AT + IMAGE_BYTES * ((page - 1) % 16) }
+    ensures { result ≡ IMAGES_AT + IMAGE_BYTES * place_of page }
 {
-    IMAGES_AT as u64 + IMAGE_BYTES as u64 * u64::from(page.saturating_sub(1) % 16)
+    IMAGES_AT as u64 + IMAGE_BYTES as u64 * u64::from(place_of(page))
 }
 
-/// The page, by the first 20 bytes of the object and the 4,096 from the page's place in a whole segment on; None where its
-/// image doesn't stand there.
+/// The page, by the first 20 bytes of the object and the 4,096 from the page's place in a whole segment on; None exactly where
+/// the head doesn't count an image there, or that isn't the page's.
 pub fn page_in_place(
     alloc: Global,
     backup: u64,
@@ -42,7 +43,8 @@ pub fn page_in_place(
     head: &[u8],
     image: &[u8],
 ) -> Result<Option<Sealed>, Memory>
-    ensures held { (bytes : List ℕ) → head.now ≡ take IMAGES_AT bytes → image.now ≡ take IMAGE_BYTES (drop (IMAGES_AT + IMAGE_BYTES * ((page - 1) % 16)) bytes)
+    ensures only { (x : Sealed) → StandsInPlace backup page head.now image.now x → IfOk result (λ found. found ≡ Some x) }
+    ensures held { (bytes : List ℕ) → head.now ≡ take IMAGES_AT bytes → image.now ≡ take IMAGE_BYTES (drop (IMAGES_AT + IMAGE_BYTES * place_of page) bytes)
         → IfOk result (λ found. IfSome found (HasImage backup (segment_of page) page bytes)) }
     ensures rules { IfOk result (λ found. IfSome found (λ x. KeepsState x.state)) }
 {
@@ -50,11 +52,12 @@ pub fn page_in_place(
         backup,
         segment: segment_of(page),
     };
-    let place = page.saturating_sub(1) % 16;
-    let Ok(count) = head_of(part, head) else {
-        return Ok(None);
+    let count = match head_of(part, head) {
+        Ok(count) => count,
+        Err(Fault::VaultBad { .. }) => return Ok(None),
+        Err(_) => return Err(Memory),
     };
-    if count <= place {
+    if count <= place_of(page) {
         return Ok(None);
     }
     let Some(image) = first_image(image) else {
@@ -63,7 +66,9 @@ pub fn page_in_place(
     match open_page(alloc, &image, page) {
         Ok(sealed) => Ok(Some(sealed)),
         Err(PageFault::Memory) => Err(Memory),
-        Err(_) => Ok(None),
+        Err(PageFault::Digest) => Ok(None),
+        Err(PageFault::Number) => Ok(None),
+        Err(PageFault::Format { .. }) => Ok(None),
     }
 }
 

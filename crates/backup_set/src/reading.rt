@@ -11,7 +11,7 @@ ghost use Rattle.backup_set.specs.declared.copy.PageCopy.{PageCopy};
 
 use crate::image::first_image;
 use crate::layout::{IMAGE_BYTES, IMAGES_AT};
-use crate::part::{Part, segment_of};
+use crate::part::{Part, place_of, segment_of};
 use crate::search::{head_of, search};
 use media::Vault;
 use page_image::{PageFault, Sealed, open_page};
@@ -62,7 +62,7 @@ fn at_its_place<V: Vault>(
     ensures later { V.faults vault.old ≤ V.faults vault.new }
     ensures fuse { Blames V.passes V.refused V.own vault.old vault.new (IsErrAnd result IsVaultFault) }
 {
-    let place = page.saturating_sub(1) % 16;
+    let place = place_of(page);
     let head = read_bytes(alloc, vault, part.name(), 0, IMAGES_AT)?;
     match head_of(part, &head) {
         Ok(count) if place < count => image_at(alloc, vault, part, page, place),

@@ -1,5 +1,5 @@
 //! A page in all bytes of a backup object.
-ghost use Rattle.std.specs.Prelude.{◌≡◌, ◌≤◌, ◌+◌, ℕ, [], Ok, length, take, IfOk, IfErr};
+ghost use Rattle.std.specs.Prelude.{◌≡◌, ◌≤◌, ◌+◌, [], Ok, length, take, IfOk, IfErr};
 ghost use Rattle.backup_set.specs.Answers.{FailsToFind, HasImage, IsBad, IsBadHead};
 ghost use Rattle.backup_set.specs.Reading.{head_at};
 

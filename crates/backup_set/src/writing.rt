@@ -5,7 +5,7 @@ ghost use Rattle.media.specs.Fused.{burnt};
 ghost use Rattle.wal_record.specs.Rules.{is_number};
 ghost use Rattle.vault_objects.specs.Causes.{FailsAtVault, IsVaultFault, NoneBad};
 ghost use Rattle.vault_objects.specs.Stored.{MayStore, Stores};
-ghost use Rattle.backup_set.specs.Backup.{AreImages, backup_name, head_bytes, object_bytes};
+ghost use Rattle.backup_set.specs.Backup.{AreImages, backup_name, object_bytes};
 ghost use Rattle.backup_set.specs.declared.copy.PageCopy.{PageCopy};
 
 use crate::layout::{IMAGE_BYTES, IMAGES_AT, MARK};

@@ -1,8 +1,5 @@
 //! The way back: from the head of a page along the previous fields of the records that name it.
-ghost use Rattle.std.specs.Prelude.{◌≡◌, ◌↔◌, ◌≢◌, ◌+◌, ◌≤◌, ◌<◌, ℕ, List, length, reverse, Some, IfOk, IfErr, IfSome, IsTrue};
-ghost use Rattle.wal_record.specs.Chains.{names_at, record_with};
-ghost use Rattle.wal_record.specs.Rules.{HasSpelling};
-ghost use Rattle.wal_record.specs.Sound.{AreLawful};
+ghost use Rattle.std.specs.Prelude.{◌≡◌, ◌↔◌, ◌+◌, ◌≤◌, ◌<◌, ℕ, List, length, reverse, Some, IfOk, IfErr, IfSome};
 ghost use Rattle.wal_record.specs.declared.record.Record.{Record};
 ghost use Rattle.store_model.specs.declared.fault.Fault.TheVariants as faults;
 ghost use Rattle.page_ops.specs.Desks.{KeepsFaults};
@@ -47,33 +44,8 @@ pub fn previous(page: PageNo, entry: &Record) -> Lsn
     }
 }
 
-/// The record of an LSN, if it tells a lower one before it. So an untold chain ends, too.
-fn step<C: Chain, R: Wait>(
-    rt: &R,
-    alloc: Global,
-    page: PageNo,
-    lsn: Lsn,
-    chain: &mut C,
-) -> Result<Record, Fault>
-    requires lawful { (log : List Record) → C.answers chain.old log → AreLawful log }
-    requires named { (log : List Record) → C.answers chain.old log → IsTrue (names_at log lsn page) }
-    ensures found { (log : List Record) → C.answers chain.old log → IfOk result (λ r. record_with log lsn ≡ Some r) }
-    ensures falls { IfOk result (λ r. previous page r < lsn) }
-    ensures spelled { IfOk result HasSpelling }
-    ensures answers { (log : List Record) → C.answers chain.old log ↔ C.answers chain.new log }
-    ensures counted { C.calls chain.new ≡ C.calls chain.old + 1 }
-    ensures faults { KeepsFaults (C.faults chain.old) (C.faults chain.new) }
-    ensures ended { IfSome (C.ended chain.old) (λ at. (C.ended chain.new ≡ Some at) × SaysEnd at result) }
-    ensures refused { IfErr result (FailsToFollow (IsUnknown (C.answers chain.old)) (C.faults chain.old) (C.faults chain.new) (C.ended chain.new)) }
-{
-    let record = chain.record_at(rt, alloc, page, lsn)?;
-    if lsn <= previous(page, &record) {
-        return Err(bad_chain());
-    }
-    Ok(record)
-}
-
-/// The records of the page's chain from the head down to above this LSN, last first.
+/// The records of the page's chain from the head down to above this LSN, last first. Each has to tell a lower LSN before it, so
+/// that an untold chain ends, too. A record is large: room is made for it first, so that it moves once, to its place.
 pub(crate) fn follow<C: Chain, R: Wait>(
     rt: &R,
     alloc: Global,
@@ -95,10 +67,18 @@ pub(crate) fn follow<C: Chain, R: Wait>(
     let mut records = Vec::new(alloc);
     let mut lsn = head;
     while low < lsn {
-        let record = step(rt, alloc, page, lsn, chain)?;
-        let before = previous(page, &record);
-        records.push(record)?;
-        lsn = before;
+        records.reserve(1)?;
+        match chain.record_at(rt, alloc, page, lsn) {
+            Ok(record) => {
+                let before = previous(page, &record);
+                if lsn <= before {
+                    return Err(bad_chain());
+                }
+                records.push_reserved(record);
+                lsn = before;
+            }
+            Err(fault) => return Err(fault),
+        }
     }
     Ok(records)
 }

@@ -1,8 +1,6 @@
 //! The way forward: records are redone on a page.
 ghost use Rattle.std.specs.Prelude.{◌≡◌, reverse, IfOk, IfSome};
 ghost use Rattle.wal_record.specs.State.{KeepsState};
-ghost use Rattle.wal_record.specs.Rules.{HasSpelling};
-ghost use Rattle.page_rows.specs.Redo.{Redone};
 ghost use Rattle.page_repair.specs.Rebuild.{AreSpelled, Replayed, base_lsn, base_state};
 
 use operators::Operators;
@@ -22,22 +20,6 @@ pub fn start(base: Option<Sealed>) -> (Lsn, Option<PageState>)
     }
 }
 
-/// Redoes a record on a page: true where it could be.
-fn redo_one(
-    alloc: Global,
-    page: PageNo,
-    state: &mut Option<PageState>,
-    entry: Record,
-    operators: &Operators,
-) -> Result<bool, Memory>
-    requires spelled { HasSpelling entry }
-    requires rules { IfSome state.old KeepsState }
-    ensures done { IfOk result (Redone entry page state.old state.new) }
-    ensures rules { IfSome state.new KeepsState }
-{
-    redo(alloc, state, page, &entry, operators)
-}
-
 /// Redoes records, which stand last first, on a page: true where each could be.
 pub fn replay(
     alloc: Global,
@@ -51,11 +33,12 @@ pub fn replay(
     ensures done { IfOk result (Replayed page (reverse records.items) state.old state.new) }
     ensures rules { IfSome state.new KeepsState }
 {
-    let mut left = records;
-    while let Some(record) = left.pop() {
-        if !redo_one(alloc, page, state, record, operators)? {
+    let mut left = records.as_slice();
+    while let Some((record, rest)) = left.split_last() {
+        if !redo(alloc, state, page, record, operators)? {
             return Ok(false);
         }
+        left = rest;
     }
     Ok(true)
 }

@@ -6,11 +6,11 @@ use Rattle.page_repair.proofs.forward.replay.Given as goal
 
 abbrev pub invariant-loop-record : goal.invariant-loop-record
 invariant-loop-record g l = record {
-  spelled : AreSpelled l.left.items;
+  spelled : AreSpelled l.left;
   rules : IfSome l.state KeepsState;
-  same : redone l.page l.state (reverse l.left.items) ≡ redone l.page l.fn.state (reverse l.fn.records.items);
-  can : AreApplicable l.page l.fn.state (reverse l.fn.records.items) → AreApplicable l.page l.state (reverse l.left.items);
+  same : redone l.page l.state (reverse l.left) ≡ redone l.page l.fn.state (reverse l.fn.records.items);
+  can : AreApplicable l.page l.fn.state (reverse l.fn.records.items) → AreApplicable l.page l.state (reverse l.left);
 }
 
 abbrev pub decreases-loop-record : goal.decreases-loop-record
-decreases-loop-record g l = length l.left.items
+decreases-loop-record g l = length l.left
