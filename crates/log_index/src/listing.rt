@@ -4,6 +4,8 @@ ghost use Rattle.wal_record.specs.Chains.{greatest, head, link_of, pages};
 ghost use Rattle.wal_record.specs.OpenWrites.{is_loser, open_list, pending};
 ghost use Rattle.wal_record.specs.Rules.{HasSpelling};
 ghost use Rattle.wal_record.specs.Sound.{AreLawful};
+ghost use Rattle.store_model.specs.Range.{has_key};
+ghost use Rattle.wal_record.specs.declared.record.OpenWrite.{OpenWrite};
 ghost use Rattle.wal_record.specs.declared.record.Record.{Record};
 ghost use Rattle.wal_record.specs.declared.record.Record.TheVariants as kinds;
 ghost use Rattle.listing_laws.specs.Summary.{analysis_in, checkpoint_in, checkpoint_step, last_in, pending_in, summary_step};
@@ -22,7 +24,7 @@ use crate::upkeep::Upkeep;
 use crate::{heads, numbers, table, upkeep};
 use std::alloc::{AllocError, Global};
 use std::collections::BTreeMap;
-use store_model::{List, Lsn, Memory, PageNo, TxId};
+use store_model::{KeyRange, List, Lsn, Memory, PageNo, TxId};
 use wal_record::{Analysis, Checkpoint, PageHead, Record, Run};
 
 /// What has to be known of a log to go on with it.
@@ -381,6 +383,13 @@ impl Listing {
         ensures { (log : List Record) → IsListingOf log self.now → AreLawful log → result ≡ is_loser log tx }
     {
         table::has_writes(&self.table, tx)
+    }
+
+    /// Whether a transaction has an open write of a key in the range.
+    pub fn has_open_in(&self, tx: TxId, range: &KeyRange) -> bool
+        ensures { (log : List Record) → IsListingOf log self.now → AreLawful log → result ≡ list_any (λ (w : OpenWrite). has_key range.now w.key) (open_list log tx) }
+    {
+        table::has_open_in(&self.table, tx, range)
     }
 
     /// The last LSN that a standing run covers, 0 for none.

@@ -2,9 +2,12 @@
 ghost use Rattle.std.specs.Prelude.{◌≡◌, ◌<◌, ◌+◌, ◌-◌, ◌^◌, ◌++◌, ◌∷◌, [], ℕ, Some, None, OnOk, IsSome, vec_len, vec_capacity, ◌==◌, if◌then◌else◌};
 ghost use Rattle.std.specs.Ordering.{nat_cmp};
 ghost use Rattle.std.specs.BTreeMap.{get};
+ghost use Rattle.std.specs.List.{list_any};
+ghost use Rattle.store_model.specs.Range.{has_key};
 ghost use Rattle.wal_record.specs.Chains.{link_of};
 ghost use Rattle.wal_record.specs.OpenWrites.{has_items, without_last};
 ghost use Rattle.wal_record.specs.Checkpoints.{last_open, oldest};
+ghost use Rattle.wal_record.specs.declared.record.OpenWrite.{OpenWrite};
 ghost use Rattle.listing_laws.specs.Summary.{pending_in, put_open, transactions_step, without, writes_in};
 ghost use Rattle.log_index.specs.Table.{HasRoom, IsCountOf, listed_in, noted_in, noted_step, oldest_in};
 ghost use Rattle.log_index.specs.Ready.{HasPlaceIn};
@@ -12,7 +15,7 @@ ghost use Rattle.log_index.specs.Ready.{HasPlaceIn};
 use crate::copies::last_open;
 use std::alloc::{AllocError, Global};
 use std::collections::BTreeMap;
-use store_model::{Key, Lsn, TxId};
+use store_model::{Key, KeyRange, Lsn, TxId};
 use wal_record::{OpenWrite, Record};
 
 /// A transaction: the LSN of its last record, 0 for none, and its open writes.
@@ -186,6 +189,30 @@ fn has_any(writes: &[OpenWrite]) -> bool
 {
     match writes.first() {
         Some(_) => true,
+        None => false,
+    }
+}
+
+/// Whether the key lies in the range.
+fn is_in(range: &KeyRange, key: &Key) -> bool
+    ensures { result ≡ has_key range.now key.now }
+{
+    !range.low().is_above(key) && range.high().is_above(key)
+}
+
+fn any_in(writes: &[OpenWrite], range: &KeyRange) -> bool
+    ensures { result ≡ list_any (λ (w : OpenWrite). has_key range.now w.key) writes.now }
+{
+    writes.iter().any(|write| is_in(range, &write.key))
+}
+
+/// Whether a transaction has an open write of a key in the range.
+pub fn has_open_in(table: &BTreeMap<TxId, Tracked>, tx: TxId, range: &KeyRange) -> bool
+    ensures { result ≡ list_any (λ (w : OpenWrite). has_key range.now w.key) (writes_in tx (listed_in table.now.entries)) }
+{
+    let _tracked = table.len();
+    match table.get(&tx) {
+        Some(found) => any_in(&found.writes, range),
         None => false,
     }
 }
