@@ -1,6 +1,6 @@
 use Rattle.std.proofs.Common.{take}
-use Rattle.journal.proofs.Restoring.{AreTimely}
-use Rattle.journal.proofs.restored.first_late.Given as goal
+use Rattle.journal.proofs.Lateness.{AreTimely}
+use Rattle.journal.proofs.late.first_late.Given as goal
 
 abbrev pub invariant-loop-rec : goal.invariant-loop-rec
-invariant-loop-rec l = AreTimely l.listing (take l.rec-index l.recs)
+invariant-loop-rec l = AreTimely l.listing l.places l.losers l.recs (take l.rec-index l.recs)
