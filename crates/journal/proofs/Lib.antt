@@ -10,3 +10,8 @@ pub mod Starting
 pub mod Grouping
 pub mod Overs
 pub mod Restoring
+pub mod Losing
+pub mod Lateness
+pub mod Waiting
+pub mod Barring
+pub mod Analysed

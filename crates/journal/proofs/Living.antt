@@ -91,7 +91,6 @@ module _ {D : Type 0} (opens : List Record → Type 0) (tells : Type 0) (told : 
       record {
         records = λ opening stands. subst (λ (l : List Record). IsLogWith tells told may_leave l m s) (sym (log opening)) (k.records opening stands);
         locks = subst (λ (l : List Entry). AreHeld l t') (sym now) locks;
-        losers = k.losers;
         telling = k.telling;
         places = record {
           commits = let c = k.places.commits in omega (arith, c, live);
@@ -107,7 +106,6 @@ module _ {D : Type 0} (opens : List Record → Type 0) (tells : Type 0) (told : 
       record {
         records = λ opening stands. subst (λ (x : Listing). IsLogWith tells told may_leave (life_log opening h) m' x) (sym listing) (same_blocks tells told may_leave (life_log opening h) m m' s (k.records opening stands) same);
         locks = k.locks;
-        losers = k.losers;
         telling = k.telling;
         places = record {
           commits = let c = k.places.commits in omega (arith, c, ap (λ (x : Managed D). x.spare) room);
@@ -126,7 +124,6 @@ module _ {D : Type 0} (opens : List Record → Type 0) (tells : Type 0) (told : 
       record {
         records = λ opening stands. subst (λ (l : List Record). IsLogWith tells told may_leave l m' s') (sym (log opening)) (roomy.records opening stands);
         locks = λ l. subst (λ (ls : List Held). table.Holds t l ↔ IsAmong (held l.range l.mode) ls) (sym (ap (λ x. taken_locks x l.tx) now ∙ taken_push h (entries.Began session tx) l.tx)) (k.locks l);
-        losers = k.losers;
         telling = k.telling;
         places = record {
           commits = let c = k.places.commits in let one = ap (λ (x : Managed D). x.spare) room in let more = live.0 in omega (arith, c, one, more);
@@ -144,7 +141,6 @@ module _ {D : Type 0} (opens : List Record → Type 0) (tells : Type 0) (told : 
       record {
         records = λ opening stands. subst (λ (l : List Record). IsLogWith tells told may_leave l m' s') (sym (log opening)) (records opening stands);
         locks = λ l. subst (λ (ls : List Held). table.Holds t l ↔ IsAmong (held l.range l.mode) ls) (sym (ap (λ x. taken_locks x l.tx) now ∙ locks_group h lsn recs said still l.tx)) (k.locks l);
-        losers = k.losers;
         telling = k.telling;
         places = record {
           commits = let c = k.places.commits in let same = live.0 in omega (arith, c, spare, same);
@@ -179,7 +175,6 @@ module _ {D : Type 0} (opens : List Record → Type 0) (tells : Type 0) (told : 
       record {
         records = λ opening stands. subst (λ (l : List Record). IsLogWith tells told may_leave l m' s') (sym (log opening)) (records opening stands);
         locks = subst (λ (l : List Entry). AreHeld l t') (sym now) (released t' (entries.Rec lsn r) tx goes free);
-        losers = k.losers;
         telling = k.telling;
         places = record {
           commits = let c = k.places.commits in omega (arith, c, spare, live);
@@ -203,7 +198,6 @@ pub life_flush : {D : Type 0} (opens : List Record → Type 0) (tells : Type 0) 
 life_flush opens tells told may_leave h m m' s s' t mark mark' durable k runs same spare rises is marked = record {
   records = λ opening stands. same (life_log opening h) (k.records opening stands);
   locks = k.locks;
-  losers = k.losers;
   telling = k.telling;
   places = record { commits = subst (λ n. live_count h ≤ n) (sym spare) k.places.commits; numbers = k.places.numbers };
   durable = λ opening stands tell _.
@@ -280,7 +274,6 @@ module _ {D : Type 0} (opens : List Record → Type 0) (tells : Type 0) (told : 
     life = record {
       records = records;
       locks = k.life.locks;
-      losers = k.life.losers;
       telling = k.life.telling;
       places = record { commits = let c = k.life.places.commits in omega (arith, c, spare); numbers = k.life.places.numbers };
       durable = λ opening stands tell runs. subst (λ ps. mark ≤ durable_lsn ps) (sym places) (k.life.durable opening stands tell (sym ended ∙ runs));
@@ -295,7 +288,7 @@ module _ {D : Type 0} (opens : List Record → Type 0) (tells : Type 0) (told : 
   -- where nothing is entered, the locks may stand otherwise in their table
   pub kept_locks : h' ≡ h → table.HoldsTheSame t t' → IsKept opens tells told may_leave h' m s t' mark faults'
   kept_locks now held = subst (λ (x : List Entry × ℕ). IsKept opens tells told may_leave x.0 m s t' mark x.1) (λ i. (sym now i, sym same i)) (record {
-    life = record { records = k.life.records; locks = held_same h t k.life.locks t' held; losers = k.life.losers; telling = k.life.telling; places = k.life.places; durable = k.life.durable };
+    life = record { records = k.life.records; locks = held_same h t k.life.locks t' held; telling = k.life.telling; places = k.life.places; durable = k.life.durable };
     ends = k.ends;
   })
 
@@ -329,7 +322,6 @@ kept_told opens tells told may_leave h m s t mark mark' durable faults k is mark
   life = record {
     records = k.life.records;
     locks = k.life.locks;
-    losers = k.life.losers;
     telling = k.life.telling;
     places = k.life.places;
     durable = λ opening stands tell runs.

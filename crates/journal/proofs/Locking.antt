@@ -1,28 +1,35 @@
--- A lock that is held, and one that is refused: what the lock table answers is what a legal history asks for, where the
--- table holds exactly the locks that were taken.
+-- A lock that is held, one that waits for a loser, and one that is refused: what the lock table and the listing answer is
+-- what a legal history asks for, where the table holds exactly the locks that were taken.
 use Rattle.std.proofs.Common.{◌≡◌, ◌≢◌, ℕ, zero, suc, eqb, cond, ◌<◌, List, [], ◌∷◌, ◌++◌, length, get_or, Bool, true, false, Option, Some, None, refl, sym, ap, ◌∙◌, subst, inl, inr, arith, append-nil, Ordering, Less, Equal, Greater}
-use Rattle.std.specs.Prelude.{◌↔◌, ◌&&◌, ◌||◌, not, filter, IsTrue}
-use Rattle.std.specs.List.{list_any, range_with_len}
+use Rattle.std.specs.Prelude.{◌↔◌, ◌⊎◌, ◌&&◌, ◌||◌, not, IsTrue}
+use Rattle.std.specs.List.{find, list_any}
 use Rattle.std.specs.Cmp.{nat_cmp_is}
 use Rattle.std.specs.Cmp.Lexicographic.{slice_cmp, nat_list_cmp_total}
 use Rattle.std.specs.Ordering.{nat_cmp, is_gt, is_lt, ordering_then, ordering_reverse}
 use Rattle.std.proofs.lemmas.Bool.{eqb-true}
-use Rattle.store_model.proofs.Bools.{false_unless}
+use Rattle.store_model.proofs.Bools.{both_true, false_unless, or_right}
 use Rattle.store_model.specs.Range.{Interval, overlap, is_below}
 use Rattle.store_model.specs.declared.range.Mode.{Mode}
 use Rattle.store_model.specs.declared.range.Mode.TheVariants.{Shared, Exclusive}
 use Rattle.books.specs.Rights.{SessionClaim}
-use Rattle.wal_record.specs.Chains.{finishes, greatest}
-use Rattle.wal_record.specs.History.{Live, log_of, phase, is_live, life_log}
+use Rattle.wal_record.specs.History.{Live, Phase, log_of, phase, is_live, life_log}
 use Rattle.wal_record.specs.Legal.{held, IsLegal}
 use Rattle.wal_record.specs.Locks.{Held, locks_step, taken_locks, loser_locks, locks, is_exclusive, conflict, blocks}
-use Rattle.wal_record.specs.OpenWrites.{is_loser, open_writes}
+use Rattle.wal_record.specs.OpenWrites.{is_loser, losers, open_writes}
+use Rattle.wal_record.specs.Sound.{AreLawful}
 use Rattle.wal_record.specs.declared.record.Record.{Record}
 use Rattle.wal_record.specs.declared.entry.Entry.{Entry}
 use Rattle.wal_record.specs.declared.entry.Entry.TheVariants as entries
 use Rattle.wal_record.proofs.Pushes.{taken_push}
 use Rattle.log_laws.proofs.Central.{eqb_differ, eqb_self, differ}
+use Rattle.log_index.specs.Listing.{IsListingOf}
+use Rattle.log_index.specs.declared.listing.Listing.{Listing}
+use Rattle.log_laws.proofs.Beginnings.{beginning}
 use Rattle.log_laws.proofs.Holders.{holders}
+use Rattle.loser_laws.specs.Losers.{AreLosers, has_open_in}
+use Rattle.loser_laws.proofs.Least.{least}
+use Rattle.loser_laws.proofs.Ways.{ways}
+use Rattle.losers.specs.declared.losers.LoserState.{LoserState}
 use Rattle.claim_laws.proofs.Sessions.{session_law}
 use Rattle.range_lock.specs.Held as table
 use Rattle.range_lock.specs.Lock as ranges
@@ -34,10 +41,10 @@ use Rattle.range_lock.specs.declared.rival.Rival.{Rival}
 use Rattle.range_lock.proofs.Holding.{any_among, among_any}
 use Rattle.range_lock.proofs.Texts.{above_is, tied_is}
 use Rattle.page_ops.specs.Claims.{SessionAgrees}
-use Rattle.page_ops.specs.Outcomes.{IsFirst, IsFirstConflict, losers_left}
+use Rattle.page_ops.specs.Outcomes.{IsFirst, IsFirstConflict, IsLeastLoser}
 use Rattle.page_ops.specs.Seeing.{IsConsistent}
 use Rattle.life_history.proofs.Own.{consistent_entry}
-use Rattle.journal.specs.Locks.{AreHeld, HasNoLosers, AreAcknowledged}
+use Rattle.journal.specs.Locks.{AreHeld, AreAcknowledged, IsBarred, IsFree, first_in}
 
 -- ---- members
 
@@ -84,7 +91,31 @@ live_of h s agrees some calm = elim ((session_law [] h [] s.session).active s.tx
   | inr waits ↦ absurd (calm s.tx waits)
 ]
 
--- without losers the held locks are those that were taken
+-- no loser has an open write of a key in the range
+abbrev pub NoneInWay : List Record → List Entry → Interval → Type 0
+NoneInWay opening h range = (t : ℕ) → (is_loser opening t && has_open_in range (life_log opening h) t) ≡ false
+
+unless_open : (b c : Bool) → (b ≡ true → c ≡ false) → (b && c) ≡ false
+unless_open true c f = f refl
+unless_open false c f = refl
+
+is_live_is : (p : Phase) → is_live p ≡ true → p ≡ Live
+is_live_is Live e = refl
+is_live_is _ e = absurd (cc e)
+
+-- none is in the way where the first one isn't found, or where a lock that was taken is
+pub none_in_way : (opening : List Record) (h : List Entry) (t : RangeLocks) (a : Lock) (s : Listing) (xs : List LoserState) → AreLawful opening → AreLawful (life_log opening h) → IsListingOf (life_log opening h) s → AreLosers opening h xs → IsFree t a
+    → IsBarred t a ⊎ ((log : List Record) → IsListingOf log s → AreLawful log → first_in a.range log xs ≡ None) → NoneInWay opening h a.range
+none_in_way opening h t a s xs sound lawful listed k free (inl barred) u = absurd (cc (barred.2, free barred.0 barred.1))
+none_in_way opening h t a s xs sound lawful listed k free (inr none) u =
+    let p = has_open_in a.range (life_log opening h) in
+    unless_open (is_loser opening u) (p u) ((least opening p).none sound (ap (find p) (sym k.txs) ∙ none (life_log opening h) listed lawful) u)
+
+-- the opening log is lawful
+pub opening_lawful : (opens : List Record → Type 0) (h : List Entry) → IsConsistent opens h → (opening : List Record) → opens opening → AreLawful opening
+opening_lawful opens h c opening stands = (beginning opening (log_of h)).lawful (c.sound opening stands).lawful
+
+-- the held locks of who is no loser are those that were taken
 pub locks_taken : (opening : List Record) (h : List Entry) (t : ℕ) → is_loser opening t ≡ false → locks opening h t ≡ taken_locks h t
 unfolding locks
 locks_taken opening h t none = ap (λ b. taken_locks h t ++ loser_locks b (open_writes (life_log opening h) t)) none ∙ append-nil (taken_locks h t)
@@ -93,6 +124,14 @@ module _ (h : List Entry) (t : RangeLocks) (k : AreHeld h t) where
   lock_by : ℕ → Held → Lock
   lock_by tx x = record { tx = tx; range = x.range; mode = x.mode }
 
+  -- who holds no lock in conflict that was taken doesn't block
+  unblocked : (opening : List Record) (a : Lock) → AreLawful opening → IsLegal opening h → (other : ℕ) → list_any (conflict (held a.range a.mode)) (taken_locks h other) ≡ false → blocks opening h (held a.range a.mode) other ≡ false
+  unblocked opening a sound legal other none = false_unless (blocks opening h (held a.range a.mode) other) (λ blocked.
+      let both = both_true (is_live (phase h other)) _ blocked in
+      let apart = (ways opening h).live sound legal other (is_live_is (phase h other) both.0) in
+      let free = ap (list_any (conflict (held a.range a.mode))) (locks_taken opening h other apart) ∙ none in
+      absurd (cc (both.1, free)))
+
   -- ---- a lock more
 
   free_taken : (a : Lock) → ((l : Lock) → table.Holds t l → ranges.conflict a l ≡ false) → (other : ℕ) → other ≢ a.tx → list_any (conflict (held a.range a.mode)) (taken_locks h other) ≡ false
@@ -100,9 +139,25 @@ module _ (h : List Entry) (t : RangeLocks) (k : AreHeld h t) where
       let l : Lock = record { tx = other; range = x.range; mode = x.mode } in
       sym (conflict_is a l apart) ∙ free l ((k l).1 among))
 
-  pub may_lock : (opening : List Record) (a : Lock) → ((other : ℕ) → is_loser opening other ≡ false) → ((l : Lock) → table.Holds t l → ranges.conflict a l ≡ false)
+  pub may_lock : (opening : List Record) (a : Lock) → NoneInWay opening h a.range → ((l : Lock) → table.Holds t l → ranges.conflict a l ≡ false)
       → (other : ℕ) → other ≢ a.tx → list_any (conflict (held a.range a.mode)) (locks opening h other) ≡ false
-  may_lock opening a none free other apart = ap (list_any (conflict (held a.range a.mode))) (locks_taken opening h other (none other)) ∙ free_taken a free other apart
+  may_lock opening a none free other apart = (ways opening h).conflicts (held a.range a.mode) other ∙ (λ i. free_taken a free other apart i || none other i)
+
+  -- the least loser whose open write has its key in the range, where no lock that was taken conflicts
+  pub waits_for : (opening : List Record) (a : Lock) (xs : List LoserState) → AreLawful opening → IsLegal opening h → AreLosers opening h xs → IsFree t a → (loser : ℕ) → first_in a.range (life_log opening h) xs ≡ Some loser
+      → IsLeastLoser opening h a.tx (held a.range a.mode) loser
+  waits_for opening a xs sound legal k' free loser found =
+      let lock = held a.range a.mode in
+      let p = has_open_in a.range (life_log opening h) in
+      let law = least opening p in
+      let is : find p (losers opening) ≡ Some loser = ap (find p) (sym k'.txs) ∙ found in
+      let one = law.some loser is in
+      record {
+        free = λ other apart. unblocked opening a sound legal other (free_taken a free other apart);
+        loser = one.0;
+        holds = (ways opening h).conflicts lock loser ∙ or_right (list_any (conflict lock) (taken_locks h loser)) (is_loser opening loser && p loser) (both_hold (is_loser opening loser) (p loser) one.0 one.1);
+        least = λ other apart low. (ways opening h).conflicts lock other ∙ (λ i. free_taken a free other apart i || unless_open (is_loser opening other) (p other) (λ is'. law.least sound loser is other low is') i);
+      }
 
   pub held_more : (t' : RangeLocks) (a : Lock) → table.Gains t t' a → AreHeld (h ++ entries.Lock a.tx a.range a.mode ∷ []) t'
   held_more t' a gains l = subst (λ (ls : List Held). table.Holds t' l ↔ IsAmong (held l.range l.mode) ls) (sym (taken_push h (entries.Lock a.tx a.range a.mode) l.tx)) (by (eqb a.tx l.tx) refl)
@@ -173,18 +228,21 @@ module _ (h : List Entry) (t : RangeLocks) (k : AreHeld h t) where
         let own : Lock = record { tx = r.holder; range = l.range; mode = l.mode } in
         ap (λ o. is_gt (ordering_then o (range_cmp r.range l.range))) (nat_cmp_is r.holder r.holder Equal refl) ∙ not_before own among rival_apart c
 
-    pub may_refuse : (opening : List Record) → IsLegal opening h → ((other : ℕ) → is_loser opening other ≡ false) → IsTrue (blocks opening h (held a.range a.mode) r.holder) × ((other : ℕ) → other ≢ a.tx → other < r.holder → blocks opening h (held a.range a.mode) other ≡ false)
-    may_refuse opening legal none =
-        let any : list_any (conflict (held a.range a.mode)) (locks opening h r.holder) ≡ true = ap (list_any (conflict (held a.range a.mode))) (locks_taken opening h r.holder (none r.holder)) ∙ rival_any in
+    -- who has taken a lock is no loser, and live
+    pub holder_apart : (opening : List Record) → AreLawful opening → IsLegal opening h → is_loser opening r.holder ≡ false
+    holder_apart opening sound legal = false_unless (is_loser opening r.holder) (λ loser.
+        subst (λ (ls : List Held). IsAmong (held r.range f.mode) ls) ((ways opening h).untaken sound legal r.holder loser) rival_taken)
+
+    pub may_refuse : (opening : List Record) → AreLawful opening → IsLegal opening h → IsTrue (blocks opening h (held a.range a.mode) r.holder) × ((other : ℕ) → other ≢ a.tx → other < r.holder → blocks opening h (held a.range a.mode) other ≡ false)
+    may_refuse opening sound legal =
+        let apart = holder_apart opening sound legal in
+        let any : list_any (conflict (held a.range a.mode)) (locks opening h r.holder) ≡ true = ap (list_any (conflict (held a.range a.mode))) (locks_taken opening h r.holder apart) ∙ rival_any in
         let live : phase h r.holder ≡ Live = elim ((holders opening h).holder legal r.holder (conflict (held a.range a.mode)) any) [
           | inl live ↦ live
-          | inr loser ↦ absurd (cc (loser, none r.holder))
+          | inr loser ↦ absurd (cc (loser, apart))
         ] in (
           both_hold (is_live (phase h r.holder)) _ (ap is_live live) any,
-          λ other apart low. false_unless (blocks opening h (held a.range a.mode) other) (λ blocked.
-              let some = and_last (is_live (phase h other)) _ blocked in
-              let free = ap (list_any (conflict (held a.range a.mode))) (locks_taken opening h other (none other)) ∙ lower_free other apart low in
-              absurd (cc (some, free))),
+          λ other apart low. unblocked opening a sound legal other (lower_free other apart low),
         )
 
     pub is_first : (ls : List Held) → ls ≡ taken_locks h r.holder → IsFirstConflict ls (held a.range a.mode) r.range
@@ -228,9 +286,9 @@ module _ (h : List Entry) (t : RangeLocks) (k : AreHeld h t) where
 
 -- ---- the entries
 
-module _ (opens : List Record → Type 0) (h : List Entry) (c : IsConsistent opens h) (t : RangeLocks) (k : AreHeld h t) (none : HasNoLosers opens) (a : Lock) (live : phase h a.tx ≡ Live) where
-  pub lock_consistent : ((l : Lock) → table.Holds t l → ranges.conflict a l ≡ false) → IsConsistent opens (h ++ entries.Lock a.tx a.range a.mode ∷ [])
-  lock_consistent free = consistent_entry opens h (entries.Lock a.tx a.range a.mode) c refl refl (λ log. refl) (λ opening stands. record {
+module _ (opens : List Record → Type 0) (h : List Entry) (c : IsConsistent opens h) (t : RangeLocks) (k : AreHeld h t) (a : Lock) (live : phase h a.tx ≡ Live) where
+  pub lock_consistent : ((opening : List Record) → opens opening → NoneInWay opening h a.range) → ((l : Lock) → table.Holds t l → ranges.conflict a l ≡ false) → IsConsistent opens (h ++ entries.Lock a.tx a.range a.mode ∷ [])
+  lock_consistent none free = consistent_entry opens h (entries.Lock a.tx a.range a.mode) c refl refl (λ log. refl) (λ opening stands. record {
     told = c.told;
     live = live;
     free = may_lock h t k opening a (none opening stands) free;
@@ -242,7 +300,7 @@ module _ (opens : List Record → Type 0) (h : List Entry) (c : IsConsistent ope
 
     pub refused_consistent : IsConsistent opens (h ++ refusal ∷ [])
     refused_consistent = consistent_entry opens h refusal c refl refl (λ log. refl) (λ opening stands.
-        let law = may_refuse h t k a r f opening (c.legal opening stands) (none opening stands) in
+        let law = may_refuse h t k a r f opening (opening_lawful opens h c opening stands) (c.legal opening stands) in
         record {
           told = c.told;
           live = live;
@@ -252,14 +310,6 @@ module _ (opens : List Record → Type 0) (h : List Entry) (c : IsConsistent ope
         })
 
     pub conflict_told : (opening : List Record) → opens opening → IsFirstConflict (locks opening (h ++ refusal ∷ []) r.holder) (held a.range a.mode) r.range
-    conflict_told opening stands = is_first h t k a r f _ (locks_taken opening (h ++ refusal ∷ []) r.holder (none opening stands r.holder) ∙ taken_push h refusal r.holder)
-
--- ---- losers
-
-none_chosen : (f : ℕ → Bool) (xs : List ℕ) → ((x : ℕ) → f x ≡ false) → filter f xs ≡ []
-none_chosen f [] none = refl
-none_chosen f (x ∷ xs) none = ap (λ (b : Bool). cond b (x ∷ filter f xs) (filter f xs)) (none x) ∙ none_chosen f xs none
-
--- where there were none, none is left
-pub none_left : (opening : List Record) (h : List Entry) → ((t : ℕ) → is_loser opening t ≡ false) → losers_left opening h ≡ []
-none_left opening h none = ap (filter (λ (t : ℕ). not (list_any (finishes t) (log_of h)))) (none_chosen (is_loser opening) (range_with_len 1 (greatest opening)) none)
+    conflict_told opening stands =
+        let apart = holder_apart h t k a r f opening (opening_lawful opens h c opening stands) (c.legal opening stands) in
+        is_first h t k a r f _ (locks_taken opening (h ++ refusal ∷ []) r.holder apart ∙ taken_push h refusal r.holder)

@@ -1,4 +1,4 @@
--- Where a segment was restored last, as entries come; who comes late with it.
+-- Where a segment was restored last, as entries come.
 use Rattle.std.proofs.Common.{◌≡◌, ℕ, zero, suc, cond, eqb, ◌+◌, ◌<◌, ◌≤◌, List, [], ◌∷◌, ◌++◌, length, take, Option, Some, None, Bool, true, false, refl, sym, ap, ◌∙◌, subst, inl, inr, arith, append_assoc, append-nil, length-append, slice_index_or}
 use Rattle.std.specs.Prelude.{IfNone, IfSome, IsTrue, ◌||◌, Result, Ok, Err, is_some}
 use Rattle.std.specs.Option.{option_map_or}
@@ -20,12 +20,8 @@ use Rattle.wal_record.specs.declared.record.Record.TheVariants as kinds
 use Rattle.wal_record.specs.declared.entry.Entry.{Entry}
 use Rattle.wal_record.specs.declared.entry.Entry.TheVariants as entries
 use Rattle.store_model.specs.Along.{along}
-use Rattle.wal_record.proofs.Along.{along_push}
+use Rattle.loser_laws.proofs.Tables.{place_push}
 use Rattle.journal.specs.Restored.{AreRestored, HasRoomAt, HasRoomIn, Places, place_in, restored_in, restores}
-
-place_push : (is : Entry → Bool) (h : List Entry) (e : Entry) → last_place is (h ++ e ∷ []) ≡ cond (is e) (suc (length h)) (last_place is h)
-unfolding last_place
-place_push is h e = along_push _ _ h e
 
 -- the entry restores no segment
 abbrev pub RestoresNone : Entry → Type 0
@@ -100,11 +96,11 @@ one_noted h x x' lsn place i m rs d k at lt next more =
     restored_same (g ++ entries.Rec (lsn + i) (slice_index_or rs i d) ∷ []) (h ++ record_entries lsn (take m rs)) x' (more g (lsn + i) k (at ∙ ap (λ (n : ℕ). suc n) (sym long)))
     (ap (λ (k : ℕ). h ++ record_entries lsn (take k rs)) next ∙ ap (λ (es : List Entry). h ++ es) (records_more lsn i rs d lt) ∙ sym (append_assoc h (record_entries lsn (take i rs)) (entries.Rec (lsn + i) (slice_index_or rs i d) ∷ [])))
 
-taken_all : (i : ℕ) (rs : List Record) → length rs ≤ i → take i rs ≡ rs
+pub taken_all : {A : Type 0} (i : ℕ) (rs : List A) → length rs ≤ i → take i rs ≡ rs
 taken_all zero [] le = refl
 taken_all (suc i) [] le = refl
 taken_all zero (r ∷ rs) le = absurd (omega (arith, le))
-taken_all (suc i) (r ∷ rs) le = ap (λ (l : List Record). r ∷ l) (taken_all i rs (omega (arith, le)))
+taken_all (suc i) (r ∷ rs) le = ap (λ (l : List _). r ∷ l) (taken_all i rs (omega (arith, le)))
 
 pub all_noted : (h : List Entry) (x : Places) (lsn i : ℕ) (rs : List Record) (said : Option Said) → AreRestored (h ++ record_entries lsn (take i rs)) x → length rs ≤ i → AreRestored (h ++ group_entries lsn rs said) x
 all_noted h x lsn i rs said k le =
@@ -139,41 +135,6 @@ each_kept P Q (x ∷ xs) f e = (f x e.0, each_kept P Q xs f e.1)
 pub room_more : (x x' : Places) (i m : ℕ) (rs : List Record) (d : Record) → Each (HasRoomIn x) (take i rs) → ((r : Record) → HasRoomIn x r → HasRoomIn x' r) → m ≡ suc i → i < length rs → HasRoomIn x' (slice_index_or rs i d) → Each (HasRoomIn x') (take m rs)
 room_more x x' i m rs d before kept next lt one =
     subst (λ (k : ℕ). Each (HasRoomIn x') (take k rs)) (sym next) (each_more (HasRoomIn x') i rs d (each_kept (HasRoomIn x) (HasRoomIn x') (take i rs) kept before) lt one)
-
--- ---- who comes late
-
--- these records come in time, by what is listed
-abbrev pub AreTimely : Listing → List Record → Type 0
-AreTimely s rs = (opening : List Record) (h : List Entry) → ((t : ℕ) → is_loser opening t ≡ false) → IsListingOf (life_log opening h) s → Each (IsTimely opening h) rs
-
-pub timely_none : (s : Listing) (rs : List Record) → AreTimely s (take 0 rs)
-timely_none s [] opening h none is = tt
-timely_none s (r ∷ rs) opening h none is = tt
-
-pub timely_more : (s : Listing) (i m : ℕ) (rs : List Record) (d : Record) → AreTimely s (take i rs) → m ≡ suc i → i < length rs
-    → ((opening : List Record) (h : List Entry) → ((t : ℕ) → is_loser opening t ≡ false) → IsListingOf (life_log opening h) s → IsTimely opening h (slice_index_or rs i d)) → AreTimely s (take m rs)
-timely_more s i m rs d before next lt one opening h none is =
-    subst (λ (k : ℕ). Each (IsTimely opening h) (take k rs)) (sym next) (each_more (IsTimely opening h) i rs d (before opening h none is) lt (one opening h none is))
-
-pub timely_all : (s : Listing) (i : ℕ) (rs : List Record) → AreTimely s (take i rs) → length rs ≤ i → AreTimely s rs
-timely_all s i rs before le opening h none is = each_all (IsTimely opening h) i rs (before opening h none is) le
-
-pub late_at : (opening : List Record) (h : List Entry) (place i : ℕ) (rs : List Record) (d : Record) → i < length rs → IsForestalled opening h place (slice_index_or rs i d) → IsLate opening h place rs
-late_at opening h place i [] d lt late = absurd (omega (arith, lt))
-late_at opening h place zero (r ∷ rs) d lt late = inl late
-late_at opening h place (suc i) (r ∷ rs) d lt late = inr (late_at opening h place i rs d (omega (arith, lt)) late)
-
-either : (a b : Bool) → b ≡ true → (a || b) ≡ true
-either true b e = refl
-either false b e = e
-
-first : (a b : Bool) → a ≡ true → (a || b) ≡ true
-first a b e = ap (λ (c : Bool). c || b) e
-
-pub one_can : (i : ℕ) (rs : List Record) (d : Record) → i < length rs → can_be_late (slice_index_or rs i d) ≡ true → IsTrue (list_any can_be_late rs)
-one_can i [] d lt is = absurd (omega (arith, lt))
-one_can zero (r ∷ rs) d lt is = first (can_be_late r) (list_any can_be_late rs) is
-one_can (suc i) (r ∷ rs) d lt is = either (can_be_late r) (list_any can_be_late rs) (one_can i rs d (omega (arith, lt)) is)
 
 -- ---- where nothing is restored
 

@@ -15,7 +15,7 @@ use Rattle.wal_record.specs.Locks.{Held, taken_locks}
 use Rattle.wal_record.specs.declared.record.Record.{Record}
 use Rattle.wal_record.specs.declared.entry.Entry.{Entry}
 use Rattle.journal.specs.Kept.{IsKept, IsTold}
-use Rattle.journal.specs.Locks.{AreHeld, HasNoLosers, AreAcknowledged}
+use Rattle.journal.specs.Locks.{AreHeld, AreAcknowledged}
 
 nothing_taken : (t : ℕ) → taken_locks [] t ≡ []
 unfolding taken_locks along
@@ -32,15 +32,14 @@ unfolding phase along
 nothing_waits t e = absurd (cc e)
 
 pub kept_start : {D : Type 0} (opens : List Record → Type 0) (tells : Type 0) (told : D → Kept) (may_leave : D → Kept → Type 0) (h : List Entry) (m : Managed D) (s : Listing) (t : RangeLocks) (faults : ℕ)
-    → h ≡ [] → m.log.ended ≡ None → faults ≡ 0 → ((opening : List Record) → opens opening → length opening ≤ 2 ^ 62) → ((opening : List Record) → opens opening → IsLogWith tells told may_leave opening m s) → tables.held t ≡ [] → HasNoLosers opens → IsTold opens tells → IsKept opens tells told may_leave h m s t 0 faults
-kept_start opens tells told may_leave h m s t faults begins goes fresh few records none losers telling =
+    → h ≡ [] → m.log.ended ≡ None → faults ≡ 0 → ((opening : List Record) → opens opening → length opening ≤ 2 ^ 62) → ((opening : List Record) → opens opening → IsLogWith tells told may_leave opening m s) → tables.held t ≡ [] → IsTold opens tells → IsKept opens tells told may_leave h m s t 0 faults
+kept_start opens tells told may_leave h m s t faults begins goes fresh few records none telling =
     let same : (opening : List Record) → life_log opening [] ≡ opening = λ opening. append-nil opening in
     subst (λ (l : List Entry). IsKept opens tells told may_leave l m s t 0 faults) (sym begins)
     (record {
       life = record {
         records = λ opening stands. subst (λ (l : List Record). IsLogWith tells told may_leave l m s) (sym (same opening)) (records opening stands);
         locks = none_held t none;
-        losers = losers;
         telling = telling;
         places = record { commits = omega arith; numbers = λ opening stands. let f = few opening stands in omega (arith, f, ap (λ (l : List Record). length l) (same opening)) };
         durable = λ opening stands tell runs. omega arith;

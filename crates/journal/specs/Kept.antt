@@ -9,7 +9,7 @@ use Rattle.wal_record.specs.History.{life_log, live_count}
 use Rattle.wal_record.specs.declared.record.Record.{Record}
 use Rattle.wal_record.specs.declared.entry.Entry.{Entry}
 use Rattle.listed_log.specs.Listed.{IsLogWith}
-use Rattle.journal.specs.Locks.{AreHeld, HasNoLosers, AreAcknowledged}
+use Rattle.journal.specs.Locks.{AreHeld, AreAcknowledged}
 
 -- a log with which the life may have begun is known only where its disk tells what it keeps
 abbrev pub IsTold : (List Record → Type 0) → Type 0 → Type 0
@@ -29,7 +29,6 @@ pub record HasPlaces (opens : List Record → Type 0) (h : List Entry) (spare : 
 pub record IsOfLife {D : Type 0} (opens : List Record → Type 0) (tells : Type 0) (told : D → Kept) (may_leave : D → Kept → Type 0) (h : List Entry) (m : Managed D) (s : Listing) (t : RangeLocks) (mark : ℕ) : Type 0 where
   pub records : AreRecords opens tells told may_leave h m s
   pub locks : AreHeld h t
-  pub losers : HasNoLosers opens
   pub telling : IsTold opens tells
   pub places : HasPlaces opens h m.spare
   pub durable : (opening : List Record) → opens opening → tells → m.log.ended ≡ None → mark ≤ durable_lsn m.log.places

@@ -1,5 +1,5 @@
 //! The value behind the lock, and its calls.
-ghost use Rattle.std.specs.Prelude.{◌≡◌, ◌+◌, ◌<◌, ◌≤◌, ◌^◌, ℕ, suc, List, [], ◌∷◌, ◌++◌, length, min, true, false, Some, None, IfSome, IfNone, IsSome, IfOk, IfErr, OnOk, OnErr, IsTrue};
+ghost use Rattle.std.specs.Prelude.{◌≡◌, ◌+◌, ◌<◌, ◌≤◌, ◌^◌, ℕ, suc, List, [], ◌∷◌, ◌++◌, length, map, min, true, false, Some, None, IfSome, IfNone, IsSome, IfOk, IfErr, OnOk, OnErr, IsTrue};
 ghost use Rattle.std.specs.List.{All, list_any};
 ghost use Rattle.group_filling.specs.Fitting.{AreInRange};
 ghost use Rattle.log_manager.specs.Payload.{bytes_of};
@@ -17,7 +17,9 @@ ghost use Rattle.wal_record.specs.Books.{page_book};
 ghost use Rattle.wal_record.specs.Chains.{pages};
 ghost use Rattle.wal_record.specs.History.{life_log};
 ghost use Rattle.wal_record.specs.Legal.{MayDecline, held};
+ghost use Rattle.wal_record.specs.OpenWrites as writes;
 ghost use Rattle.wal_record.specs.OpenWrites.{pending};
+ghost use Rattle.losers.specs.Losers.{untouched};
 ghost use Rattle.wal_record.specs.Rules.{HasSpelling, is_number, is_page};
 ghost use Rattle.wal_record.specs.State.{is_child};
 ghost use Rattle.wal_record.specs.declared.entry.Entry.{Entry};
@@ -25,18 +27,21 @@ ghost use Rattle.wal_record.specs.declared.record.Record.{Record};
 ghost use Rattle.wal_record.specs.declared.record.Record.TheVariants as kinds;
 ghost use Rattle.journal.specs.Declined.{IsDeclined, IsTaken};
 ghost use Rattle.journal.specs.Kept.{IsTold};
-ghost use Rattle.journal.specs.Locks.{HasNoLosers};
 ghost use Rattle.journal.specs.Groups.{EndsSession, EntersFilled, EntersNow, GroupFollows, IsNext, IsNextPage};
 
 use crate::ends::{check_open, make_room, note_fault, tell_durable};
 use crate::filling::{append_all, child_of, end_of, in_range, number_of};
-use crate::restored::{first_late, note_group, prepare_group};
+use crate::in_way::loser_in_way;
+use crate::late::first_late;
+use crate::restored::{note_group, prepare_group};
 use crate::taken::Taken;
+use crate::undone::note_undone;
 use books::{PageRight, SessionRight};
 use front::{Mark, Pass};
 use group_filling::{can_fill, fill, have_numbers, is_fit, made_by, put_back};
 use life_history::{Counts, History};
 use listed_log::ListedLog;
+use losers::Losers;
 use media::Disk;
 use page_ops::{Committed, Entered, Grant, Group, Life, LogFaults, Rights, Said};
 use range_lock::{LockRefused, RangeLocks};
@@ -67,38 +72,42 @@ pub struct Journal<'a, L: Disk, N: Life> {
     made: Option<PageRight<N>>,
     // Where the last Restored of each segment stands.
     restored: BTreeMap<u32, Pos>,
+    // What the life has done of each loser of its opening log.
+    pub(crate) losers: Losers,
 }
 
 impl<'a, L: Disk, N: Life> Model for Journal<'a, L, N> {
     ghost use Rattle.std.specs.Prelude.{◌≡◌, List};
     ghost use Rattle.wal_record.specs.declared.entry.Entry.{Entry};
     ghost use Rattle.journal.specs.Kept.{IsKept};
+    ghost use Rattle.journal.specs.Losers.{HasLosers};
     ghost use Rattle.journal.specs.Restored.{AreRestored};
 
     ghost Value = { List Entry };
 
     ghost view = { λ j. j.history };
 
-    ghost invariant = { λ j. (j.mark ≡ j.marked) × IsKept N.opens L.tells L.told L.may_leave j.history j.log.log j.log.listing j.locks j.marked j.faults.total × AreRestored j.history j.restored };
+    ghost invariant = { λ j. (j.mark ≡ j.marked) × IsKept N.opens L.tells L.told L.may_leave j.history j.log.log j.log.listing j.locks j.marked j.faults.total × AreRestored j.history j.restored × HasLosers N.opens j.history j.losers };
 }
 
 impl<'a, L: Disk, N: Life> Journal<'a, L, N> {
-    /// The journal of a life that has just begun, with a log that hasn't ended and that has the records of the opening log,
-    /// among which there are no losers. No fault of the disk was counted, and no pass was told what is durable. An opening log
-    /// is known only where the disk tells what it keeps.
+    /// The journal of a life that has just begun, with a log that hasn't ended and that has the records of the opening log, and
+    /// with the losers of that. No fault of the disk was counted, and no pass was told what is durable. An opening log is known
+    /// only where the disk tells what it keeps.
     pub fn start(
         alloc: Global,
         log: ListedLog<L>,
         history: History<'a, N>,
         mark: Mark<Entry, N>,
         faults: Book<LogFaults<N>>,
+        losers: Losers,
     ) -> Journal<'a, L, N>
         requires goes { log.log.log.ended ≡ None }
         requires begins { history ≡ [] }
         requires fresh { (mark ≡ 0) × (faults.total ≡ 0) }
         requires few { (opening : List Record) → N.opens opening → length opening ≤ 2 ^ 62 }
         requires records { (opening : List Record) → N.opens opening → IsLogWith L.tells L.told L.may_leave opening log.log log.listing }
-        requires losers { HasNoLosers N.opens }
+        requires losers { (opening : List Record) → N.opens opening → losers ≡ map untouched (writes.losers opening) }
         requires telling { IsTold N.opens L.tells }
         ensures { result ≡ [] }
     {
@@ -111,6 +120,7 @@ impl<'a, L: Disk, N: Life> Journal<'a, L, N> {
             faults,
             made: None,
             restored: BTreeMap::new(alloc),
+            losers,
         }
     }
 
@@ -174,6 +184,7 @@ impl<'a, L: Disk, N: Life> Journal<'a, L, N> {
     /// As `Journaling::lock`. It wants memory where the history has 2^62 entries.
     pub fn lock(
         &mut self,
+        alloc: Global,
         s: &mut SessionRight<N>,
         range: &KeyRange,
         mode: Mode,
@@ -193,7 +204,12 @@ impl<'a, L: Disk, N: Life> Journal<'a, L, N> {
         if self.history.length() >= MOST {
             return Err(Fault::Memory);
         }
-        match self.locks.acquire(s.tx(), range, mode) {
+        let tx = s.tx();
+        let (losers, listing, locks) = (self.losers.all(), self.log.listing(), &self.locks);
+        if let Some(loser) = loser_in_way(alloc, losers, listing, locks, tx, range, mode)? {
+            return Ok(Grant::Loser(loser));
+        }
+        match self.locks.acquire(tx, range, mode) {
             Ok(()) => {
                 self.history
                     .enter_lock::<Brand>(range, mode, s, pass, counts);
@@ -443,7 +459,8 @@ impl<'a, L: Disk, N: Life> Journal<'a, L, N> {
         ensures ended { IfOk result (EndsSession end s.old s.new counts.old counts.new self.old self.new) }
     {
         let (last, over, prev) = (self.log.last(), end.tx, end.prev);
-        if last == 0 || last >= MOST || self.log.ended().is_some() {
+        let before = self.history.length();
+        if last == 0 || last >= MOST || before >= MOST || self.log.ended().is_some() {
             return Err(Memory);
         }
         let recs = [Record::End(end)];
@@ -452,6 +469,7 @@ impl<'a, L: Disk, N: Life> Journal<'a, L, N> {
         }
         let lsn = append_all(&mut self.log, alloc, &recs)?;
         self.history.enter_end(lsn, prev, s, counts);
+        self.losers.ended(over, before + 1);
         self.locks.release_all(over);
         Ok(lsn)
     }
@@ -519,6 +537,7 @@ impl<'a, L: Disk, N: Life> Journal<'a, L, N> {
         self.history
             .enter_group(lsn, recs, said, new.take(), rights, counts);
         note_group(&mut self.restored, before, recs);
+        note_undone(&mut self.losers, before, recs);
         Ok(lsn)
     }
 
@@ -686,10 +705,12 @@ impl<'a, L: Disk, N: Life> Journal<'a, L, N> {
 
     /// Where the entry stands that came before a record of the group, if one did.
     fn late(&self, group: &Group) -> Option<Pos>
-        ensures none { IfNone result ((opening : List Record) → N.opens opening → Each (IsTimely opening self.now) group.now.recs) }
+        requires consistent { IsConsistent N.opens self.now }
+        ensures none { IfNone result ((opening : List Record) → N.opens opening → Each (WasTimely opening self.now) group.now.recs → Each (IsTimely opening self.now) group.now.recs) }
         ensures late { IfSome result (λ place. (opening : List Record) → N.opens opening → IsLate opening self.now place group.now.recs) }
         ensures kind { IfSome result (λ place. IsTrue (list_any can_be_late group.now.recs)) }
     {
-        first_late(self.log.listing(), &self.restored, group.recs.as_slice())
+        let recs = group.recs.as_slice();
+        first_late(self.log.listing(), &self.restored, &self.losers, recs)
     }
 }

@@ -7,16 +7,19 @@
 //! - The log with its listing (`listed_log`) has the records, and what has to be known of them to go on.
 //! - The lock table (`range_lock`) has the locks of the transactions that are live.
 //! - The history (`life_history`) has the entries, the books of pages and sessions, and the ledgers.
+//! - The table of losers (`losers`) has of each loser of the opening log where its last Undo or End stands, and whether it
+//!   has its End.
 //!
 //! The model is the history. What holds whenever the lock is free is `IsKept` (`specs/Kept`): for each log with which the
 //! life may have begun, the log and its listing are those of the life; the table holds exactly the locks that were taken
-//! and not released; there is room for the commit of each live transaction; what passes were told to be durable is; and as
+//! and not released; the table of losers is that of the history; there is room for the commit of each live transaction; what passes were told to be durable is; and as
 //! long as the log hasn't ended, no commit waits for its acknowledgement and no fault was counted. What each of the three
 //! keeps of itself is its own invariant. What is promised so far:
 //!
 //! 1. [`Journal::begin`] begins a transaction, and makes the room in the log that its commit needs.
-//! 2. [`Journal::lock`] locks a range exactly where no other transaction's lock conflicts. Else it enters the refusal, and
-//!    tells the least holder and the first of its conflicting ranges.
+//! 2. [`Journal::lock`] locks a range exactly where no other transaction's lock conflicts. Where that of a live one does, it
+//!    enters the refusal, and tells the least holder and the first of its conflicting ranges. Where only losers' do, it tells
+//!    the least of these, and enters nothing. A loser's locks are on the keys of its open writes, and are read off the listing.
 //! 3. [`Journal::enter`] enters a group in any life, told or not: an answer alone, a record of any kind but Checkpoint,
 //!    with its answer or without, or two records that may stand together, such as the split of a page and the write that
 //!    it was made for. An End stands alone; by it the session's transaction is over, and its locks are let go. It fills the group in by the listing (`group_filling`), adds it to the log in one block and to
@@ -34,17 +37,23 @@
 //!    nothing; through one account it is always the same LSN.
 //!
 //! 8. It keeps where each segment was restored last. A group that restores a segment that isn't unrestored any more isn't
-//!    entered, and its answer is `Late`, with the place of the entry that came first.
+//!    entered, and its answer is `Late`, with the place of the entry that came first. So is the Undo of a loser's write that
+//!    isn't its last open one any more, and the End of a loser that has one. [`losers_of`] gives the losers with which a life
+//!    begins; [`Journal::least_loser`] and [`Journal::losers`] tell those that are left.
 //!
-//! A group that isn't built yet is refused as one that wants memory, which the traits allow. Not built: checkpoints, lives
-//! that begin with losers.
+//! A group that isn't built yet is refused as one that wants memory, which the traits allow. Not built: checkpoints, and the
+//! Undo and the End of a loser where nobody came first.
 #![tactic(auto)]
 
 mod ends;
 mod filling;
+mod in_way;
 mod journal;
+mod late;
 mod reading;
 mod restored;
 mod taken;
+mod undone;
 
 pub use journal::Journal;
+pub use undone::losers_of;

@@ -21,7 +21,7 @@ use media::Disk;
 use page_ops::{Found, Ground, Life};
 use std::alloc::Global;
 use std::cmp::min;
-use store_model::{Fault, List, Lsn, Pos, TxId};
+use store_model::{Fault, List, Lsn, Memory, Pos, TxId};
 use wal_record::Entry;
 
 impl<'a, L: Disk, N: Life> Journal<'a, L, N> {
@@ -58,16 +58,17 @@ impl<'a, L: Disk, N: Life> Journal<'a, L, N> {
     pub fn least_loser(&self) -> Option<TxId>
         ensures { (opening : List Record) → N.opens opening → result ≡ first_of (losers_left opening self.now) }
     {
-        let _ = &self.log;
-        None
+        match self.losers.first_left() {
+            Some(loser) => Some(loser.tx),
+            None => None,
+        }
     }
 
     /// The losers of the opening log that have no End yet, by rising number.
-    pub fn losers(&self, alloc: Global) -> List<TxId>
-        ensures { (opening : List Record) → N.opens opening → result ≡ losers_left opening self.now }
+    pub fn losers(&self, alloc: Global) -> Result<List<TxId>, Memory>
+        ensures { (opening : List Record) → N.opens opening → IfOk result (λ txs. txs ≡ losers_left opening self.now) }
     {
-        let _ = &self.log;
-        List::new(alloc)
+        self.losers.left(alloc)
     }
 
     /// How many writes the life has undone.

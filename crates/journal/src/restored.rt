@@ -1,26 +1,20 @@
-//! Where each segment was restored last, so that whoever comes late with it is told.
-ghost use Rattle.std.specs.Prelude.{◌≡◌, ◌+◌, ◌<◌, ◌^◌, ◌++◌, ◌∷◌, [], List, Option, ℕ, suc, length, true, false, is_some, IfSome, IfNone, IsTrue, OnOk, ◌==◌, if◌then◌else◌};
-ghost use Rattle.std.specs.List.{list_any};
+//! Where each segment was restored last.
+ghost use Rattle.std.specs.Prelude.{◌≡◌, ◌+◌, ◌<◌, ◌^◌, ◌++◌, ◌∷◌, [], List, Option, ℕ, suc, length, true, is_some, OnOk, ◌==◌, if◌then◌else◌};
 ghost use Rattle.std.specs.Ordering.{nat_cmp};
 ghost use Rattle.std.specs.BTreeMap.{get};
-ghost use Rattle.log_index.specs.Listing.{IsListingOf};
-ghost use Rattle.page_ops.specs.Asking.{IsForestalled, IsLate, IsTimely, can_be_late};
 ghost use Rattle.page_ops.specs.Groups.{Each, group_entries};
 ghost use Rattle.page_ops.specs.declared.group.Said.{Said};
-ghost use Rattle.wal_record.specs.History.{life_log};
-ghost use Rattle.wal_record.specs.OpenWrites.{is_loser};
 ghost use Rattle.wal_record.specs.declared.entry.Entry.{Entry};
 ghost use Rattle.wal_record.specs.declared.entry.Entry.TheVariants as entries;
 ghost use Rattle.wal_record.specs.declared.record.Record.{Record};
 ghost use Rattle.journal.specs.Restored.{AreRestored, HasRoomIn, place_in, restored_in};
 
-use log_index::Listing;
 use std::collections::BTreeMap;
 use store_model::{Memory, Pos};
 use wal_record::Record;
 
 /// Where the segment was restored last, 0 for nowhere.
-fn place_of(places: &BTreeMap<u32, Pos>, segment: u32) -> Pos
+pub(crate) fn place_of(places: &BTreeMap<u32, Pos>, segment: u32) -> Pos
     ensures { result ≡ place_in places.now segment }
 {
     match places.get(&segment) {
@@ -110,40 +104,4 @@ pub(crate) fn note_group(places: &mut BTreeMap<u32, Pos>, before: u64, recs: &[R
         place += 1;
         note(places, place, rec);
     }
-}
-
-/// Where the entry stands that came before the record, if one did.
-fn came_first(listing: &Listing, places: &BTreeMap<u32, Pos>, rec: &Record) -> Option<Pos>
-    ensures none { IfNone result ((opening : List Record) (h : List Entry) → ((t : ℕ) → is_loser opening t ≡ false) → IsListingOf (life_log opening h) listing.now → IsTimely opening h rec.now) }
-    ensures late { IfSome result (λ place. (opening : List Record) (h : List Entry) → IsListingOf (life_log opening h) listing.now → AreRestored h places.now → IsForestalled opening h place rec.now) }
-    ensures kind { IfSome result (λ place. can_be_late rec.now ≡ true) }
-{
-    match rec {
-        Record::Restored(restored) => {
-            if listing.is_unrestored(restored.segment) {
-                None
-            } else {
-                Some(place_of(places, restored.segment))
-            }
-        }
-        _ => None,
-    }
-}
-
-/// Where the entry stands that came before one of these records, if one did.
-pub(crate) fn first_late(
-    listing: &Listing,
-    places: &BTreeMap<u32, Pos>,
-    recs: &[Record],
-) -> Option<Pos>
-    ensures none { IfNone result ((opening : List Record) (h : List Entry) → ((t : ℕ) → is_loser opening t ≡ false) → IsListingOf (life_log opening h) listing.now → Each (IsTimely opening h) recs.now) }
-    ensures late { IfSome result (λ place. (opening : List Record) (h : List Entry) → IsListingOf (life_log opening h) listing.now → AreRestored h places.now → IsLate opening h place recs.now) }
-    ensures kind { IfSome result (λ place. IsTrue (list_any can_be_late recs.now)) }
-{
-    for rec in recs {
-        if let Some(place) = came_first(listing, places, rec) {
-            return Some(place);
-        }
-    }
-    None
 }

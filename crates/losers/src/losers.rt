@@ -145,6 +145,13 @@ impl Losers {
         Ok(Losers { items })
     }
 
+    /// All of them.
+    pub fn all(&self) -> &[LoserState]
+        ensures { result.now ≡ self.now }
+    {
+        &self.items
+    }
+
     /// What the life has done of the transaction, if it is a loser.
     pub fn state(&self, tx: TxId) -> Option<LoserState>
         ensures { result ≡ find (is_of tx) self.now }

@@ -3,6 +3,7 @@ use Rattle.page_ops.specs.Seeing.{Account}
 use Rattle.journal.specs.Ends.{IsStopped}
 use Rattle.journal.proofs.Ending.{stopped_ends}
 use Rattle.journal.proofs.Living.{kept_begin}
+use Rattle.journal.proofs.Losing.{losers_begun}
 use Rattle.journal.proofs.Restoring.{restored_begun}
 use Rattle.journal.proofs.journal.Journal.begin.Goals as goal
 
@@ -12,6 +13,7 @@ invariant_of-self g c =
       c.self.invariant.0,
       kept_begin _ _ _ _ _ _ _ _ _ _ c.self.inside.locks c.self.inside.locks _ _ _ c.self.invariant.1 room.total c.args.s.now.session c.begin.result (ap (λ x. x.log) room.ok) (ap (λ x. x.listing) room.ok) room.few c.begin.ensures.history c.begin.ensures.live,
       restored_begun c.self.inside.history _ c.self.inside.restored c.args.s.now.session c.begin.result c.self.invariant.2 c.begin.ensures.history,
+      losers_begun g.N.Life.opens c.self.inside.history _ c.self.inside.losers c.args.s.now.session c.begin.result c.self.invariant.3 c.begin.ensures.history,
     )
 
 pub returns-in-Err-clause-ends : goal.returns-in-Err-clause-ends

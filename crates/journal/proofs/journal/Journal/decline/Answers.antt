@@ -10,6 +10,7 @@ use Rattle.wal_record.specs.declared.entry.Entry.TheVariants as entries
 use Rattle.journal.proofs.Declining.{declined_consistent, speaker_of}
 use Rattle.journal.proofs.Living.{kept_entry}
 use Rattle.journal.proofs.Locking.{held_still}
+use Rattle.journal.proofs.Losing.{losers_entry}
 use Rattle.journal.proofs.Restoring.{restored_entry}
 use Rattle.journal.proofs.journal.Journal.decline.Goals as goal
 
@@ -30,6 +31,7 @@ invariant_of-self g c =
       kept_entry _ _ _ _ _ _ c.self.inside.log.log c.self.inside.log.log c.self.inside.log.listing c.self.inside.log.listing c.self.inside.locks c.self.inside.locks _ c.self.inside.faults.total c.self.inside.faults.total k refl e
           c.enter_declined.ensures.history refl (held_still c.self.inside.history c.self.inside.locks k.life.locks e (λ u ls. refl)) c.enter_declined.ensures.live.0 (λ t p waits. waits),
       restored_entry c.self.inside.history _ c.self.inside.restored e c.self.invariant.2 c.enter_declined.ensures.history (λ s. refl),
+      losers_entry g.N.Life.opens c.self.inside.history _ c.self.inside.losers c.self.inside.losers c.self.invariant.3 e c.enter_declined.ensures.history refl (λ t. refl),
     )
 
 pub returns-clause-declined : goal.returns-clause-declined

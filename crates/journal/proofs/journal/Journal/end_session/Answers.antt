@@ -1,9 +1,10 @@
-use Rattle.std.proofs.Common.{◌≡◌, ◌<◌, ◌++◌, ◌∷◌, [], ℕ, List, refl, sym, ap, ◌∙◌, subst, arith, is_some}
+use Rattle.std.proofs.Common.{◌≡◌, ◌<◌, ◌+◌, ◌++◌, ◌∷◌, [], ℕ, List, refl, sym, ap, ◌∙◌, subst, arith, is_some}
 use Rattle.life_history.specs.Kept.{end_entry}
 use Rattle.page_ops.specs.Claims.{SessionAgrees}
 use Rattle.wal_record.specs.declared.entry.Entry.{Entry}
 use Rattle.journal.proofs.Living.{kept_end}
 use Rattle.journal.proofs.Locking.{live_of}
+use Rattle.journal.proofs.Losing.{losers_end}
 use Rattle.journal.proofs.Overs.{goes_on, over_consistent, over_records}
 use Rattle.journal.proofs.Restoring.{restored_entry}
 use Rattle.journal.proofs.journal.Journal.end_session.Goals as goal
@@ -29,4 +30,5 @@ invariant_of-self-2 g c =
       kept_end _ _ _ _ c.self.inside.history c.enter_end.new.self c.self.inside.log.log c.append_all.new.log.log c.self.inside.log.listing c.append_all.new.log.listing c.self.inside.locks c.release_all.new.self _ c.self.inside.faults.total c.self.inside.faults.total c.self.invariant.1 refl lsn c.args.end now
           c.release_all.ensures.released c.enter_end.ensures.live done.spare done.disk.0 done.disk.1 (over_records g.N.Life.opens g.L.Disk.tells g.L.Disk.told g.L.Disk.may_leave c.self.inside.history c.args.self.now c.self.view_is c.self.inside.log.log c.append_all.new.log.log c.self.inside.log.listing c.append_all.new.log.listing c.last-last.result c.in_ok-lsn.lsn c.self.invariant.1.life.records c.last-last.ensures.next (omega (arith, c.if-last-ge-MOST.false)) c.in_ok-lsn.ensures.lsn c.args.end c.requires.follows c.in_ok-lsn.ensures.more),
       restored_entry c.self.inside.history _ c.self.inside.restored (end_entry lsn c.args.end.tx c.args.end.prev) c.self.invariant.2 now (λ s. refl),
+      losers_end g.N.Life.opens c.self.inside.history c.enter_end.new.self c.self.inside.losers c.ended-2.new.self c.self.invariant.3 lsn (c.length-before.result + 1) c.args.end.tx c.args.end.prev now c.ended-2.ensures (omega (arith, c.length-before.ensures)),
     )

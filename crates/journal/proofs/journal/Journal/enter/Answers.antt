@@ -3,7 +3,10 @@ use Rattle.std.proofs.lemmas.Result.{err_from_is_err_and}
 use Rattle.journal.proofs.Declining.{declined_group, full_of}
 use Rattle.journal.proofs.Ending.{told_stops, stopped_ends}
 use Rattle.journal.proofs.Entering.{entered_group, filled_in}
+use Rattle.journal.proofs.Lateness.{was_timely}
+use mathlib.Core.List.{IsPrefix}
 use Rattle.page_ops.specs.Asking.{IsLate}
+use Rattle.page_ops.specs.Seeing.{IsConsistent}
 use Rattle.wal_record.specs.declared.entry.Entry.{Entry}
 use Rattle.journal.proofs.journal.Journal.enter.Goals as goal
 
@@ -11,6 +14,17 @@ pub returns-in_err-check_open-clause-ends : goal.returns-in_err-check_open-claus
 returns-in_err-check_open-clause-ends g c =
     let p = err_from_is_err_and c.from_residual.result c.from_residual.ensures.1 in
     rw (p.1, p.2) (stopped_ends _ g.N.Life.log_faults _ _ _ _ _ _ c.see.ensures.counts (told_stops g.N.Life.log_faults _ _ _ c.in_err-check_open.ensures.ended))
+
+pub late-requires : goal.late-requires
+late-requires g c =
+    let see = c.see.ensures in
+    record { consistent = subst (IsConsistent g.N.Life.opens) (see.pass ∙ sym see.same) see.seen.now.consistent }
+
+pub write-requires-clause-timely : goal.write-requires-clause-timely
+write-requires-clause-timely g c opening stands =
+    let see = c.see.ensures in
+    c.in_default.ensures.none opening stands
+    (was_timely opening c.args.pass.now.log c.see.new.self c.args.group.now.recs (subst (λ (h : List Entry). IsPrefix c.args.pass.now.log h) (see.pass ∙ sym see.same) see.seen.now.begins) (c.requires.timely opening stands))
 
 pub returns-in-Some-clause-answer : goal.returns-in-Some-clause-answer
 returns-in-Some-clause-answer g c =

@@ -14,6 +14,7 @@ use Rattle.journal.specs.Groups.{EntersFilled, GroupFollows, IsNext}
 use Rattle.journal.proofs.Entering.{enters_filled}
 use Rattle.journal.proofs.Living.{kept_group, kept_refused}
 use Rattle.journal.proofs.Grouping.{next_of, page_agrees}
+use Rattle.journal.proofs.Losing.{losers_group}
 use Rattle.journal.proofs.Restoring.{restored_kept, restored_same}
 use Rattle.journal.proofs.journal.Journal.enter_filled.Goals as goal
 
@@ -22,7 +23,7 @@ enter_group-requires-clause-fresh g c =
     subst (λ (z : List Entry × Option PageClaim). IfSome z.1 (PageAgrees g.N.Life.opens z.0)) (λ i. (sym c.self.view_is i, sym c.take.ensures.value i)) (page_agrees g.N.Life.opens c.args.self.now c.requires.consistent c.args.new.now c.requires.page)
 
 pub invariant_of-self : goal.invariant_of-self
-invariant_of-self g c = (c.self.invariant.0, c.self.invariant.1, restored_kept c.self.inside.history c.self.inside.restored c.prepare_group.new.places c.self.invariant.2 c.prepare_group.ensures.same)
+invariant_of-self g c = (c.self.invariant.0, c.self.invariant.1, restored_kept c.self.inside.history c.self.inside.restored c.prepare_group.new.places c.self.invariant.2 c.prepare_group.ensures.same, c.self.invariant.3)
 
 pub invariant_of-self-in_err-lsn : goal.invariant_of-self-in_err-lsn
 invariant_of-self-in_err-lsn g c =
@@ -31,6 +32,7 @@ invariant_of-self-in_err-lsn g c =
       kept_refused _ _ _ _ _ _ c.self.inside.log.log c.append_all.new.log.log c.self.inside.log.listing c.append_all.new.log.listing c.self.inside.locks c.self.inside.locks _ c.self.inside.faults.total c.self.inside.faults.total c.self.invariant.1 refl refl done.spare done.disk.0 done.disk.1
           (λ opening stands. c.in_err-lsn.ensures.same _ (c.self.invariant.1.life.records opening stands)),
       restored_kept c.self.inside.history c.self.inside.restored c.prepare_group.new.places c.self.invariant.2 c.prepare_group.ensures.same,
+      c.self.invariant.3,
     )
 
 pub invariant_of-self-2 : goal.invariant_of-self-2
@@ -47,7 +49,12 @@ invariant_of-self-2 g c =
           done.more (life_log opening c.self.inside.history) (k.life.records opening stands)
           (subst (λ (h : List Entry). AreLawful (life_log opening h ++ c.args.recs.now)) (sym c.self.view_is) (follows.lawful opening stands)) (omega (arith, at.0, at.1))),
       restored_same _ _ c.note_group.new.places (c.note_group.ensures c.self.inside.history lsn c.args.said.now (restored_kept c.self.inside.history c.self.inside.restored c.prepare_group.new.places c.self.invariant.2 c.prepare_group.ensures.same) c.length-before.ensures) c.enter_group.ensures.history,
+      losers_group g.N.Life.opens c.self.inside.history _ c.self.inside.losers c.note_undone.new.losers c.self.invariant.3 lsn c.args.recs.now c.args.said.now c.enter_group.ensures.history c.note_undone.ensures.txs
+          (λ done. c.note_undone.ensures.more c.self.inside.history lsn c.args.said.now done c.length-before.ensures),
     )
+
+pub note_undone-requires-clause-still : goal.note_undone-requires-clause-still
+note_undone-requires-clause-still g c = (c.is_fit.ensures c.if-not-is_fit.false).still
 
 pub enter_end-requires-clause-follows : goal.enter_end-requires-clause-follows
 enter_end-requires-clause-follows g c lsn next =

@@ -1,6 +1,7 @@
-use Rattle.std.proofs.Common.{sym, ◌∙◌}
-use Rattle.journal.proofs.Locking.{none_left}
+use Rattle.std.proofs.Common.{◌∙◌}
+use Rattle.journal.proofs.Analysed.{ok_map}
+use Rattle.journal.proofs.Losing.{left_told}
 use Rattle.journal.proofs.journal.Journal.losers.Goals as goal
 
 pub returns : goal.returns
-returns g c opening stands = c.new.ensures ∙ sym (none_left opening c.args.self.now (c.self.invariant.1.life.losers opening stands))
+returns g c opening stands = ok_map c.left.result _ _ (λ txs all. all ∙ left_told g.N.Life.opens c.self.inside.history c.args.self.now c.self.inside.losers c.self.invariant.3 c.self.view_is opening stands) c.left.ensures

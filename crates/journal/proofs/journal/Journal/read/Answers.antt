@@ -7,6 +7,7 @@ use Rattle.wal_record.specs.History.{life_log}
 use Rattle.journal.proofs.Ending.{called, called_ends, told_stops, stopped_ends}
 use Rattle.journal.proofs.Living.{kept_call}
 use Rattle.journal.proofs.Lookup.{found_told, unread_told}
+use Rattle.journal.proofs.Losing.{losers_same}
 use Rattle.journal.proofs.Restoring.{restored_same}
 use Rattle.journal.proofs.journal.Journal.read.Goals as goal
 
@@ -22,6 +23,7 @@ invariant_of-self g c =
           c.check_open.new.faults.total c.find.new.faults.total k c.look.ensures.same c.check_open.ensures.total c.in-Ok.ensures.open.0 read.same read.places.0 (λ rs has tells runs. subst (λ ps. durable_lsn c.self.inside.log.log.log.places ≤ durable_lsn ps) (sym read.places.1) (omega arith))
           c.check_open.new.counts c.find.new.counts c.find.result read.ends,
       restored_same c.self.inside.history _ c.self.inside.restored c.self.invariant.2 c.look.ensures.same,
+      losers_same g.N.Life.opens c.self.inside.history _ c.self.inside.losers c.self.inside.losers c.self.invariant.3 c.look.ensures.same,
     )
 
 pub returns-in-Ok-clause-seen : goal.returns-in-Ok-clause-seen

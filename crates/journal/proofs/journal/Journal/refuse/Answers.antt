@@ -11,6 +11,7 @@ use Rattle.journal.proofs.Ending.{told_stops, stopped_ends}
 use Rattle.journal.proofs.Entering.{entered_entry}
 use Rattle.journal.proofs.Living.{kept_entry}
 use Rattle.journal.proofs.Locking.{held_still}
+use Rattle.journal.proofs.Losing.{losers_entry}
 use Rattle.journal.proofs.Restoring.{restored_entry}
 use Rattle.journal.proofs.journal.Journal.refuse.Goals as goal
 
@@ -37,6 +38,7 @@ invariant_of-self-2 g c =
       kept_entry _ _ _ _ _ _ c.self.inside.log.log c.self.inside.log.log c.self.inside.log.listing c.self.inside.log.listing c.self.inside.locks c.self.inside.locks _ c.self.inside.faults.total c.check_open.new.faults.total k c.check_open.ensures.total e
           (own.history ∙ ap (λ (l : List Entry). l ++ e ∷ []) watch.same) refl (held_still c.self.inside.history c.self.inside.locks k.life.locks e (λ u ls. refl)) (own.live.0 ∙ ap live_count watch.same) (λ t p waits. waits),
       restored_entry c.self.inside.history _ c.self.inside.restored e c.self.invariant.2 (own.history ∙ ap (λ (l : List Entry). l ++ e ∷ []) watch.same) (λ s. refl),
+      losers_entry g.N.Life.opens c.self.inside.history _ c.self.inside.losers c.self.inside.losers c.self.invariant.3 e (own.history ∙ ap (λ (l : List Entry). l ++ e ∷ []) watch.same) refl (λ t. refl),
     )
 
 pub returns-clause-entered : goal.returns-clause-entered

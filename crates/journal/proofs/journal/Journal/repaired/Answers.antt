@@ -6,6 +6,7 @@ use Rattle.journal.specs.Ends.{IsStopped}
 use Rattle.journal.proofs.Ending.{told_stops, stopped_ends}
 use Rattle.journal.proofs.Living.{kept_entry}
 use Rattle.journal.proofs.Locking.{held_still}
+use Rattle.journal.proofs.Losing.{losers_entry}
 use Rattle.journal.proofs.Restoring.{restored_entry}
 use Rattle.journal.proofs.journal.Journal.repaired.Goals as goal
 
@@ -18,6 +19,7 @@ invariant_of-self-in-Ok g c =
       kept_entry _ _ _ _ _ _ c.self.inside.log.log c.self.inside.log.log c.self.inside.log.listing c.self.inside.log.listing c.self.inside.locks c.self.inside.locks _ c.self.inside.faults.total c.check_open.new.faults.total k c.check_open.ensures.total e
           own.history refl (held_still c.self.inside.history c.self.inside.locks k.life.locks e (λ u ls. refl)) own.live.0 (λ t p waits. waits),
       restored_entry c.self.inside.history _ c.self.inside.restored e c.self.invariant.2 own.history (λ s. refl),
+      losers_entry g.N.Life.opens c.self.inside.history _ c.self.inside.losers c.self.inside.losers c.self.invariant.3 e own.history refl (λ t. refl),
     )
 
 pub returns-in-Err-clause-ends : goal.returns-in-Err-clause-ends

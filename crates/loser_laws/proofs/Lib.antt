@@ -1,0 +1,4 @@
+pub mod Ways
+pub mod Least
+pub mod Lateness
+pub mod Tables

@@ -1,0 +1,5 @@
+use Rattle.loser_laws.proofs.Least.{least}
+use Rattle.loser_laws.proofs.least_law.Goals as goal
+
+pub returns : goal.returns
+returns c = least

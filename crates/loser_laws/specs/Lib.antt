@@ -1,0 +1,3 @@
+pub mod Losers
+pub mod Late
+pub mod Ways
