@@ -1,6 +1,6 @@
 -- Images that a restore has written.
-use Rattle.std.proofs.Common.{◌≡◌, ◌≢◌, ℕ, List, ◌++◌, take, Option, Some, true, sym, ap, subst, ◌∙◌, arith, inl, inr}
-use Rattle.std.specs.Prelude.{◌≤◌, ◌<◌, ◌+◌, ◌*◌, ◌-◌, ◌⊎◌, ◌^◌, min, IfSome, OnOk, OnErr, Result, Ok, Err}
+use Rattle.std.proofs.Common.{◌≡◌, ◌≢◌, ℕ, suc, List, [], ◌∷◌, ◌++◌, take, Option, Some, true, refl, sym, ap, subst, ◌∙◌, arith, inl, inr}
+use Rattle.std.specs.Prelude.{◌≤◌, ◌<◌, ◌+◌, ◌*◌, ◌-◌, ◌⊎◌, ◌^◌, min, Contains, IfSome, OnOk, OnErr, Result, Ok, Err}
 use Rattle.std.proofs.lemmas.Bool.{cases_order}
 use Rattle.std.proofs.lemmas.List.{take-append-le}
 use mathlib.Core.List.{IsPrefix}
@@ -20,14 +20,11 @@ use Rattle.page_ops.proofs.Staying.{longer_log}
 use Rattle.page_ops.specs.Outcomes.{IsListed}
 use Rattle.page_ops.specs.declared.outcome.Listed.{Listed}
 use Rattle.page_repair.specs.Supplies.{IsHead, IsRebuilt}
-use Rattle.segment_restore.specs.Restored.{IsBack, IsHeadImage, IsLost}
+use Rattle.segment_restore.specs.Restored.{AreBack, IsBack, IsHeadImage, IsLost}
 use Rattle.segment_restore.proofs.Chains.{is_there, rebuilt_later}
 use Rattle.segment_restore.proofs.Segments.{listed_head}
 
 -- ---- counts of faults
-
-pub rose_later : (a b c d : ℕ) → a ≤ b → c ≤ d → Rose b c → Rose a d
-rose_later a b c d low high rose = omega (arith, low, high, rose)
 
 -- a write was taken, or the device failed
 pub taken_or : {T E : Type 0} (result : Result T E) (taken failed : Type 0) → OnOk result taken → OnErr result failed → taken ⊎ failed
@@ -110,32 +107,55 @@ listed_back result opens first h now page x newest failed begins more l some =
 
 -- ---- a segment, page by page
 
--- the pages up to this one
-abbrev pub AreBackTo : (List Record → Type 0) → List Entry → List Entry → ℕ → ℕ → (ℕ → Option (List ℕ)) → ℕ → ℕ → ℕ → Type 0
-AreBackTo opens first now segment lost newest start faults last = (page : ℕ) → IsLost segment lost page → page ≤ last → IsBack opens first now page (newest page) ⊎ Rose start faults
-
 lost_within : (segment lost page : ℕ) → IsLost segment lost page → (16 * segment < page) × (page ≤ 16 * segment + 16)
 lost_within segment lost page l = let p = l.positive in let s = l.inside in omega (arith, p, s)
 
-pub none_back : (opens : List Record → Type 0) (first now : List Entry) (segment lost : ℕ) (newest : ℕ → Option (List ℕ)) (start faults before : ℕ) → before ≤ 16 * segment → AreBackTo opens first now segment lost newest start faults before
-none_back opens first now segment lost newest start faults before low page l upto = let w = lost_within segment lost page l in let a = w.0 in absurd (omega (arith, low, upto, a))
+-- the pages up to this one
+abbrev pub IsLostTo : ℕ → ℕ → ℕ → ℕ → Type 0
+IsLostTo segment lost last page = IsLost segment lost page × (page ≤ last)
+
+pub none_back : (opens : List Record → Type 0) (first now : List Entry) (segment lost : ℕ) (newest : ℕ → Option (List ℕ)) (start faults before : ℕ) → start ≤ faults → before ≤ 16 * segment
+    → AreBack opens first now (IsLostTo segment lost before) newest start faults
+none_back opens first now segment lost newest start faults before later low = record {
+  missing = [];
+  failed = omega (arith, later);
+  back = λ page l. let w = lost_within segment lost page l.0 in let a = w.0 in let b = l.1 in absurd (omega (arith, low, b, a));
+}
+
+pub all_back : (opens : List Record → Type 0) (first now : List Entry) (which these : ℕ → Type 0) (newest : ℕ → Option (List ℕ)) (start faults : ℕ) → ((page : ℕ) → these page → which page) → AreBack opens first now which newest start faults
+    → AreBack opens first now these newest start faults
+all_back opens first now which these newest start faults among b = record { missing = b.missing; failed = b.failed; back = λ page t. b.back page (among page t) }
+
+-- one page more is missing
+one_more : (xs : List ℕ) (x y : ℕ) → Contains xs y → Contains (x ∷ xs) y
+one_more xs x y c = (suc c.0, let lt = c.1 in omega (arith, lt), c.2)
+
+the_one : (xs : List ℕ) (x : ℕ) → Contains (x ∷ xs) x
+the_one xs x = (0, omega arith, refl)
 
 module _ (opens : List Record → Type 0) (first now later : List Entry) (segment lost last : ℕ) (newest newest' : ℕ → Option (List ℕ)) (start faults faults' : ℕ)
-    (begins : IsPrefix first now) (more : IsPrefix now later) (low : start ≤ faults) (high : faults ≤ faults') (here : ℕ) (is : here ≡ last + 1) (others : (p : ℕ) → p ≢ here → newest' p ≡ newest p) where
-  kept : (page : ℕ) → page ≢ here → IsBack opens first now page (newest page) ⊎ Rose start faults → IsBack opens first later page (newest' page) ⊎ Rose start faults'
-  kept page apart (inl b) = inl (subst (λ (w : Option (List ℕ)). IsBack opens first later page w) (sym (others page apart)) (back_on opens page (newest page) first now later more b))
-  kept page apart (inr rose) = inr (rose_later start start faults faults' (omega arith) high rose)
+    (begins : IsPrefix first now) (more : IsPrefix now later) (high : faults ≤ faults') (here : ℕ) (is : here ≡ last + 1) (others : (p : ℕ) → p ≢ here → newest' p ≡ newest p) where
+  kept : (page : ℕ) → page ≢ here → IsBack opens first now page (newest page) → IsBack opens first later page (newest' page)
+  kept page apart b = subst (λ (w : Option (List ℕ)). IsBack opens first later page w) (sym (others page apart)) (back_on opens page (newest page) first now later more b)
 
-  added : IsBack opens now later here (newest' here) ⊎ Rose faults faults' → IsBack opens first later here (newest' here) ⊎ Rose start faults'
-  added (inl b) = inl (back_from opens here (newest' here) first now later begins b)
-  added (inr rose) = inr (rose_later start faults faults' faults' low (omega arith) rose)
+  -- the pages so far, and the new one
+  with_new : (old missing : List ℕ) (upto : ℕ) → upto ≤ here → ((page : ℕ) → IsLostTo segment lost last page → IsBack opens first now page (newest page) ⊎ Contains old page) → ((page : ℕ) → Contains old page → Contains missing page)
+      → IsBack opens first later here (newest' here) ⊎ Contains missing here → (page : ℕ) → IsLostTo segment lost upto page → IsBack opens first later page (newest' page) ⊎ Contains missing page
+  with_new old missing upto within all still new page l =
+      let low = l.1 in
+      elim (cases_order page here) [
+        | inl same ↦ subst (λ (p : ℕ). IsBack opens first later p (newest' p) ⊎ Contains missing p) (sym same) new
+        | inr (inl below) ↦ elim (all page (l.0, omega (arith, below, is))) [ inl b ↦ inl (kept page (λ e. omega (arith, below, e)) b) | inr c ↦ inr (still page c) ]
+        | inr (inr above) ↦ absurd (omega (arith, above, low, within))
+      ]
 
-  pub more_back : (upto : ℕ) → upto ≤ here → AreBackTo opens first now segment lost newest start faults last → IsBack opens now later here (newest' here) ⊎ Rose faults faults' → AreBackTo opens first later segment lost newest' start faults' upto
-  more_back upto within all new page l low_page = elim (cases_order page here) [
-    | inl same ↦ subst (λ (p : ℕ). IsBack opens first later p (newest' p) ⊎ Rose start faults') (sym same) (added new)
-    | inr (inl below) ↦ kept page (λ e. omega (arith, below, e)) (all page l (omega (arith, below, is)))
-    | inr (inr above) ↦ absurd (omega (arith, above, low_page, within))
-  ]
+  pub more_back : (upto : ℕ) → upto ≤ here → AreBack opens first now (IsLostTo segment lost last) newest start faults → IsBack opens now later here (newest' here) ⊎ Rose faults faults' → AreBack opens first later (IsLostTo segment lost upto) newest' start faults'
+  more_back upto within all (inl b) =
+      let f = all.failed in
+      record { missing = all.missing; failed = omega (arith, f, high); back = with_new all.missing all.missing upto within all.back (λ page c. c) (inl (back_from opens here (newest' here) first now later begins b)) }
+  more_back upto within all (inr rose) =
+      let f = all.failed in
+      record { missing = here ∷ all.missing; failed = omega (arith, f, rose); back = with_new all.missing (here ∷ all.missing) upto within all.back (one_more all.missing here) (inr (the_one all.missing here)) }
 
 -- no page of the segment stands behind its last one
 pub lost_upto : (segment lost page last : ℕ) → IsLost segment lost page → lost < 2 ^ 32 → min lost (min (min (segment * 16) (2 ^ 32 - 1) + 16) (2 ^ 32 - 1)) ≤ last → page ≤ last

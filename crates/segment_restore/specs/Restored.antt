@@ -1,8 +1,7 @@
 -- A segment that is restored.
-use Rattle.std.specs.Prelude.{◌≡◌, ◌⊎◌, ℕ, ◌≤◌, List, [], ◌∷◌, Option, Some, None, IfSome, true, false}
+use Rattle.std.specs.Prelude.{◌≡◌, ◌⊎◌, ℕ, ◌+◌, ◌-◌, ◌^◌, ◌≤◌, List, [], ◌∷◌, length, min, Contains, Option, Some, None, IfSome, true, false}
 use mathlib.Core.List.{IsPrefix}
 use Rattle.claim_laws.specs.Upkeep.{is_unrestored}
-use Rattle.media.specs.Cause.{Rose}
 use Rattle.wal_record.specs.Chains.{head}
 use Rattle.wal_record.specs.History.{life_log}
 use Rattle.wal_record.specs.Images.{image}
@@ -49,6 +48,13 @@ pub record IsLost (segment lost page : ℕ) : Type 0 where
   pub inside : segment_of page ≡ segment
   pub upto : page ≤ lost
 
--- each of these pages is back on the device, or the device has failed
-abbrev pub AreBack : (List Record → Type 0) → List Entry → List Entry → (ℕ → Type 0) → (ℕ → Option (List ℕ)) → ℕ → ℕ → Type 0
-AreBack opens first second which newest before now = (page : ℕ) → which page → IsBack opens first second page (newest page) ⊎ Rose before now
+-- so many device calls more have failed, as far as the count goes
+abbrev pub RoseBy : ℕ → ℕ → ℕ → Type 0
+RoseBy n before now = min (before + n) (2 ^ 64 - 1) ≤ now
+
+-- Each of these pages is back on the device but for some, and for each of those a call of the device failed. So a fault
+-- excuses one page alone.
+pub record AreBack (opens : List Record → Type 0) (first second : List Entry) (which : ℕ → Type 0) (newest : ℕ → Option (List ℕ)) (before now : ℕ) : Type 0 where
+  pub missing : List ℕ
+  pub failed : RoseBy (length missing) before now
+  pub back : (page : ℕ) → which page → IsBack opens first second page (newest page) ⊎ Contains missing page

@@ -9,8 +9,8 @@
 //!
 //! A lost device comes back segment by segment (Graefe, Guy and Sauer 2015): [`restore`] writes the images of a segment's
 //! pages, and [`mark_restored`] enters that it is restored. [`LogSupply`] does both as a pool first wants a page of it. Where
-//! the device tells what was written last, `restore` has to have written the image of each page that was lost, or the device
-//! has failed.
+//! the device tells what was written last, `restore` has to have written the image of each page that was lost, but for as many
+//! at most as calls of the device have failed.
 //!
 //! [`Bases`] gives the images that a repair begins from; [`NoBases`] gives none.
 #![tactic(auto)]

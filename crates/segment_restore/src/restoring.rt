@@ -69,8 +69,9 @@ fn restore_listed<N: Life, J: Entering<N>, I: Images<N>, B: Bases<N, J>, R: Wait
 }
 
 /// Writes the images of the segment's pages up to `lost`, the number of pages at the last loss of the data device, in order of
-/// page: each is rebuilt from its base as the log has it now. Pages that came later were never on the lost device. It enters nothing. Where
-/// the device doesn't take an image, the page will be repaired when it is brought.
+/// page: each is rebuilt from its base as the log has it now. Pages that came later were never on the lost device. It enters
+/// nothing. Where the device doesn't take an image, it goes on with the next page, and the page will be repaired when it is
+/// brought.
 pub fn restore<N: Life, J: Entering<N>, I: Images<N>, B: Bases<N, J>, R: Wait>(
     rt: &R,
     alloc: Global,
