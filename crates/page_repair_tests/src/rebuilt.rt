@@ -18,9 +18,9 @@ use store_model::{Fault, Lsn, PageNo};
 
 /// What is rebuilt.
 #[derive(Clone, Copy)]
-struct Wanted {
-    page: PageNo,
-    head: Lsn,
+pub struct Wanted {
+    pub page: PageNo,
+    pub head: Lsn,
 }
 
 /// The base of a row: `none`, or an LSN and the state of the page there, which goes through an image.
@@ -57,7 +57,7 @@ fn rebuilt<C: Chain, R: Wait>(
 }
 
 /// Whether a page or a fault is what the text says.
-fn is_answer(alloc: Global, found: Result<Sealed, Fault>, head: Lsn, text: &str) -> Option<bool>
+pub fn is_answer(alloc: Global, found: Result<Sealed, Fault>, head: Lsn, text: &str) -> Option<bool>
     requires { IfOk found (λ x. KeepsState x.state) }
 {
     match found {
@@ -96,7 +96,7 @@ fn counted<L: Ledger, R: Wait>(
 }
 
 /// The same, by a count of its own.
-fn over<R: Wait>(
+pub fn over<R: Wait>(
     rt: &R,
     alloc: Global,
     records: Vec<Vec<u8>>,
@@ -136,7 +136,7 @@ fn comes_true<R: Wait>(
 
 /// A log of three pages, each record with its LSN as its place: page 1 is split into page 2, grows over page 3, and takes
 /// page 2 as its child.
-const LOG: &str = "\
+pub const LOG: &str = "\
 Format 4.100 \
 / Write 8.1 8.0 4.1 8.1 0161 00 01000131 / Write 8.1 8.2 4.1 8.2 0162 00 01000132 / Commit 8.1 8.3 \
 / Split 4.1 8.3 4.2 00 0162 00 00 0001 0162 00 000132 / Write 8.2 8.0 4.2 8.5 0163 00 01000133 \

@@ -1,12 +1,11 @@
 //! Records and states as texts.
-ghost use Rattle.std.specs.Prelude.{IfOk, IfSome};
+ghost use Rattle.std.specs.Prelude.{IfSome};
 ghost use Rattle.wal_record.specs.Rules.{HasSpelling};
 ghost use Rattle.wal_record.specs.State.{KeepsState};
 
 use record_codec::decode;
 use state_codec::state_at;
 use std::alloc::Global;
-use store_model::{Fault, Lsn};
 use wal_record::{PageState, Record};
 
 /// The kinds of records, the first of which has the number 1.
