@@ -1,7 +1,6 @@
 -- The undo of the session's transaction.
-use Rattle.std.proofs.Common.{◌≡◌, ℕ, ◌<◌, Bool, true, false, List, [], Option, Some, None, Result, Ok, Err, refl, sym, ap, subst, ◌∙◌, arith}
-use Rattle.std.specs.Prelude.{IfErr, IfOk, IfSome, IsSome, OnErr, OnOk}
-use Rattle.std.specs.Option.{option_map}
+use Rattle.std.proofs.Common.{◌≡◌, ℕ, ◌<◌, Bool, true, false, List, [], Option, Some, None, Result, Ok, Err, refl, sym, subst, arith}
+use Rattle.std.specs.Prelude.{IfErr, IsSome, OnErr, OnOk}
 use mathlib.Core.List.{IsPrefix}
 use Rattle.books.specs.Rights.{SessionClaim}
 use Rattle.front.proofs.Keeping.{prefix_trans}
@@ -10,18 +9,18 @@ use Rattle.store_model.specs.declared.fault.Fault.{Fault}
 use Rattle.wal_record.specs.Rules.{is_number}
 use Rattle.wal_record.specs.declared.record.Record.{Record}
 use Rattle.wal_record.specs.declared.entry.Entry.{Entry}
-use Rattle.page_ops.specs.Causes.{Ends, FailsToBring, FailsToRead, MeetsNoEnd}
+use Rattle.page_ops.specs.Causes.{FailsToBring, MeetsNoEnd}
 use Rattle.page_ops.specs.Claims.{Claims, SessionAgrees, no_claims}
-use Rattle.page_ops.specs.Desks.{Desk, Faults}
+use Rattle.page_ops.specs.Desks.{Desk}
 use Rattle.page_ops.specs.Names.{LedgerName}
-use Rattle.page_ops.specs.Seeing.{Account, Enters, Looks, known}
+use Rattle.page_ops.specs.Seeing.{Account, Enters, known}
 use Rattle.page_ops.proofs.Gaining.{gains_of, gains_then}
 use Rattle.rollback.specs.Endings.{IsFreed, RollsOver}
 use Rattle.rollback.specs.Owners.{IsOwnerOf, IsSameSession, MayRollBack}
 use Rattle.rollback.specs.Rolls.{standing}
-use Rattle.rollback.proofs.Composing.{faults_self, faults_then, reclaimed}
+use Rattle.rollback.proofs.Composing.{faults_self, reclaimed}
 use Rattle.rollback.proofs.Failing.{fails_then, none_then}
-use Rattle.engine.specs.Sittings.{IsOwned, IsSeated, claim_or_none}
+use Rattle.engine.specs.Sittings.{IsSeated, claim_or_none}
 
 -- the right may undo its transaction, at each later moment
 pub may_roll : (opens : List Record → Type 0) (right right' : Option SessionClaim) (seen h : List Entry) (tx : ℕ) → IsSeated opens right seen false → tx ≡ (claim_or_none right).tx → 0 < tx → right' ≡ right → IsPrefix seen h → MayRollBack opens h tx right'

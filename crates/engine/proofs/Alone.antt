@@ -13,7 +13,6 @@ use Rattle.store_model.specs.declared.request.Request.{Request}
 use Rattle.wal_record.specs.Books.{session_entries}
 use Rattle.wal_record.specs.History.{Live, phase}
 use Rattle.wal_record.specs.Legal.{IsLegal}
-use Rattle.wal_record.specs.Locks.{Held}
 use Rattle.wal_record.specs.declared.record.Record.{Record}
 use Rattle.wal_record.specs.declared.entry.Entry.{Entry}
 use Rattle.wal_record.specs.declared.entry.Entry.TheVariants as entries
@@ -30,7 +29,7 @@ use Rattle.group_laws.proofs.Owners.{transaction}
 use Rattle.group_laws.proofs.Quiet.{stays}
 use Rattle.rollback.specs.Rolls.{standing}
 use Rattle.rollback.proofs.Composing.{faults_self, reclaimed}
-use Rattle.engine.specs.Answers.{AreLast, IsSaidAt}
+use Rattle.engine.specs.Answers.{AreLast}
 use Rattle.engine.specs.Completes.{Completes, CompletesFor, IsSaidFor}
 use Rattle.engine.specs.Saying.{IsSpeaker, KeepsHolder, MaySpeak, Says, said_entries}
 use Rattle.engine.specs.Sittings.{IsOwned}

@@ -1,12 +1,12 @@
 -- A change on its leaf, as the answer of its request.
-use Rattle.std.proofs.Common.{◌≡◌, ℕ, ◌+◌, Bool, true, false, cond, suc, List, [], ◌∷◌, ◌++◌, length, Option, Some, None, Result, Ok, Err, refl, sym, ap, subst, ◌∙◌, append_assoc, append-nil, inl, inr}
+use Rattle.std.proofs.Common.{◌≡◌, ℕ, Bool, true, false, cond, suc, List, [], ◌∷◌, ◌++◌, length, Option, Some, None, Result, Ok, Err, refl, sym, ap, subst, ◌∙◌, append_assoc, inl, inr}
 use Rattle.std.specs.Prelude.{is_some, option_map}
 use Rattle.std.specs.List.{list_all}
 use Rattle.std.specs.FinMap.{get, insert}
 use Rattle.books.specs.Rights.{SessionClaim}
 use Rattle.front.specs.Seen.{PassSeen}
 use Rattle.store_model.proofs.Bools.{and_true}
-use Rattle.store_model.specs.Answer.{Answer, answer}
+use Rattle.store_model.specs.Answer.{Answer}
 use Rattle.store_model.specs.Contents.{Contents}
 use Rattle.store_model.specs.Operator.{meaning}
 use Rattle.store_model.specs.declared.fault.Fault.{Fault}
@@ -28,7 +28,6 @@ use Rattle.wal_record.specs.declared.record.Record.TheVariants as kinds
 use Rattle.wal_record.specs.declared.entry.Entry.{Entry}
 use Rattle.wal_record.specs.declared.entry.Entry.TheVariants as entries
 use Rattle.wal_record.proofs.Pushes.{legal_front, phase_push}
-use Rattle.foster_laws.specs.Splits.{upper_half}
 use Rattle.page_ops.specs.Causes.{FailsToEnter, NoOther, OrFull}
 use Rattle.page_ops.specs.Claims.{Claims, no_claims}
 use Rattle.page_ops.specs.Desks.{Desk, Faults, KeepsFaults}
@@ -36,16 +35,13 @@ use Rattle.page_ops.specs.Gains.{Gains}
 use Rattle.page_ops.specs.Groups.{AreFilled, AreFilledFrom, Numbers, declined_entries, filled, group_entries, made_by}
 use Rattle.page_ops.specs.Hands.{Hand}
 use Rattle.page_ops.specs.Names.{LedgerName}
-use Rattle.page_ops.specs.Outcomes.{answered}
 use Rattle.page_ops.specs.Seeing.{Account, IsConsistent, known}
-use Rattle.page_ops.specs.declared.group.Group.{Group}
 use Rattle.page_ops.specs.declared.group.Said.{Said}
-use Rattle.page_ops.specs.declared.outcome.Entered.{Entered}
 use Rattle.page_ops.specs.declared.outcome.Entered.TheVariants.{At}
 use Rattle.smo.specs.Purges.{purge_of}
 use Rattle.smo.specs.Splits.{split_by}
 use Rattle.leaf_writes.specs.Changes.{group_by, half_of, record_by, request_of, said_by, split_group_by}
-use Rattle.leaf_writes.specs.KeyWrites.{WritesBy, WritesKey, WritesOn, group_on, has_room, needs_purge}
+use Rattle.leaf_writes.specs.KeyWrites.{WritesBy, WritesKey, WritesOn, has_room, needs_purge}
 use Rattle.leaf_writes.specs.Owners.{EndsWith}
 use Rattle.leaf_writes.specs.declared.change.Change.{Change}
 use Rattle.leaf_writes.specs.declared.change.How.{How}

@@ -6,19 +6,19 @@ use Rattle.front.specs.Seen.{PassSeen}
 use Rattle.store_model.specs.declared.fault.Fault.{Fault}
 use Rattle.store_model.specs.declared.fault.Fault.TheVariants as faults
 use Rattle.wal_record.specs.Books.{session_transaction, unless_over}
-use Rattle.wal_record.specs.History.{is_over, last_begun, phase, session_step}
+use Rattle.wal_record.specs.History.{is_over, last_begun, phase}
 use Rattle.wal_record.specs.Rules.{is_number}
 use Rattle.wal_record.specs.declared.record.Record.{Record}
 use Rattle.wal_record.specs.declared.record.Record.TheVariants as kinds
 use Rattle.wal_record.specs.declared.entry.Entry.{Entry}
 use Rattle.wal_record.specs.declared.entry.Entry.TheVariants as entries
 use Rattle.wal_record.proofs.Pushes.{last_begun_push}
-use Rattle.page_ops.specs.Claims.{SessionAgrees, session_alone}
+use Rattle.page_ops.specs.Claims.{session_alone}
 use Rattle.page_ops.specs.Names.{LedgerName}
 use Rattle.page_ops.specs.Outcomes.{CommitsOr, MayCommit}
-use Rattle.page_ops.specs.Seeing.{Account, Enters, Known, known}
+use Rattle.page_ops.specs.Seeing.{Account, Enters, known}
 use Rattle.page_ops.specs.declared.outcome.Committed.{Committed}
-use Rattle.engine.specs.Sittings.{HasNumber, IsOwned, IsSeated}
+use Rattle.engine.specs.Sittings.{HasNumber, IsSeated}
 
 -- a transaction that isn't over is the one that was begun
 above : (b : Bool) (u n : ℕ) → n ≡ cond b 0 u → 0 < n → n ≡ u

@@ -1,5 +1,5 @@
 -- A request behind its lock: the leaf found, the session's right shown, the request answered, the leaf put back.
-use Rattle.std.proofs.Common.{◌≡◌, ℕ, ◌-◌, List, [], Option, Some, None, Result, Ok, Err, refl, sym, ap, subst, ◌∙◌}
+use Rattle.std.proofs.Common.{◌≡◌, ◌-◌, List, [], Option, Some, None, Result, Ok, Err, sym, ap, subst}
 use Rattle.std.specs.Prelude.{IfErr, OnOk}
 use mathlib.Core.List.{IsPrefix}
 use Rattle.books.specs.Rights.{SessionClaim}

@@ -14,7 +14,7 @@ use Rattle.store_model.specs.declared.request.Request.{Request}
 use Rattle.store_model.specs.declared.request.Request.TheVariants as requests
 use Rattle.wal_record.specs.Images.{IsLeafOf}
 use Rattle.wal_record.specs.Locks.{Held, covers_write}
-use Rattle.wal_record.specs.Rules.{is_change, is_number}
+use Rattle.wal_record.specs.Rules.{is_number}
 use Rattle.wal_record.specs.State.{leaf_rows, live}
 use Rattle.wal_record.specs.declared.record.Record.{Record}
 use Rattle.wal_record.specs.declared.entry.Entry.{Entry}

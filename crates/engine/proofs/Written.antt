@@ -1,6 +1,6 @@
 -- A change that answers a request, handed to the journal: its answer, its refusals, and the right to the session behind it.
 use Rattle.std.proofs.Common.{◌≡◌, ℕ, Bool, true, false, List, [], ◌∷◌, ◌++◌, length, Option, Some, None, Result, Ok, Err, refl, sym, ap, subst, ◌∙◌, inl, inr}
-use Rattle.std.specs.Prelude.{IfErr, IfOk, IfSome, IsSome, IsTrue, OnOk}
+use Rattle.std.specs.Prelude.{IfOk, IfSome, IsSome}
 use Rattle.std.specs.List.{list_any}
 use Rattle.std.specs.Option.{option_map}
 use mathlib.Core.List.{IsPrefix}
@@ -38,13 +38,11 @@ use Rattle.leaf_writes.specs.Owners.{IsDeclined, KeepsOwner}
 use Rattle.leaf_writes.specs.declared.change.Change.{Change}
 use Rattle.leaf_writes.specs.declared.change.How.{How}
 use Rattle.leaf_writes.specs.declared.change.How.TheVariants as hows
-use Rattle.leaf_writes.proofs.AsksOne.{above_none}
 use Rattle.rollback.specs.Rolls.{standing}
 use Rattle.engine.specs.Answers.{FailsToAsk, IsSaidAt}
 use Rattle.engine.specs.Completes.{Completes, CompletesFor, IsSaidFor}
 use Rattle.engine.specs.Sittings.{IsOwned}
 use Rattle.engine.specs.Writes.{LacksRoom, asked_by, old_of}
-use Rattle.engine.specs.declared.answered.Answered.{Answered}
 use Rattle.engine.proofs.Changed.{ToldOn, entered_on, refused_on, said_is, told_at, told_live, told_of}
 use Rattle.engine.proofs.Owned.{owned_later, owned_now}
 

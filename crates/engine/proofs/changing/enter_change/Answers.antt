@@ -1,4 +1,4 @@
-use Rattle.std.proofs.Common.{Ok, ap, refl, subst, sym, ◌∙◌}
+use Rattle.std.proofs.Common.{Ok, subst, ◌∙◌}
 use Rattle.page_ops.specs.Outcomes.{IsAnswer}
 use Rattle.leaf_writes.specs.Changes.{change_group}
 use Rattle.leaf_writes.specs.KeyWrites.{found, has_room}

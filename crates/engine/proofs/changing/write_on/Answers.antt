@@ -1,5 +1,5 @@
-use Rattle.std.proofs.Common.{ap, refl, sym, subst, ◌∙◌}
-use Rattle.engine.proofs.KeptLocks.{as_del, may_change, may_speak, may_tell, both_none}
+use Rattle.std.proofs.Common.{sym, ◌∙◌}
+use Rattle.engine.proofs.KeptLocks.{may_change, may_speak, may_tell, both_none}
 use Rattle.engine.proofs.changing.write_on.Goals as goal
 
 pub enter_change-requires-clause-may : goal.enter_change-requires-clause-may

@@ -1,5 +1,5 @@
-use Rattle.std.proofs.Common.{Bool, Option, ℕ, Some, ap, refl, sym, subst, ◌∙◌}
-use Rattle.std.specs.Prelude.{◌<◌, OnOk}
+use Rattle.std.proofs.Common.{Bool, Option, ℕ, Some, ap, sym, subst, ◌∙◌}
+use Rattle.std.specs.Prelude.{◌<◌}
 use Rattle.books.specs.Rights.{SessionClaim}
 use Rattle.engine.specs.Sittings.{HasNumber, IsSeated, Sitting, claim_or_none}
 use Rattle.engine.proofs.Committed.{right_none, seated_committed}

@@ -1,4 +1,4 @@
-use Rattle.std.proofs.Common.{Err, Ok, ap, refl, subst}
+use Rattle.std.proofs.Common.{Err, Ok, ap, subst}
 use Rattle.front.specs.Seen.{PassSeen}
 use Rattle.wal_record.specs.declared.entry.Entry.{Entry}
 use Rattle.rollback.specs.Rolls.{standing}
@@ -7,7 +7,7 @@ use Rattle.engine.specs.Requests.{IsRefusal}
 use Rattle.engine.specs.Sittings.{Sitting}
 use Rattle.leaf_writes.specs.Changes.{request_of}
 use Rattle.page_ops.specs.Causes.{OrFull}
-use Rattle.engine.proofs.Whole.{answers_all, answers_refused, ask_fails_then, full_may, lock_lacks_none, never_conflicts, numbered, seated_then, write_locks}
+use Rattle.engine.proofs.Whole.{answers_all, answers_refused, ask_fails_then, full_may, lock_lacks_none, never_conflicts, seated_then, write_locks}
 use Rattle.engine.proofs.writing.write.Goals as goal
 
 pub returns-in-Ok-clause-answers : goal.returns-in-Ok-clause-answers

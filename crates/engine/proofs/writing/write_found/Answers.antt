@@ -1,4 +1,4 @@
-use Rattle.std.proofs.Common.{ap, refl, sym, subst, ◌∙◌}
+use Rattle.std.proofs.Common.{refl}
 use Rattle.front.proofs.Keeping.{prefix_trans}
 use Rattle.leaf_writes.specs.Changes.{request_of}
 use Rattle.page_ops.specs.Causes.{OrFull}
