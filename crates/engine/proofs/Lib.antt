@@ -9,3 +9,11 @@ pub mod Owned
 pub mod Turns
 pub mod Whole
 pub mod Behind
+pub mod Tidied
+pub mod Framed
+pub mod Alone
+pub mod KeptLocks
+pub mod Changed
+pub mod Written
+pub mod Committed
+pub mod Aborted

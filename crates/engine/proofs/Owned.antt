@@ -14,6 +14,7 @@ use Rattle.wal_record.specs.Books.{session_entries}
 use Rattle.wal_record.specs.History.{Live, phase}
 use Rattle.wal_record.specs.Legal.{IsLegal}
 use Rattle.wal_record.specs.Locks.{Held}
+use Rattle.wal_record.specs.Rules.{is_number}
 use Rattle.wal_record.specs.declared.record.Record.{Record}
 use Rattle.wal_record.specs.declared.entry.Entry.{Entry}
 use Rattle.wal_record.specs.declared.entry.Entry.TheVariants as entries
@@ -32,7 +33,7 @@ pub owned_later : (opens : List Record → Type 0) (h h' : List Entry) (s : Sess
 owned_later opens h h' s longer owned some = let o = owned some in record { tx = o.tx; before = o.before; begins = prefix_trans o.before h h' o.begins longer; agrees = o.agrees; live = o.live }
 
 -- an agreeing right to a live transaction
-owned_now : (opens : List Record → Type 0) (h : List Entry) (s : SessionClaim) → SessionAgrees h s → ((opening : List Record) → opens opening → phase h s.tx ≡ Live) → IsOwned opens h s
+pub owned_now : (opens : List Record → Type 0) (h : List Entry) (s : SessionClaim) → SessionAgrees h s → ((opening : List Record) → opens opening → phase h s.tx ≡ Live) → IsOwned opens h s
 owned_now opens h s agrees live some = record { tx = refl; before = h; begins = prefix_self h; agrees = agrees; live = live }
 
 -- behind its beginning
@@ -76,6 +77,8 @@ owned_said opens ledger sessions h old new lock s s' request reply had longer is
 
 -- a session whose transaction was begun
 pub seated_begun : (opens : List Record → Type 0) (ledger sessions : LedgerName) (old : Known) (a : Account) (t : PassSeen Entry) (s s' : SessionClaim) (r : Result ℕ Fault) → is_ok r ≡ true → IfOk r (λ tx. s' ≡ record { session = s.session; entries = s.entries + 1; tx = tx })
-    → Enters opens ledger sessions old (begun s.session r) (known a t (session_alone s')) → IsSeated opens (Some s') t.log false
-seated_begun opens ledger sessions old a t s s' (Ok tx) ok right e = record { there = refl; owned = λ _. owned_begun opens ledger sessions old a t s' s.session tx (ap (λ (x : SessionClaim). x.tx) right) e }
-seated_begun opens ledger sessions old a t s s' (Err f) ok right e = absurd (cc ok)
+    → IfOk r (λ tx. is_number tx ≡ true) → Enters opens ledger sessions old (begun s.session r) (known a t (session_alone s')) → IsSeated opens (Some s') t.log false
+seated_begun opens ledger sessions old a t s s' (Ok tx) ok right number e =
+    let is : s'.tx ≡ tx = ap (λ (x : SessionClaim). x.tx) right in
+    record { there = refl; number = λ some. subst (λ (n : ℕ). is_number n ≡ true) (sym is) number; owned = λ _. owned_begun opens ledger sessions old a t s' s.session tx is e }
+seated_begun opens ledger sessions old a t s s' (Err f) ok right number e = absurd (cc ok)

@@ -72,6 +72,22 @@ module _ (opens : List Record → Type 0) (ledger sessions : LedgerName) where
     faults = subst (λ (f : Faults). KeepsFaults x.desk.faults f) (sym same) u.faults;
   }
 
+  -- behind what keeps the tree and its pages up
+  pub completes_then : (s : SessionClaim) (request : Request) (result : Result Answered Fault) (x y z : Standing) → Upkept x y → Completes opens ledger sessions s request result y z → Completes opens ledger sessions s request result x z
+  completes_then s request result x y z u c = record {
+    behind = u.own ++ c.behind;
+    last = c.last;
+    gains = subst (λ (es : List Entry). Gains opens ledger sessions es (known_by x) (known_by z)) (sym (append_assoc u.own c.behind c.last))
+        (gains_then opens ledger sessions u.own (c.behind ++ c.last) (known_by x) (known_by y) (known_by z) u.gains c.gains);
+    kept_up = all_both (is_beside []) u.own c.behind u.kinds c.kept_up;
+    by = c.by;
+    faults = faults_then x.desk.faults y.desk.faults z.desk.faults u.faults c.faults;
+  }
+
+  -- before calls of the pool alone
+  pub completes_put : (s : SessionClaim) (request : Request) (result : Result Answered Fault) (x : Standing) (d d' : Desk) (a : Account) (t : PassSeen Entry) → d'.faults ≡ d.faults → Completes opens ledger sessions s request result x (standing d a t) → Completes opens ledger sessions s request result x (standing d' a t)
+  completes_put s request result x d d' a t same c = record { behind = c.behind; last = c.last; gains = c.gains; kept_up = c.kept_up; by = c.by; faults = subst (λ (f : Faults). KeepsFaults x.desk.faults f) (sym same) c.faults }
+
   -- ---- the lock
 
   -- losers that were in the way were undone; the history may not have been seen since

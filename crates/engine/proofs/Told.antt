@@ -82,11 +82,11 @@ took_at opens h lock s had =
     ap (λ (l : List Entry). taken_locks l s.tx) had.last ∙ taken_push had.before (entries.Lock s.tx lock.range lock.mode) s.tx
     ∙ ap (λ (b : Bool). cond b (held lock.range lock.mode ∷ taken_locks had.before s.tx) (taken_locks had.before s.tx)) (eqb_self s.tx)
 
-locks_are : (opening : List Record) (h : List Entry) (t : ℕ) → locks opening h t ≡ taken_locks h t ++ loser_locks (is_loser opening t) (open_writes (life_log opening h) t)
+pub locks_are : (opening : List Record) (h : List Entry) (t : ℕ) → locks opening h t ≡ taken_locks h t ++ loser_locks (is_loser opening t) (open_writes (life_log opening h) t)
 unfolding locks
 locks_are opening h t = refl
 
-locked_then : (opens : List Record → Type 0) (h : List Entry) (lock : Held) (s : SessionClaim) (had : HasLocked opens h lock s) (opening : List Record) (p : Held → Bool) → p (held lock.range lock.mode) ≡ true → list_any p (locks opening h s.tx) ≡ true
+pub locked_then : (opens : List Record → Type 0) (h : List Entry) (lock : Held) (s : SessionClaim) (had : HasLocked opens h lock s) (opening : List Record) (p : Held → Bool) → p (held lock.range lock.mode) ≡ true → list_any p (locks opening h s.tx) ≡ true
 locked_then opens h lock s had opening p is =
     ap (list_any p) (locks_are opening h s.tx) ∙ list_any-append p (taken_locks h s.tx) _
     ∙ or_left (list_any p (taken_locks h s.tx)) _ (ap (list_any p) (took_at opens h lock s had) ∙ or_left (p (held lock.range lock.mode)) (list_any p (taken_locks had.before s.tx)) is)

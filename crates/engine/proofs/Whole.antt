@@ -1,30 +1,36 @@
 -- A request and its lock together: the right behind the lock is to the same session and transaction.
 use Rattle.std.proofs.Common.{◌≡◌, ℕ, ◌+◌, Bool, true, false, List, [], ◌∷◌, length, Option, Some, None, Result, Ok, Err, refl, sym, ap, subst, ◌∙◌, inl, inr}
-use Rattle.std.specs.Prelude.{IfErr, IfOk, IfSome, IsSome, OnOk}
+use Rattle.std.specs.Prelude.{IfErr, IfOk, IfSome, IsSome, OnOk, ◌<◌}
 use Rattle.std.specs.Option.{option_map}
 use Rattle.books.specs.Rights.{SessionClaim}
+use Rattle.store_model.specs.Range.{Interval, point}
 use Rattle.store_model.specs.declared.fault.Fault.{Fault}
 use Rattle.store_model.specs.declared.fault.Fault.TheVariants as faults
 use Rattle.store_model.specs.declared.reply.Outcome.TheVariants as outcomes
 use Rattle.store_model.specs.declared.reply.Reply.{Reply}
+use Rattle.store_model.specs.declared.range.Mode.TheVariants.{Exclusive}
 use Rattle.store_model.specs.declared.request.Request.{Request}
+use Rattle.wal_record.specs.Legal.{held}
 use Rattle.wal_record.specs.Locks.{Held}
+use Rattle.wal_record.specs.Rules.{is_number}
 use Rattle.wal_record.specs.declared.record.Record.{Record}
 use Rattle.wal_record.specs.declared.entry.Entry.{Entry}
 use Rattle.wal_record.specs.declared.entry.Entry.TheVariants as entries
-use Rattle.page_ops.specs.Causes.{FailsToBring, MeetsNoEnd, OrConflict}
+use Rattle.page_ops.specs.Causes.{FailsToBring, MeetsNoEnd, NoOther, OrConflict, OrFull}
 use Rattle.page_ops.specs.Claims.{SessionAgrees}
 use Rattle.page_ops.specs.Desks.{Faults, KeepsFaults}
 use Rattle.page_ops.specs.Names.{LedgerName}
 use Rattle.page_ops.specs.Outcomes.{IsConflict}
 use Rattle.page_ops.specs.Seeing.{Account, Keeps}
+use Rattle.leaf_writes.specs.Changes.{request_of}
 use Rattle.rollback.specs.Rolls.{Standing}
 use Rattle.rollback.proofs.Failing.{none_then}
 use Rattle.engine.specs.Answers.{AreLast, Answers, FailsToAsk, HasLocked, IsSaidAt, Locks, Tells, lock_answer}
 use Rattle.engine.specs.Completes.{Completes, CompletesFor, IsSaidFor, OwnsLock}
 use Rattle.engine.specs.Requests.{IsRefusal, lock_of}
-use Rattle.engine.specs.Saying.{KeepsHolder}
-use Rattle.engine.specs.Sittings.{IsOwned, claim_or_none}
+use Rattle.engine.specs.Saying.{IsSameHolder}
+use Rattle.engine.specs.Sittings.{HasNumber, IsOwned, IsSeated, claim_or_none}
+use Rattle.engine.specs.Writes.{IsNumbered, LacksRoom, write_lock}
 use Rattle.engine.specs.declared.answered.Answered.{Answered}
 use Rattle.engine.proofs.Failing.{ask_fault, ask_more, ask_then}
 use Rattle.engine.proofs.Serving.{answers_behind, answers_unlocked}
@@ -78,7 +84,7 @@ module _ (opens : List Record → Type 0) (ledger sessions : LedgerName) (s s' :
   said_all (Err f) h said = tt
 
   -- the right that comes back
-  module _ (right' : Option SessionClaim) (result : Result Answered Fault) (holds : KeepsHolder result right right') where
+  module _ (right' : Option SessionClaim) (holds : IsSameHolder right right') where
     some_behind : (r r' : Option SessionClaim) → IsSome r → option_map (λ (c : SessionClaim). c.session) r' ≡ option_map (λ (c : SessionClaim). c.session) r → IsSome r'
     some_behind None r' some same = absurd (cc some)
     some_behind (Some c) None some same = absurd (cc same)
@@ -96,8 +102,8 @@ module _ (opens : List Record → Type 0) (ledger sessions : LedgerName) (s s' :
     pub tx_behind : (claim_or_none right').tx ≡ s.tx
     tx_behind = (let e : ◌≡◌ {A = Option ℕ} (Some (claim_or_none right').tx) (Some s'.tx) = ap (option_map (λ (c : SessionClaim). c.tx)) (sym some_is) ∙ holds.tx ∙ ap (option_map (λ (c : SessionClaim). c.tx)) right_is in cc e) ∙ tx_is
 
-    pub agrees_behind : (h : List Entry) → OnOk result (IfSome right' (SessionAgrees h)) → OnOk result (SessionAgrees h (claim_or_none right'))
-    agrees_behind h agrees = by result agrees
+    pub agrees_behind : (h : List Entry) (result : Result Answered Fault) → OnOk result (IfSome right' (SessionAgrees h)) → OnOk result (SessionAgrees h (claim_or_none right'))
+    agrees_behind h result agrees = by result agrees
       where
         by : (r : Result Answered Fault) → OnOk r (IfSome right' (SessionAgrees h)) → OnOk r (SessionAgrees h (claim_or_none right'))
         by (Ok a) g = subst (λ (o : Option SessionClaim). IfSome o (SessionAgrees h)) some_is g
@@ -141,3 +147,53 @@ pub no_conflict : (opens : List Record → Type 0) (log_faults made : LedgerName
 no_conflict opens log_faults made own own' old new h lock (Ok a) why = tt
 no_conflict opens log_faults made own own' old new h lock (Err (faults.Conflict holder range at)) why = absurd why
 no_conflict opens log_faults made own own' old new h lock (Err _) why = tt
+
+-- ---- of a request that may be refused for its own reasons, too
+
+module _ (may may' : Fault → Type 0) (more : (f : Fault) → may f → may' f) (opens : List Record → Type 0) (log_faults made : LedgerName) (a0 a1 a2 : Account) (h : List Entry) (none : MeetsNoEnd a0 a1) (keeps : Keeps a0 a1) where
+  pub ask_fails_then : (own0 own own' : Faults) (r : Result Answered Fault) → KeepsFaults own0 own → IfErr r (FailsToAsk may opens log_faults made own own' a1 a2 h) → IfErr r (FailsToAsk may' opens log_faults made own0 own' a0 a2 h)
+  ask_fails_then own0 own own' (Ok a) kept why = tt
+  ask_fails_then own0 own own' (Err f) kept why = ask_more may may' more opens log_faults made own0 own' a0 a2 h f (ask_then may opens log_faults made a0 a1 a2 h none keeps own0 own own' f kept why)
+
+pub none_may : (request : Request) (f : Fault) → NoOther f → IsRefusal request f
+none_may request f may = absurd may
+
+pub full_may : (key : List ℕ) (new : Option (List ℕ)) (f : Fault) → OrFull f → IsRefusal (request_of key new) f
+full_may key None (faults.Full p q at) may = tt
+full_may key (Some v) (faults.Full p q at) may = tt
+full_may key new _ may = absurd may
+
+-- a conflict comes at the lock alone
+pub never_conflicts : (may : Fault → Type 0) → ((holder : ℕ) (range : Interval) (at : ℕ) → may (faults.Conflict holder range at) → ⊥) → (opens : List Record → Type 0) (log_faults made : LedgerName) (own own' : Faults) (old new : Account) (h : List Entry) (lock : Held) (r : Result Answered Fault)
+    → IfErr r (FailsToAsk may opens log_faults made own own' old new h) → IfErr r (IsConflict opens h lock)
+never_conflicts may not opens log_faults made own own' old new h lock (Ok a) why = tt
+never_conflicts may not opens log_faults made own own' old new h lock (Err (faults.Conflict holder range at)) why = absurd (not holder range at why.0)
+never_conflicts may not opens log_faults made own own' old new h lock (Err _) why = tt
+
+-- want of room behind it
+pub lock_lacks_none : (opens : List Record → Type 0) (log_faults made : LedgerName) (own own' : Faults) (old new : Account) (h : List Entry) (f : Fault) → FailsToAsk OrConflict opens log_faults made own own' old new h f → LacksRoom opens h f
+lock_lacks_none opens log_faults made own own' old new h (faults.Full p q at) why = absurd why.0
+lock_lacks_none opens log_faults made own own' old new h _ why = tt
+
+-- ---- the lock of a write
+
+lock_is : (key : List ℕ) (new : Option (List ℕ)) → lock_of (request_of key new) ≡ write_lock key
+lock_is key None = refl
+lock_is key (Some v) = refl
+
+pub write_locks : (opens : List Record → Type 0) (ledger sessions : LedgerName) (tx : ℕ) (result : Result ℕ Fault) (key : List ℕ) (new : Option (List ℕ)) (r : Interval) (x y : Standing) → r ≡ point key → Locks opens ledger sessions tx (held r Exclusive) result x y
+    → Locks opens ledger sessions tx (lock_of (request_of key new)) result x y
+write_locks opens ledger sessions tx result key new r x y is locks = subst (λ (l : Held). Locks opens ledger sessions tx l result x y) (ap (λ (q : Interval). held q Exclusive) is ∙ sym (lock_is key new)) locks
+
+-- ---- the right that comes back
+
+pub numbered : (right : Option SessionClaim) → IsSome right → HasNumber (claim_or_none right) → 0 < (claim_or_none right).tx → IsNumbered right
+numbered None some number active = absurd (cc some)
+numbered (Some s) some number active = number active
+
+pub seated_then : (opens : List Record → Type 0) (right right' : Option SessionClaim) (seen seen' : List Entry) (undecided : Bool) → IsSeated opens right seen undecided → IsSameHolder right right' → IfSome right' (IsOwned opens seen') → IsSeated opens right' seen' undecided
+seated_then opens None right' seen seen' undecided was same live = absurd (let none = was.there in cc none)
+seated_then opens (Some s) None seen seen' undecided was same live = absurd (let clash = same.tx in cc clash)
+seated_then opens (Some s) (Some s') seen seen' undecided was same live =
+    let tx : s'.tx ≡ s.tx = (let e = same.tx in cc e) in
+    record { there = refl; number = subst (λ (t : ℕ). 0 < t → is_number t ≡ true) (sym tx) was.number; owned = λ decided. live }

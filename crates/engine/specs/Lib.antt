@@ -4,3 +4,4 @@ pub mod Beside
 pub mod Answers
 pub mod Saying
 pub mod Completes
+pub mod Writes

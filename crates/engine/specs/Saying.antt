@@ -1,17 +1,18 @@
 -- The answer of a request alone, told from a leaf in hand.
-use Rattle.std.specs.Prelude.{◌≡◌, ℕ, List, [], ◌∷◌, Option, Some, None, Result, Ok, Err, OnErr, false}
+use Rattle.std.specs.Prelude.{◌≡◌, ◌<◌, ℕ, List, [], ◌∷◌, Option, Some, None, Result, Ok, Err, OnErr, false}
 use Rattle.std.specs.Option.{option_map}
 use Rattle.books.specs.Rights.{SessionClaim}
 use Rattle.store_model.specs.declared.fault.Fault.{Fault}
 use Rattle.store_model.specs.declared.fault.Memory.{Memory}
 use Rattle.store_model.specs.declared.reply.Reply.{Reply}
 use Rattle.store_model.specs.declared.request.Request.{Request}
+use Rattle.wal_record.specs.History.{Live, phase}
 use Rattle.wal_record.specs.declared.record.Record.{Record}
 use Rattle.wal_record.specs.declared.entry.Entry.{Entry}
 use Rattle.wal_record.specs.declared.entry.Entry.TheVariants as entries
 use Rattle.page_ops.specs.Asking.{IsAskable}
 use Rattle.page_ops.specs.Hands.{Hand}
-use Rattle.page_ops.specs.Claims.{Claims}
+use Rattle.page_ops.specs.Claims.{Claims, SessionAgrees}
 use Rattle.page_ops.specs.Names.{LedgerName}
 use Rattle.page_ops.specs.Seeing.{Account, Enters, IsMoment, known}
 use Rattle.front.specs.Seen.{PassSeen}
@@ -48,3 +49,19 @@ pub record Says (opens : List Record → Type 0) (ledger sessions : LedgerName) 
   pub claims : Claims
   pub entered : Enters opens ledger sessions (known a seen (claims_of leaf owner)) (said_entries result owner request told) (known a' seen' claims)
   pub session : claims.s ≡ owner'
+
+-- the right to the session agrees, and its transaction is live
+pub record IsSpeaker (opens : List Record → Type 0) (seen : List Entry) (s : SessionClaim) : Type 0 where
+  pub active : 0 < s.tx
+  pub agrees : SessionAgrees seen s
+  pub live : (opening : List Record) → opens opening → phase seen s.tx ≡ Live
+
+-- of a session whose right is there
+abbrev pub MaySpeak : (List Record → Type 0) → List Entry → Option SessionClaim → Type 0
+MaySpeak opens seen None = ⊥
+MaySpeak opens seen (Some s) = IsSpeaker opens seen s
+
+-- the right is to the same session, and its transaction is the same
+pub record IsSameHolder (old new : Option SessionClaim) : Type 0 where
+  pub session : option_map (λ (s : SessionClaim). s.session) new ≡ option_map (λ (s : SessionClaim). s.session) old
+  pub tx : option_map (λ (s : SessionClaim). s.tx) new ≡ option_map (λ (s : SessionClaim). s.tx) old

@@ -69,7 +69,7 @@ pub fn get<N: Life, J: Journaling<N>, P: Pages<N, J>, R: Wait>(
 }
 
 /// Locks a range for the session's transaction.
-fn lock_for<N: Life, J: Journaling<N>, P: Pages<N, J>, R: Wait>(
+pub(crate) fn lock_for<N: Life, J: Journaling<N>, P: Pages<N, J>, R: Wait>(
     rt: &R,
     alloc: Global,
     pages: &mut P,

@@ -1,0 +1,52 @@
+use Rattle.std.proofs.Common.{refl}
+use Rattle.front.proofs.Keeping.{prefix_trans}
+use Rattle.leaf_writes.specs.Changes.{request_of}
+use Rattle.page_ops.specs.Causes.{OrFull}
+use Rattle.rollback.specs.Rolls.{standing}
+use Rattle.engine.specs.Writes.{write_lock}
+use Rattle.engine.proofs.Behind.{live_kept, made_of}
+use Rattle.engine.proofs.Failing.{ask_fault}
+use Rattle.engine.proofs.Framed.{begins_seen, completes_all, lost, not_full, open_all, refused_all}
+use Rattle.engine.proofs.KeptLocks.{may_write}
+use Rattle.engine.proofs.Tidied.{upkept_kept}
+use Rattle.engine.proofs.writing.write_found.Goals as goal
+
+pub find_leaf_for_write-requires-clause-made : goal.find_leaf_for_write-requires-clause-made
+find_leaf_for_write-requires-clause-made g c =
+    made_of g.N.Life.opens c.args.pass.now.log (write_lock c.args.key.now) c.args.owner.now c.requires.locked
+
+pub returns-in-Err-clause-answers : goal.returns-in-Err-clause-answers
+returns-in-Err-clause-answers g c =
+    lost g.N.Life.opens g.N.Life.entries g.N.Life.session_entries g.N.Life.log_faults g.N.Life.made (request_of c.args.key.now c.args.new) (write_lock c.args.key.now) c.args.pass.now.log c.args.owner.now c.requires.locked (g.P.Pages.desk c.args.pages.now) (g.P.Pages.desk c.find_leaf_for_write.new.pages) (g.J.Entering.account c.args.journal.now) (g.J.Entering.account c.find_leaf_for_write.new.journal) c.args.pass.now c.find_leaf_for_write.new.pass (upkept_kept g.N.Life.opens g.N.Life.entries g.N.Life.session_entries (standing (g.P.Pages.desk c.args.pages.now) (g.J.Entering.account c.args.journal.now) c.args.pass.now) (standing (g.P.Pages.desk c.find_leaf_for_write.new.pages) (g.J.Entering.account c.find_leaf_for_write.new.journal) c.find_leaf_for_write.new.pass) c.find_leaf_for_write.ensures.entered c.find_leaf_for_write.ensures.faults) c.in-Err.fault c.in-Err.ensures.refused
+
+pub returns-in-Err-clause-live : goal.returns-in-Err-clause-live
+returns-in-Err-clause-live g c =
+    live_kept g.N.Life.opens c.args.pass.now.log c.find_leaf_for_write.new.pass.log (write_lock c.args.key.now) c.args.owner.now c.args.owner.now c.requires.locked c.find_leaf_for_write.ensures.begins refl
+
+pub returns-in-Err-clause-full : goal.returns-in-Err-clause-full
+returns-in-Err-clause-full g c =
+    not_full g.N.Life.opens g.N.Life.log_faults g.N.Life.made _ _ _ _ c.find_leaf_for_write.new.pass.log c.in-Err.fault c.in-Err.ensures.refused
+
+pub returns-in-Err-clause-refused : goal.returns-in-Err-clause-refused
+returns-in-Err-clause-refused g c =
+    ask_fault OrFull g.N.Life.opens g.N.Life.log_faults g.N.Life.made _ _ _ _ c.find_leaf_for_write.new.pass.log c.in-Err.fault c.in-Err.ensures.refused
+
+pub write_on-answered-requires-clause-begins : goal.write_on-answered-requires-clause-begins
+write_on-answered-requires-clause-begins g c =
+    prefix_trans _ _ _ c.in-Ok.ensures.now.begins c.see_owner.ensures.seen.now.begins
+
+pub write_on-answered-requires-clause-owner : goal.write_on-answered-requires-clause-owner
+write_on-answered-requires-clause-owner g c =
+    may_write g.N.Life.opens c.args.pass.now.log c.see_owner.new.pass.log c.args.key.now c.args.owner.now c.see_owner.new.owner c.requires.locked c.requires.number c.see_owner.ensures.same (begins_seen g.N.Life.opens g.N.Life.entries g.N.Life.session_entries g.N.Life.log_faults g.N.Life.made (request_of c.args.key.now c.args.new) (write_lock c.args.key.now) c.args.pass.now.log c.args.owner.now c.requires.locked (g.P.Pages.desk c.args.pages.now) (g.P.Pages.desk c.find_leaf_for_write.new.pages) (g.J.Entering.account c.args.journal.now) (g.J.Entering.account c.find_leaf_for_write.new.journal) c.args.pass.now c.find_leaf_for_write.new.pass (upkept_kept g.N.Life.opens g.N.Life.entries g.N.Life.session_entries (standing (g.P.Pages.desk c.args.pages.now) (g.J.Entering.account c.args.journal.now) c.args.pass.now) (standing (g.P.Pages.desk c.find_leaf_for_write.new.pages) (g.J.Entering.account c.find_leaf_for_write.new.journal) c.find_leaf_for_write.new.pass) c.find_leaf_for_write.ensures.entered c.find_leaf_for_write.ensures.faults) (g.J.Entering.account c.see_owner.new.journal) c.see_owner.new.pass _ _ c.see_owner.ensures.seen) c.see_owner.ensures.seen.now.consistent c.see_owner.ensures.seen.now.rights.s
+
+pub returns-clause-answers : goal.returns-clause-answers
+returns-clause-answers g c =
+    completes_all g.N.Life.opens g.N.Life.entries g.N.Life.session_entries g.N.Life.log_faults g.N.Life.made (request_of c.args.key.now c.args.new) (write_lock c.args.key.now) c.args.pass.now.log c.args.owner.now c.requires.locked (g.P.Pages.desk c.args.pages.now) (g.P.Pages.desk c.find_leaf_for_write.new.pages) (g.J.Entering.account c.args.journal.now) (g.J.Entering.account c.find_leaf_for_write.new.journal) c.args.pass.now c.find_leaf_for_write.new.pass (upkept_kept g.N.Life.opens g.N.Life.entries g.N.Life.session_entries (standing (g.P.Pages.desk c.args.pages.now) (g.J.Entering.account c.args.journal.now) c.args.pass.now) (standing (g.P.Pages.desk c.find_leaf_for_write.new.pages) (g.J.Entering.account c.find_leaf_for_write.new.journal) c.find_leaf_for_write.new.pass) c.find_leaf_for_write.ensures.entered c.find_leaf_for_write.ensures.faults) (g.J.Entering.account c.see_owner.new.journal) c.see_owner.new.pass _ _ c.see_owner.ensures.seen c.see_owner.new.owner c.see_owner.ensures.same c.write_on-answered.result (g.P.Pages.desk c.write_on-answered.new.pages) (g.P.Pages.desk c.put_back.new.self) (g.J.Entering.account c.write_on-answered.new.journal) c.write_on-answered.new.pass c.put_back.ensures.out c.write_on-answered.ensures.answers
+
+pub returns-clause-open : goal.returns-clause-open
+returns-clause-open g c =
+    open_all g.N.Life.opens g.N.Life.entries g.N.Life.session_entries g.N.Life.log_faults g.N.Life.made (request_of c.args.key.now c.args.new) (write_lock c.args.key.now) c.args.pass.now.log c.args.owner.now c.requires.locked (g.P.Pages.desk c.args.pages.now) (g.P.Pages.desk c.find_leaf_for_write.new.pages) (g.J.Entering.account c.args.journal.now) (g.J.Entering.account c.find_leaf_for_write.new.journal) c.args.pass.now c.find_leaf_for_write.new.pass (upkept_kept g.N.Life.opens g.N.Life.entries g.N.Life.session_entries (standing (g.P.Pages.desk c.args.pages.now) (g.J.Entering.account c.args.journal.now) c.args.pass.now) (standing (g.P.Pages.desk c.find_leaf_for_write.new.pages) (g.J.Entering.account c.find_leaf_for_write.new.journal) c.find_leaf_for_write.new.pass) c.find_leaf_for_write.ensures.entered c.find_leaf_for_write.ensures.faults) (g.J.Entering.account c.see_owner.new.journal) c.see_owner.new.pass _ _ c.see_owner.ensures.seen c.see_owner.new.owner c.see_owner.ensures.same c.write_on-answered.result (g.P.Pages.desk c.write_on-answered.new.pages) (g.P.Pages.desk c.put_back.new.self) (g.J.Entering.account c.write_on-answered.new.journal) c.write_on-answered.new.pass c.put_back.ensures.out c.in-Ok.ensures.open c.see_owner.ensures.calm.end c.write_on-answered.ensures.open
+
+pub returns-clause-refused : goal.returns-clause-refused
+returns-clause-refused g c =
+    refused_all g.N.Life.opens g.N.Life.entries g.N.Life.session_entries g.N.Life.log_faults g.N.Life.made (request_of c.args.key.now c.args.new) (write_lock c.args.key.now) c.args.pass.now.log c.args.owner.now c.requires.locked (g.P.Pages.desk c.args.pages.now) (g.P.Pages.desk c.find_leaf_for_write.new.pages) (g.J.Entering.account c.args.journal.now) (g.J.Entering.account c.find_leaf_for_write.new.journal) c.args.pass.now c.find_leaf_for_write.new.pass (upkept_kept g.N.Life.opens g.N.Life.entries g.N.Life.session_entries (standing (g.P.Pages.desk c.args.pages.now) (g.J.Entering.account c.args.journal.now) c.args.pass.now) (standing (g.P.Pages.desk c.find_leaf_for_write.new.pages) (g.J.Entering.account c.find_leaf_for_write.new.journal) c.find_leaf_for_write.new.pass) c.find_leaf_for_write.ensures.entered c.find_leaf_for_write.ensures.faults) (g.J.Entering.account c.see_owner.new.journal) c.see_owner.new.pass _ _ c.see_owner.ensures.seen c.see_owner.new.owner c.see_owner.ensures.same c.write_on-answered.result (g.P.Pages.desk c.write_on-answered.new.pages) (g.P.Pages.desk c.put_back.new.self) (g.J.Entering.account c.write_on-answered.new.journal) c.write_on-answered.new.pass c.put_back.ensures.out c.in-Ok.ensures.open c.see_owner.ensures.calm.end OrFull c.write_on-answered.ensures.refused
