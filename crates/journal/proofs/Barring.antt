@@ -1,8 +1,8 @@
 -- Who else has taken a lock that conflicts, by the list of those that the table names.
-use Rattle.std.proofs.Common.{◌≡◌, ℕ, eqb, List, Bool, true, false, refl, sym, ap, ◌∙◌}
-use Rattle.std.specs.Prelude.{◌&&◌, not}
+use Rattle.std.proofs.Common.{◌≡◌, ℕ, eqb, List, Bool, true, false, refl, ap, ◌∙◌}
+use Rattle.std.specs.Prelude.{not}
 use Rattle.std.specs.List.{list_any}
-use Rattle.range_lock.specs.Held.{AreHolders, Holds}
+use Rattle.range_lock.specs.Held.{AreHolders}
 use Rattle.range_lock.specs.Lock.{Lock, bars, conflict}
 use Rattle.range_lock.specs.declared.range_locks.RangeLocks.{RangeLocks}
 use Rattle.range_lock.proofs.Holding.{any_among, among_any}

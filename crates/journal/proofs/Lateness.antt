@@ -1,5 +1,5 @@
 -- Who comes late.
-use Rattle.std.proofs.Common.{◌≡◌, ℕ, zero, suc, ◌<◌, ◌≤◌, List, [], ◌∷◌, ◌++◌, length, take, Option, Some, None, Bool, true, false, refl, sym, ap, ◌∙◌, subst, inl, inr, arith, slice_index_or}
+use Rattle.std.proofs.Common.{◌≡◌, ℕ, zero, suc, ◌<◌, ◌≤◌, List, [], ◌∷◌, length, take, Some, None, Bool, true, false, refl, sym, ap, ◌∙◌, subst, inl, inr, arith, slice_index_or}
 use Rattle.std.specs.Prelude.{◌||◌, IsTrue}
 use Rattle.std.specs.List.{find, list_any}
 use Rattle.front.proofs.Keeping.{prefix_trans}
@@ -11,12 +11,12 @@ use Rattle.page_ops.specs.Seeing.{IsConsistent}
 use Rattle.wal_record.specs.Legal.{IsLegal}
 use Rattle.log_index.specs.declared.listing.Listing.{Listing}
 use Rattle.log_laws.proofs.Beginnings.{beginning}
-use Rattle.loser_laws.specs.Losers.{AreLosers, touches}
+use Rattle.loser_laws.specs.Losers.{touches}
 use Rattle.loser_laws.proofs.Lateness.{ended, undone}
 use Rattle.loser_laws.proofs.Tables.{each_loser, found_done, found_loser, found_none, touch_end, touch_undo}
 use Rattle.losers.specs.Losers.{is_of}
 use Rattle.losers.specs.declared.losers.LoserState.{LoserState}
-use Rattle.page_ops.specs.Asking.{IsForestalled, IsLate, IsTimely, WasTimely, can_be_late, forestalls, last_place}
+use Rattle.page_ops.specs.Asking.{IsForestalled, IsLate, IsTimely, WasTimely, can_be_late, last_place}
 use Rattle.page_ops.specs.Groups.{Each}
 use Rattle.store_model.proofs.Bools.{not_both}
 use Rattle.wal_record.specs.Chains.{finishes}

@@ -1,6 +1,6 @@
 -- The table of losers, as a life goes on.
-use Rattle.std.proofs.Common.{◌≡◌, ℕ, suc, eqb, ◌+◌, ◌<◌, ◌≤◌, slice_index_or, take, List, [], ◌∷◌, ◌++◌, length, map, Option, Some, None, Bool, true, false, refl, sym, ap, ◌∙◌, subst, arith, append-nil, append_assoc}
-use Rattle.std.specs.Prelude.{Result, Ok, Err, filter, IfOk}
+use Rattle.std.proofs.Common.{◌≡◌, ℕ, suc, ◌<◌, ◌≤◌, slice_index_or, take, List, [], ◌∷◌, ◌++◌, length, map, Option, Some, None, Bool, true, false, refl, sym, ap, ◌∙◌, subst, arith, append-nil, append_assoc}
+use Rattle.std.specs.Prelude.{Result, Ok, Err, filter}
 use Rattle.std.specs.List.{find}
 use Rattle.std.specs.Option.{option_map}
 use Rattle.life_history.specs.Groups.{is_still}
@@ -11,7 +11,7 @@ use Rattle.loser_laws.proofs.Ways.{ways}
 use Rattle.losers.proofs.Changes.{found_at}
 use Rattle.losers.specs.Losers.{ended_at, is_left, undone_at, untouched}
 use Rattle.losers.specs.declared.losers.LoserState.{LoserState}
-use Rattle.page_ops.specs.Groups.{Each, group_entries, record_entries, said_entries}
+use Rattle.page_ops.specs.Groups.{Each, group_entries, said_entries}
 use Rattle.page_ops.specs.Outcomes.{begun, losers_left}
 use Rattle.page_ops.specs.Seeing.{IsConsistent}
 use Rattle.page_ops.specs.declared.group.Said.{Said}
@@ -23,7 +23,6 @@ use Rattle.wal_record.specs.declared.entry.Entry.{Entry}
 use Rattle.wal_record.specs.declared.entry.Entry.TheVariants as entries
 use Rattle.wal_record.specs.declared.record.Record.{Record}
 use Rattle.wal_record.specs.declared.record.Record.TheVariants as kinds
-use Rattle.wal_record.specs.declared.record.Undo.{Undo}
 use Rattle.journal.specs.Losers.{HasLosers, undone_in}
 use Rattle.journal.proofs.Locking.{opening_lawful}
 use Rattle.journal.proofs.Restoring.{taken_all}

@@ -1,20 +1,15 @@
 -- Where a segment was restored last, as entries come.
-use Rattle.std.proofs.Common.{◌≡◌, ℕ, zero, suc, cond, eqb, ◌+◌, ◌<◌, ◌≤◌, List, [], ◌∷◌, ◌++◌, length, take, Option, Some, None, Bool, true, false, refl, sym, ap, ◌∙◌, subst, inl, inr, arith, append_assoc, append-nil, length-append, slice_index_or}
-use Rattle.std.specs.Prelude.{IfNone, IfSome, IsTrue, ◌||◌, Result, Ok, Err, is_some}
+use Rattle.std.proofs.Common.{◌≡◌, ℕ, zero, suc, cond, eqb, ◌+◌, ◌<◌, ◌≤◌, List, [], ◌∷◌, ◌++◌, length, take, Option, Some, None, Bool, true, false, refl, sym, ap, ◌∙◌, subst, arith, append_assoc, append-nil, length-append, slice_index_or}
+use Rattle.std.specs.Prelude.{IfNone, IfSome, Result, Ok, Err, is_some}
 use Rattle.std.specs.Option.{option_map_or}
 use Rattle.std.specs.Ordering.{nat_cmp}
 use Rattle.std.specs.BTreeMap.{get, is_at}
 use Rattle.std.specs.Map.{lookup}
 use Rattle.page_ops.specs.Outcomes.{begun}
 use Rattle.store_model.specs.declared.fault.Fault.{Fault}
-use Rattle.std.specs.List.{list_any}
-use Rattle.log_index.specs.Listing.{IsListingOf}
-use Rattle.log_index.specs.declared.listing.Listing.{Listing}
-use Rattle.page_ops.specs.Asking.{IsForestalled, IsLate, IsTimely, can_be_late, forestalls, last_place}
+use Rattle.page_ops.specs.Asking.{last_place}
 use Rattle.page_ops.specs.Groups.{Each, group_entries, record_entries, said_entries}
 use Rattle.page_ops.specs.declared.group.Said.{Said}
-use Rattle.wal_record.specs.History.{life_log}
-use Rattle.wal_record.specs.OpenWrites.{is_loser}
 use Rattle.wal_record.specs.declared.record.Record.{Record}
 use Rattle.wal_record.specs.declared.record.Record.TheVariants as kinds
 use Rattle.wal_record.specs.declared.entry.Entry.{Entry}

@@ -1,5 +1,5 @@
 -- What the listing and the table of losers tell of a lock.
-use Rattle.std.proofs.Common.{◌≡◌, ℕ, List, Option, Some, None, sym, ap, ◌∙◌, subst, refl}
+use Rattle.std.proofs.Common.{◌≡◌, ℕ, List, Option, Some, None, sym, subst}
 use Rattle.std.specs.Prelude.{◌⊎◌}
 use Rattle.log_index.specs.Listing.{IsListingOf}
 use Rattle.log_index.specs.declared.listing.Listing.{Listing}

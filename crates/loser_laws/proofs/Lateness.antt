@@ -1,15 +1,13 @@
 -- Who comes late with an Undo or an End of a loser.
-use Rattle.std.proofs.Common.{◌≡◌, ℕ, suc, ◌+◌, ◌<◌, ◌≤◌, eqb, cond, List, [], ◌∷◌, ◌++◌, length, Option, Some, None, Bool, true, false, refl, sym, ap, subst, ◌∙◌, arith, append_assoc, append-nil, length-append}
+use Rattle.std.proofs.Common.{◌≡◌, ℕ, suc, ◌+◌, ◌<◌, ◌≤◌, eqb, cond, List, [], ◌∷◌, ◌++◌, length, Bool, true, false, refl, sym, ap, subst, ◌∙◌, arith, append_assoc, append-nil}
 use Rattle.std.specs.Prelude.{◌-◌, ◌||◌, slice_get}
 use Rattle.std.specs.List.{list_any}
 use Rattle.std.specs.Option.{option_map_or}
 use Rattle.std.proofs.lemmas.List.Folds.{list_any-append}
-use Rattle.page_ops.specs.Asking.{WasTimely}
 use Rattle.store_model.proofs.Bools.{false_unless, not_both}
-use Rattle.store_model.specs.Lists.{last_of}
 use Rattle.wal_record.specs.Chains.{finishes, last}
 use Rattle.wal_record.specs.Checkpoints.{last_open}
-use Rattle.wal_record.specs.History.{Live, life_log, log_of, phase}
+use Rattle.wal_record.specs.History.{life_log, log_of}
 use Rattle.wal_record.specs.Legal.{IsAllowed, IsLegal, RecordRule}
 use Rattle.wal_record.specs.OpenWrites.{has_items, is_loser, key_of, open_list, open_step, open_writes, without_last}
 use Rattle.wal_record.specs.Sound.{AreLawful, TakesBack, UndoRule}
@@ -23,9 +21,9 @@ use Rattle.wal_record.proofs.Pushes.{log_more, log_same, open_list_push}
 use Rattle.log_laws.proofs.Beginnings.{beginning}
 use Rattle.log_laws.proofs.Places.{places}
 use Rattle.listing_laws.proofs.Reading.{same_length}
-use Rattle.chain_laws.specs.Ladders.{Finds, Ladder, prev_of}
+use Rattle.chain_laws.specs.Ladders.{Ladder, prev_of}
 use Rattle.chain_laws.proofs.Ladders.{prevs}
-use Rattle.claim_laws.proofs.Going.{by_going, legal_before, longer_log, none_more, one_more}
+use Rattle.claim_laws.proofs.Going.{by_going, longer_log, none_more, one_more}
 use Rattle.claim_laws.proofs.Losers.{finished_none, loser_law}
 use Rattle.loser_laws.specs.Late.{EndedLaw, UndoneLaw}
 use Rattle.loser_laws.proofs.Ways.{not_live}

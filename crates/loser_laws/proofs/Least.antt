@@ -1,10 +1,10 @@
 -- The first loser of which a test holds is the least.
-use Rattle.std.proofs.Common.{◌≡◌, ℕ, zero, suc, ◌+◌, ◌<◌, ◌≤◌, cond, List, [], ◌∷◌, Option, Some, None, Bool, true, false, refl, sym, ap, subst, ◌∙◌, arith, inl, inr}
-use Rattle.std.specs.Prelude.{◌-◌, ◌⊎◌, filter}
+use Rattle.std.proofs.Common.{◌≡◌, ℕ, zero, suc, ◌+◌, ◌<◌, ◌≤◌, cond, List, ◌∷◌, Option, Some, None, Bool, true, false, refl, ap, subst, arith, inl, inr}
+use Rattle.std.specs.Prelude.{◌-◌, filter}
 use Rattle.std.specs.List.{find, range_with_len}
 use Rattle.std.proofs.lemmas.Bool.{cases_eq}
 use Rattle.wal_record.specs.Chains.{greatest}
-use Rattle.wal_record.specs.OpenWrites.{has_items, is_loser, losers}
+use Rattle.wal_record.specs.OpenWrites.{has_items, is_loser}
 use Rattle.wal_record.specs.Sound.{AreLawful}
 use Rattle.wal_record.specs.declared.record.Record.{Record}
 use Rattle.listing_laws.proofs.Transactions.{none_of_zero}

@@ -1,8 +1,8 @@
 -- A table of losers, as entries come.
-use Rattle.std.proofs.Common.{◌≡◌, ℕ, suc, eqb, cond, List, [], ◌∷◌, ◌++◌, length, Option, Some, None, Bool, true, false, refl, sym, ap, subst, ◌∙◌, append-nil}
+use Rattle.std.proofs.Common.{◌≡◌, ℕ, suc, eqb, cond, List, [], ◌∷◌, ◌++◌, length, Option, Some, None, Bool, true, false, refl, sym, ap, subst, ◌∙◌}
 use Rattle.std.specs.Prelude.{map, not, ◌||◌, filter}
 use Rattle.std.specs.List.{find, list_any}
-use Rattle.std.specs.Option.{option_map, option_map_or}
+use Rattle.std.specs.Option.{option_map}
 use Rattle.std.proofs.lemmas.Bool.{eqb-true}
 use Rattle.std.proofs.lemmas.List.Folds.{list_any-append}
 use Rattle.losers.specs.Losers.{ended_at, is_left, is_of, undone_at, untouched}
@@ -17,8 +17,8 @@ use Rattle.wal_record.specs.declared.record.End.{End}
 use Rattle.loser_laws.proofs.Least.{least}
 use Rattle.store_model.specs.Along.{along}
 use Rattle.wal_record.specs.Chains.{finishes}
-use Rattle.wal_record.specs.History.{life_log, log_of}
-use Rattle.wal_record.specs.OpenWrites.{is_loser, losers}
+use Rattle.wal_record.specs.History.{log_of}
+use Rattle.wal_record.specs.OpenWrites.{is_loser}
 use Rattle.wal_record.specs.declared.entry.Entry.{Entry}
 use Rattle.wal_record.specs.declared.entry.Entry.TheVariants as entries
 use Rattle.wal_record.specs.declared.record.Record.{Record}

@@ -8,7 +8,7 @@ use Rattle.std.specs.Ordering.{nat_cmp, is_lt, ordering_then, ordering_reverse}
 use Rattle.std.proofs.lemmas.Bool.{eqb-true}
 use Rattle.std.proofs.lemmas.List.Folds.{list_any-append}
 use Rattle.store_model.specs.Along.{along}
-use Rattle.store_model.specs.Range.{Interval, has_key, is_below, overlap, point}
+use Rattle.store_model.specs.Range.{has_key, is_below, overlap, point}
 use Rattle.store_model.proofs.Bools.{false_unless, not_both}
 use Rattle.wal_record.specs.Locks.{Held, conflict, is_exclusive, locks, locks_step, loser_locks, point_lock, taken_locks}
 use Rattle.wal_record.specs.History.{Live, life_log, phase}

@@ -1,5 +1,5 @@
 -- Who comes late with an Undo or an End of a loser.
-use Rattle.std.specs.Prelude.{◌≡◌, ◌<◌, ℕ, List, true, false}
+use Rattle.std.specs.Prelude.{◌≡◌, ◌<◌, ℕ, List, true}
 use Rattle.std.specs.List.{list_any}
 use Rattle.page_ops.specs.Asking.{WasTimely}
 use Rattle.wal_record.specs.Chains.{finishes}

@@ -1,6 +1,5 @@
 use Rattle.std.proofs.Common.{arith, sym, ◌∙◌}
 use Rattle.loser_laws.specs.Losers.{has_open_in}
-use Rattle.losers.specs.Losers.{untouched}
 use Rattle.losers.specs.declared.losers.LoserState.{LoserState}
 use Rattle.losers.proofs.Changes.{one_passed}
 use Rattle.journal.proofs.Losing.{first_at, first_none, found_before}

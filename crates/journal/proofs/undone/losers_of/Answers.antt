@@ -1,4 +1,4 @@
-use Rattle.std.proofs.Common.{◌∙◌, List, ap, map, sym}
+use Rattle.std.proofs.Common.{◌∙◌, ap, map}
 use Rattle.losers.specs.Losers.{untouched}
 use Rattle.wal_record.specs.declared.analysis.Analysis.{Analysis}
 use Rattle.wal_record.specs.declared.analysis.Loser.{Loser}

@@ -1,7 +1,6 @@
-use Rattle.std.proofs.Common.{◌++◌, ◌∷◌, [], List, ap, sym, ◌∙◌, subst}
+use Rattle.std.proofs.Common.{◌++◌, ◌∷◌, [], ap, sym, ◌∙◌, subst}
 use Rattle.loser_laws.specs.Losers.{IsDone, txs_of}
 use Rattle.loser_laws.proofs.Tables.{undone_txs}
-use Rattle.losers.specs.declared.losers.LoserState.{LoserState}
 use Rattle.page_ops.specs.Groups.{Each}
 use Rattle.wal_record.specs.declared.entry.Entry.TheVariants as entries
 use Rattle.journal.proofs.Losing.{none_here, undone_here}

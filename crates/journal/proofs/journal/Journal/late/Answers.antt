@@ -1,10 +1,8 @@
-use Rattle.std.proofs.Common.{List, sym, ◌∙◌, subst}
-use Rattle.log_index.specs.Listing.{IsListingOf}
+use Rattle.std.proofs.Common.{List, sym, subst}
 use Rattle.page_ops.specs.Asking.{IsLate, IsTimely, WasTimely, can_be_late}
 use Rattle.page_ops.specs.Groups.{Each}
 use Rattle.std.specs.Prelude.{IsTrue}
 use Rattle.std.specs.List.{list_any}
-use Rattle.wal_record.specs.History.{life_log}
 use Rattle.wal_record.specs.declared.entry.Entry.{Entry}
 use Rattle.wal_record.specs.declared.record.Record.{Record}
 use Rattle.journal.proofs.Lateness.{known_tells}
