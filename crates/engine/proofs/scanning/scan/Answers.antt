@@ -1,4 +1,4 @@
-use Rattle.std.proofs.Common.{Err, Ok, ap, refl, subst}
+use Rattle.std.proofs.Common.{ap, subst}
 use Rattle.front.specs.Seen.{PassSeen}
 use Rattle.wal_record.specs.declared.entry.Entry.{Entry}
 use Rattle.rollback.specs.Rolls.{standing}

@@ -1,6 +1,5 @@
-use Rattle.std.proofs.Common.{◌≡◌, List, ap, refl, sym, subst, ◌∙◌}
+use Rattle.std.proofs.Common.{◌≡◌, List, refl, subst}
 use Rattle.std.specs.Prelude.{IfOk}
-use Rattle.front.proofs.Keeping.{prefix_trans}
 use Rattle.store_model.specs.declared.pair.Pair.{Pair}
 use Rattle.store_model.specs.declared.reply.Reply.TheVariants as replies
 use Rattle.store_model.specs.declared.request.Request.TheVariants as requests
