@@ -3,7 +3,7 @@
 //! A caller has [`Session`]s, each with at most one transaction, and a thread's way to the journal and to the pages. A
 //! request locks what it touches first, and only then looks at it. It stands over the traits alone: whoever shares the
 //! journal and the pages with other threads calls the same functions. There are sessions, the beginning of transactions,
-//! their commit and their [`abort`], and the requests [`get`], [`put`] and [`del`].
+//! their commit and their [`abort`], and the requests [`get`], [`put`], [`del`] and [`scan`].
 //!
 //! The model of a session is what its right claims, and what its pass has seen of the history. What is promised:
 //!
@@ -31,6 +31,7 @@ mod committing;
 mod getting;
 mod locking;
 mod saying;
+mod scanning;
 mod seeing;
 mod session;
 mod telling;
@@ -41,5 +42,6 @@ pub use answered::Answered;
 pub use asking::get;
 pub use beginning::{begin, new_session};
 pub use committing::commit;
+pub use scanning::scan;
 pub use session::Session;
 pub use writing::{del, put};
