@@ -1,9 +1,7 @@
 -- A request that writes, behind its lock.
 use Rattle.std.specs.Prelude.{◌≡◌, ◌+◌, ◌<◌, ℕ, List, length, Option, Some, None, IsTrue}
-use Rattle.std.specs.FinMap as finite
 use mathlib.Core.List.{IsPrefix}
 use Rattle.books.specs.Rights.{SessionClaim}
-use Rattle.store_model.specs.Operator.{meaning}
 use Rattle.store_model.specs.Range.{point}
 use Rattle.store_model.specs.declared.fault.Fault.{Fault}
 use Rattle.store_model.specs.declared.fault.Fault.TheVariants as faults
@@ -12,22 +10,18 @@ use Rattle.store_model.specs.declared.request.Request.{Request}
 use Rattle.store_model.specs.declared.request.Request.TheVariants as requests
 use Rattle.wal_record.specs.Chains.{pages}
 use Rattle.wal_record.specs.Checkpoints.{limit_of}
-use Rattle.wal_record.specs.Contents.{current}
 use Rattle.wal_record.specs.History.{life_log}
 use Rattle.wal_record.specs.Legal.{held}
 use Rattle.wal_record.specs.Locks.{Held}
 use Rattle.wal_record.specs.OpenWrites.{pending}
 use Rattle.wal_record.specs.Rules.{is_number}
-use Rattle.wal_record.specs.State.{leaf_rows, live}
-use Rattle.wal_record.specs.declared.page.PageState.{PageState}
 use Rattle.wal_record.specs.declared.record.Record.{Record}
 use Rattle.wal_record.specs.declared.entry.Entry.{Entry}
 use Rattle.page_ops.specs.Claims.{SessionAgrees}
-use Rattle.page_ops.specs.Seeing.{IsConsistent, IsMoment}
+use Rattle.page_ops.specs.Seeing.{IsConsistent}
 use Rattle.leaf_writes.specs.Changes.{request_of}
 use Rattle.leaf_writes.specs.declared.change.How.{How}
 use Rattle.leaf_writes.specs.declared.change.How.TheVariants as hows
-use Rattle.rollback.specs.Owners.{claim_of}
 use Rattle.engine.specs.Answers.{HasLocked}
 
 -- what a write locks
@@ -69,22 +63,3 @@ abbrev pub LacksRoom : (List Record → Type 0) → List Entry → Fault → Typ
 LacksRoom opens h (faults.Full pages_then pending_then at) =
     (at ≡ length h) × ((opening : List Record) → opens opening → (pages_then ≡ pages (life_log opening h)) × (pending_then ≡ pending (life_log opening h)) × (limit_of (life_log opening h) < pages_then + pending_then + 2))
 LacksRoom opens h fault = Unit {0}
-
--- want of room for a write, or an operator that gives no value
-abbrev pub OrDeclined : Fault → Type 0
-OrDeclined (faults.Full pages_then pending_then at) = Unit {0}
-OrDeclined (faults.OpRefused at) = Unit {0}
-OrDeclined fault = ⊥
-
--- the operator gives no value of what the key has, as the request is declined last
-abbrev pub GivesNoValue : (List Record → Type 0) → List Entry → ℕ → List ℕ → List ℕ → Fault → Type 0
-GivesNoValue opens h operator key argument (faults.OpRefused at) = (at ≡ length h) × ((opening : List Record) → opens opening → meaning operator (finite.get (current (life_log opening h)) key) argument ≡ None)
-GivesNoValue opens h operator key argument fault = Unit {0}
-
--- at each moment at which the right to the session agrees still, the key has the value that its leaf has in this state
-abbrev pub HasStayed : (List Record → Type 0) → List Entry → PageState → List ℕ → Option SessionClaim → Type 0
-HasStayed opens seen s key owner = (opening : List Record) (h : List Entry) → opens opening → IsMoment opens seen (claim_of owner) h → live (leaf_rows s.rows) key ≡ finite.get (current (life_log opening h)) key
-
--- and the operator gives no value of it
-abbrev pub MeansNothing : (List Record → Type 0) → List Entry → ℕ → List ℕ → List ℕ → Option SessionClaim → Type 0
-MeansNothing opens seen operator key argument owner = (opening : List Record) (h : List Entry) → opens opening → IsMoment opens seen (claim_of owner) h → meaning operator (finite.get (current (life_log opening h)) key) argument ≡ None

@@ -11,6 +11,7 @@ use listed_log::ListedLog;
 use log_blocks::open_log;
 use log_index::Listing;
 use log_manager::LogManager;
+use losers::Losers;
 use media_mem::MemDisk;
 use own_journal::OwnJournal;
 use page_ops::{Ground, Life, Tokens};
@@ -110,7 +111,7 @@ pub(crate) fn begin<'a, N: Life>(
         1,
     );
     let page = history.open_page(1);
-    let journal = Journal::start(alloc, log, history, mark, faults);
+    let journal = Journal::start(alloc, log, history, mark, faults, Losers::none(alloc));
     Begun {
         journal: OwnJournal { journal, counts },
         pass,

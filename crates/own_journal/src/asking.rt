@@ -94,10 +94,13 @@ pub(crate) fn survey<L: Disk, N: Life>(
     if durable > last || first_kept.saturating_sub(1) > durable {
         return Err(Fault::Memory);
     }
+    let Ok(losers) = journal.losers(alloc) else {
+        return Err(Fault::Memory);
+    };
     match journal.listing().analysis(alloc) {
         Ok(analysis) => Ok(Survey {
             analysis,
-            losers: journal.losers(alloc),
+            losers,
             undone: journal.undone(),
             repaired: journal.repairs(),
             first_kept,

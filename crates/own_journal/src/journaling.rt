@@ -35,14 +35,14 @@ impl<'a, L: Disk, N: Life> Journaling<N> for OwnJournal<'a, L, N> {
     fn lock<R: Wait>(
         &mut self,
         _rt: &R,
-        _alloc: Global,
+        alloc: Global,
         s: &mut SessionRight<N>,
         range: &KeyRange,
         mode: Mode,
         pass: &mut Pass<Entry, N>,
     ) -> Result<Grant, Fault> {
         let OwnJournal { journal, counts } = self;
-        journal.lock(s, range, mode, pass, counts)
+        journal.lock(alloc, s, range, mode, pass, counts)
     }
 
     fn last_open<R: Wait>(

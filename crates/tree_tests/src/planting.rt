@@ -12,6 +12,7 @@ use listed_log::ListedLog;
 use log_blocks::open_log;
 use log_index::Listing;
 use log_manager::LogManager;
+use losers::Losers;
 use media::Disk;
 use own_journal::OwnJournal;
 use page_ops::{Ground, Held, Life, Tokens};
@@ -149,7 +150,7 @@ pub(crate) fn plant<'a, L: Disk, N: Life>(
     let (pages, pass) = with_leaf(ground, frames, state, right, pass);
     Planted {
         journal: OwnJournal {
-            journal: Journal::start(alloc, log, history, mark, faults),
+            journal: Journal::start(alloc, log, history, mark, faults, Losers::none(alloc)),
             counts,
         },
         pages,
