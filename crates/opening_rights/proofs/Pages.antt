@@ -63,14 +63,15 @@ pages_more log count lsn written old new book heads notes none homes first =
         written = λ p low high. dite (ℕ_discrete p (count + 1))
             (λ here. ap (written_of new) here ∙ homes.written ∙ notes ∙ ap (written_lsn log) (sym here))
             (λ apart. homes.others_written p apart ∙ first.rights.written p low (omega (arith, high, apart)));
+        unwritten = λ p above. homes.others_written p (λ same. absurd (omega (arith, same, above))) ∙ first.rights.unwritten p (omega (arith, above));
       };
       heads = subst (λ (n : ℕ). HaveHeads log (book ++ entry (count + 1) n 0 ∷ [])) (sym heads) (heads_more log count book none first.heads);
     }
 
-pub no_pages : (log : List Record) (index : Index) → ((p : ℕ) → home_of index p ≡ None) → ArePagesOf log 0 index []
-no_pages log index out =
+pub no_pages : (log : List Record) (index : Index) → ((p : ℕ) → home_of index p ≡ None) → ((p : ℕ) → written_of index p ≡ 0) → ArePagesOf log 0 index []
+no_pages log index out none =
     record {
-      rights = record { home = λ p low high. absurd (omega (arith, low, high)); away = λ p above. out p; written = λ p low high. absurd (omega (arith, low, high)) };
+      rights = record { home = λ p low high. absurd (omega (arith, low, high)); away = λ p above. out p; written = λ p low high. absurd (omega (arith, low, high)); unwritten = λ p above. none p };
       heads = λ p e found. absurd (cc found);
     }
 

@@ -16,11 +16,12 @@ pub record Homes (old new : Index) (page lsn image : ℕ) : Type 0 where
   pub others_written : (q : ℕ) → q ≢ page → written_of new q ≡ written_of old q
 
 -- The right to each of the first pages is at home, at the page's head in the log, and no other right. Each of these pages is
--- written as the log says.
+-- written as the log says, and no other one.
 pub record AreFirst (log : List Record) (count : ℕ) (index : Index) : Type 0 where
   pub home : (p : ℕ) → 1 ≤ p → p ≤ count → home_of index p ≡ Some (record { page = p; lsn = head log p })
   pub away : (p : ℕ) → count < p → home_of index p ≡ None
   pub written : (p : ℕ) → 1 ≤ p → p ≤ count → written_of index p ≡ written_lsn log p
+  pub unwritten : (p : ℕ) → count < p → written_of index p ≡ 0
 
 -- that is so of all pages of the log
 abbrev pub AreAtHome : List Record → Index → Type 0

@@ -1,7 +1,9 @@
 //! What a life begins with.
-ghost use Rattle.std.specs.Prelude.{◌≡◌, ◌≢◌, ◌≤◌, ℕ, List, [], ◌∷◌, ◌++◌, None, IfOk};
+ghost use Rattle.std.specs.Prelude.{◌≡◌, ◌≢◌, ◌≤◌, ℕ, max, List, [], ◌∷◌, ◌++◌, None, IfOk};
 ghost use Rattle.books.specs.Booking.{entry, entry_of};
 ghost use Rattle.page_index.specs.Index.{IsIn, limit_of};
+ghost use Rattle.wal_record.specs.Chains.{pages};
+ghost use Rattle.wal_record.specs.Checkpoints as checkpoints;
 ghost use Rattle.wal_record.specs.Sound.{AreLawful, IsSound};
 ghost use Rattle.wal_record.specs.declared.record.Record.{Record};
 ghost use Rattle.log_index.specs.Listing.{IsListingOf};
@@ -40,6 +42,7 @@ pub fn begin<N: Life>(
     ensures small { IfOk result (λ o. IsSmall o.next_page (record { pages = books.new.pages; sessions = books.new.sessions; maint = books.new.maint })) }
     ensures number { IfOk result (λ o. 1 ≤ o.next_tx) }
     ensures begins { IfOk result (λ o. (opening : List Record) → N.opens opening → Begins opening o.next_tx) }
+    ensures limit { IfOk result (λ o. (opening : List Record) → N.opens opening → limit_of o.index ≡ max (checkpoints.limit_of opening) (pages opening)) }
     ensures homes { IfOk result (λ o. (opening : List Record) → N.opens opening → AreAtHome opening o.index) }
     ensures maint { IfOk result (λ o. o.maint ≡ record { number = 0; lsn = 0 }) }
 {
@@ -47,7 +50,8 @@ pub fn begin<N: Life>(
         Ok(pages) if pages < u32::MAX => pages,
         _ => return Err(Memory),
     };
-    let index = open_pages(alloc, tables, &mut books.pages, listing, pages)?;
+    let limit = listing.limit().max(pages);
+    let index = open_pages(alloc, tables, &mut books.pages, listing, pages, limit)?;
     Ok(Opening {
         index,
         maint: MaintRight::of(books.maint.open(&tables.maint, 0)),
@@ -56,19 +60,22 @@ pub fn begin<N: Life>(
     })
 }
 
-/// The rights to so many pages, each at home.
+/// The rights to so many pages, each at home, in an index of pages up to this limit.
 fn open_pages<N: BookNames>(
     alloc: Global,
     tables: &BookTables<N>,
     book: &mut Book<PageBook<N>>,
     listing: &Listing,
     pages: u32,
+    limit: u32,
 ) -> Result<PageIndex<N>, Memory>
     requires empty { book.old ≡ [] }
+    requires within { pages ≤ limit }
+    ensures limit { IfOk result (λ index. limit_of index ≡ limit) }
     ensures few { IfOk result (λ index. NoneAbove pages book.new) }
     ensures pages { IfOk result (λ index. (log : List Record) → IsListingOf log listing.now → AreLawful log → ArePagesOf log pages index book.new) }
 {
-    let mut index = PageIndex::new(alloc, listing.limit().max(pages))?;
+    let mut index = PageIndex::new(alloc, limit)?;
     let mut page = 0;
     while page < pages {
         page += 1;

@@ -1,4 +1,4 @@
-use Rattle.std.proofs.Common.{sym, subst, ◌+◌, arith}
+use Rattle.std.proofs.Common.{◌∙◌, sym, subst, ◌+◌, arith}
 use Rattle.opening_rights.specs.Opened.{ArePagesOf, NoneAbove}
 use Rattle.opening_rights.proofs.Pages.{none_more, pages_more}
 use Rattle.opening_rights.proofs.opening.open_pages.Goals as goal
@@ -8,7 +8,7 @@ loop-page-preserved g c =
     let before = c.loop-page.invariant in
     let limit = c.open_page.ensures.home.limit in (
       omega (arith, c.loop-page-test.true),
-      omega (arith, limit, before.1),
+      limit ∙ before.1,
       subst (NoneAbove (c.loop-page.page + 1)) (sym c.open_page.ensures.book) (none_more c.loop-page.page c.head-head.result c.loop-page.book before.2),
       λ log is lawful. subst (ArePagesOf log (c.loop-page.page + 1) c.open_page.new.index) (sym c.open_page.ensures.book)
           (pages_more log c.loop-page.page _ _ c.loop-page.index c.open_page.new.index c.loop-page.book (c.head-head.ensures log is lawful) (c.written_lsn-written.ensures log is lawful) before.2 c.open_page.ensures.home (before.3 log is lawful)),

@@ -1,4 +1,4 @@
-use Rattle.std.proofs.Common.{◌≤◌, ◌-◌, List}
+use Rattle.std.proofs.Common.{◌≡◌, ◌≤◌, ◌-◌, List}
 use Rattle.page_index.specs.Index.{limit_of}
 use Rattle.wal_record.specs.Sound.{AreLawful}
 use Rattle.wal_record.specs.declared.record.Record.{Record}
@@ -8,7 +8,7 @@ use Rattle.opening_rights.proofs.opening.open_pages.Given as goal
 
 abbrev pub invariant-loop-page : goal.invariant-loop-page
 invariant-loop-page g l =
-    (l.page ≤ l.fn.pages) × (l.fn.pages ≤ limit_of l.index) × NoneAbove l.page l.book
+    (l.page ≤ l.fn.pages) × (limit_of l.index ≡ l.fn.limit) × NoneAbove l.page l.book
     × ((log : List Record) → IsListingOf log l.fn.listing → AreLawful log → ArePagesOf log l.page l.index l.book)
 
 abbrev pub decreases-loop-page : goal.decreases-loop-page
