@@ -20,36 +20,9 @@ use std::sync::Wait;
 use store_model::{Fault, Lsn, PageNo};
 use wal_record::{Entry, Record};
 
-/// The record of an LSN, if it tells a lower one before it. So an untold chain ends, too. One that the log has forgotten wants
-/// memory.
-fn step<N: Life, J: Entering<N>, R: Wait>(
-    rt: &R,
-    alloc: Global,
-    journal: &mut J,
-    page: PageNo,
-    lsn: Lsn,
-    pass: &mut Pass<Entry, N>,
-) -> Result<Record, Fault>
-    requires named { IsHead N.opens pass.old.log page lsn }
-    ensures found { (opening : List Record) → N.opens opening → IfOk result (λ r. record_with (life_log opening pass.new.log) lsn ≡ Some r) }
-    ensures falls { IfOk result (λ r. previous page r < lsn) }
-    ensures spelled { IfOk result HasSpelling }
-    ensures seen { Looks N.opens N.entries N.session_entries (J.account journal.old) pass.old (J.account journal.new) pass.new }
-    ensures open { OnOk result (MeetsNoEnd (J.account journal.old) (J.account journal.new)) }
-    ensures refused { IfErr result (FailsToBring N.opens N.log_faults N.made no_faults no_faults (J.account journal.old) (J.account journal.new) pass.new.log) }
-{
-    let record = match journal.read(rt, alloc, lsn, pass) {
-        Ok(Found::Record(record)) => record,
-        Ok(Found::Run(_)) => return Err(Fault::Memory),
-        Err(fault) => return Err(fault),
-    };
-    if lsn <= previous(page, &record) {
-        return Err(bad_chain());
-    }
-    Ok(record)
-}
-
-/// The records of the page's chain from the head down to above this LSN, last first.
+/// The records of the page's chain from the head down to above this LSN, last first. Each has to tell a lower LSN before it, so
+/// that an untold chain ends, too; one that the log has forgotten wants memory. A record is large: room is made for it first, so
+/// that it moves once, to its place.
 pub(crate) fn follow<N: Life, J: Entering<N>, R: Wait>(
     rt: &R,
     alloc: Global,
@@ -71,10 +44,19 @@ pub(crate) fn follow<N: Life, J: Entering<N>, R: Wait>(
     let mut lsn = head;
     journal.see(rt, &mut Rights::none(), pass);
     while low < lsn {
-        let record = step(rt, alloc, journal, page, lsn, pass)?;
-        let before = previous(page, &record);
-        records.push(record)?;
-        lsn = before;
+        records.reserve(1)?;
+        match journal.read(rt, alloc, lsn, pass) {
+            Ok(Found::Record(record)) => {
+                let before = previous(page, &record);
+                if lsn <= before {
+                    return Err(bad_chain());
+                }
+                records.push_reserved(record);
+                lsn = before;
+            }
+            Ok(Found::Run(_)) => return Err(Fault::Memory),
+            Err(fault) => return Err(fault),
+        }
     }
     Ok(records)
 }
