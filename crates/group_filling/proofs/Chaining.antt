@@ -12,7 +12,7 @@ use Rattle.wal_record.specs.Checkpoints.{is_checkpoint}
 use Rattle.wal_record.specs.declared.record.Record.{Record}
 use Rattle.wal_record.specs.declared.record.Record.TheVariants as kinds
 use Rattle.wal_record.proofs.Pushes.{last_push}
-use Rattle.group_filling.specs.Fields.{fields_of, with_fields, with_two, ArePlaced, IsKnown, IsUnfinished, AreChained, Joins}
+use Rattle.group_filling.specs.Fields.{fields_of, with_fields, with_two, ArePlaced, IsGoingOn, IsKnown, AreChained, Joins}
 use Rattle.group_filling.specs.declared.fields.Fields.{Fields}
 
 -- ---- one record
@@ -115,10 +115,11 @@ pages_front log (x ∷ y ∷ xs) r whole joins = absurd (three x y xs joins)
     three x y (z ∷ zs) joins = joins
 
 -- the transaction that a record names isn't over
-pub noted_link : (log : List Record) (s : Listing) (r : Record) (prev : ℕ) → IsKnown log s → IsUnfinished log (link_of r) → prev ≡ noted s (tx_of r) → (l : Link) → link_of r ≡ Some l → prev ≡ last log l.tx
-noted_link log s r prev k runs is l link =
+pub noted_link : (goes : ℕ → Bool) (log : List Record) (s : Listing) (r : Record) (prev : ℕ) → IsKnown goes log s → IsGoingOn goes log (link_of r) → prev ≡ noted s (tx_of r) → (l : Link) → link_of r ≡ Some l → prev ≡ last log l.tx
+noted_link goes log s r prev k runs is l link =
     let tx : tx_of r ≡ l.tx = ap tx_or_none link in
-    is ∙ ap (noted s) tx ∙ k.noted_last l.tx (subst (IsUnfinished log) link runs)
+    let going = subst (IsGoingOn goes log) link runs in
+    is ∙ ap (noted s) tx ∙ k.noted_last l.tx going.0 going.1
 
 -- ---- what stands together still does
 
@@ -188,7 +189,7 @@ module _ (made : Option ℕ) (child : ℕ) where
   pub fill_one : (rs now : List Record) (f was none : Fields) (x : Record) → length rs ≡ 1 → made ≡ made_by rs → list_any is_checkpoint rs ≡ false
       → ((r : Record) → slice_get rs 0 ≡ Some r → was ≡ fields_of r) → ((r : Record) → slice_get rs 0 ≡ Some r → now ≡ slice_set rs 0 (with_fields f r)) → x ≡ get_or rs 0 x → ArePlaced made child x f
       → (with_two was none now ≡ rs) × AreFilled child rs now
-      × ((log : List Record) → Each (λ r. IsUnfinished log (link_of r)) rs → (IsUnfinished log (link_of x) → AreChained (log ++ []) made child x f) → now ≡ fill_all log made child rs)
+      × ((goes : ℕ → Bool) (log : List Record) → Each (λ r. IsGoingOn goes log (link_of r)) rs → (IsGoingOn goes log (link_of x) → AreChained (log ++ []) made child x f) → now ≡ fill_all log made child rs)
   fill_one [] now f was none x one same plain is set at p = absurd (omega (arith, one))
   fill_one (r ∷ q ∷ rs) now f was none x one same plain is set at p = absurd (omega (arith, one))
   fill_one (r ∷ []) now f was none x one same plain is set at p =
@@ -197,7 +198,7 @@ module _ (made : Option ℕ) (child : ℕ) where
       let placed : ArePlaced made child r f = subst (λ (y : Record). ArePlaced made child y f) at p in (
         ap (with_two was none) n ∙ (λ i. with_fields (w i) (with_fields f r) ∷ []) ∙ ap (λ (y : Record). y ∷ []) (fields_back f r),
         subst (λ (l : List Record). AreFilled child (r ∷ []) l) (sym n) (subst (λ (m : Option ℕ). AreFilledFrom m child (r ∷ []) (with_fields f r ∷ [])) same (filled_one made child r f plain placed)),
-        λ log runs chained. n ∙ told_one made child log r f plain placed (subst (λ (y : Record). AreChained (log ++ []) made child y f) at (chained (subst (λ (y : Record). IsUnfinished log (link_of y)) (sym at) runs.0))),
+        λ goes log runs chained. n ∙ told_one made child log r f plain placed (subst (λ (y : Record). AreChained (log ++ []) made child y f) at (chained (subst (λ (y : Record). IsGoingOn goes log (link_of y)) (sym at) runs.0))),
       )
 
   -- two, one behind the other
@@ -206,7 +207,7 @@ module _ (made : Option ℕ) (child : ℕ) where
       → ((r : Record) → slice_get mid 1 ≡ Some r → then ≡ fields_of r) → ((r : Record) → slice_get mid 1 ≡ Some r → now ≡ slice_set mid 1 (with_fields g r))
       → x ≡ get_or rs 0 x → y ≡ get_or mid 0 y → z ≡ get_or mid 1 z → front ≡ y ∷ [] → ArePlaced made child x f → ArePlaced made child z g
       → (with_two was then now ≡ rs) × AreFilled child rs now
-      × ((log : List Record) → Each (λ r. IsUnfinished log (link_of r)) rs → (IsUnfinished log (link_of x) → AreChained (log ++ []) made child x f) → (IsUnfinished log (link_of z) → Joins (front ++ z ∷ []) → AreChained (log ++ front) made child z g) → now ≡ fill_all log made child rs)
+      × ((goes : ℕ → Bool) (log : List Record) → Each (λ r. IsGoingOn goes log (link_of r)) rs → (IsGoingOn goes log (link_of x) → AreChained (log ++ []) made child x f) → (IsGoingOn goes log (link_of z) → Joins (front ++ z ∷ []) → AreChained (log ++ front) made child z g) → now ≡ fill_all log made child rs)
   fill_two [] mid now front f was g then x y z joins none one same plain is set is2 set2 at at0 at1 fr p p2 = absurd (none refl)
   fill_two (r ∷ []) mid now front f was g then x y z joins none one same plain is set is2 set2 at at0 at1 fr p p2 = absurd (one refl)
   fill_two (r ∷ q ∷ a ∷ rs) mid now front f was g then x y z joins none one same plain is set is2 set2 at at0 at1 fr p p2 = absurd joins
@@ -226,9 +227,9 @@ module _ (made : Option ℕ) (child : ℕ) where
       let stands : Joins (with_fields f r ∷ q ∷ []) = (ap link_of filled_r ∙ links_same made (numbers f child) r joins.0, ap is_upkeep filled_r ∙ upkeep_same made (numbers f child) r ∙ joins.1, joins.2, joins.3) in (
         ap (with_two was then) n ∙ (λ i. with_fields (w i) (with_fields f r) ∷ with_fields (w2 i) (with_fields g q) ∷ []) ∙ (λ i. fields_back f r i ∷ fields_back g q i ∷ []),
         subst (λ (l : List Record). AreFilled child (r ∷ q ∷ []) l) (sym n) (subst (λ (o : Option ℕ). AreFilledFrom o child (r ∷ q ∷ []) (with_fields f r ∷ with_fields g q ∷ [])) same (filled_two made child r q f g plain placed placed2)),
-        λ log runs chained chained2.
-            let one_is : AreChained (log ++ []) made child r f = subst (λ (a : Record). AreChained (log ++ []) made child a f) at (chained (subst (λ (a : Record). IsUnfinished log (link_of a)) (sym at) runs.0)) in
-            let two_is : AreChained (log ++ front) made child z g = chained2 (subst (λ (a : Record). IsUnfinished log (link_of a)) (sym z_is) runs.1.0) (subst (λ (l : List Record). Joins (l ++ z ∷ [])) (sym fr_is) (subst (λ (a : Record). Joins (with_fields f r ∷ a ∷ [])) (sym z_is) stands)) in
+        λ goes log runs chained chained2.
+            let one_is : AreChained (log ++ []) made child r f = subst (λ (a : Record). AreChained (log ++ []) made child a f) at (chained (subst (λ (a : Record). IsGoingOn goes log (link_of a)) (sym at) runs.0)) in
+            let two_is : AreChained (log ++ front) made child z g = chained2 (subst (λ (a : Record). IsGoingOn goes log (link_of a)) (sym z_is) runs.1.0) (subst (λ (l : List Record). Joins (l ++ z ∷ [])) (sym fr_is) (subst (λ (a : Record). Joins (with_fields f r ∷ a ∷ [])) (sym z_is) stands)) in
             n ∙ told_two made child log r q f g plain placed placed2 one_is
             (subst (λ (l : List Record). AreChained (log ++ l) made child q g) fr_is (subst (λ (a : Record). AreChained (log ++ front) made child a g) z_is two_is)),
       )

@@ -1,7 +1,8 @@
 -- The fields of a record that the journal fills in, and which numbers they get.
-use Rattle.std.specs.Prelude.{◌≡◌, ℕ, List, [], ◌∷◌, Option, Some, None, true, false}
+use Rattle.std.specs.Prelude.{◌≡◌, ℕ, List, [], ◌∷◌, Option, Some, None, Bool, true, false}
 use Rattle.std.specs.List.{list_any}
-use Rattle.log_index.specs.Listing.{IsListingOf, noted}
+use Rattle.log_index.specs.GoingOn.{KnowsLast}
+use Rattle.log_index.specs.Listing.{IsListingOf}
 use Rattle.log_index.specs.Ready.{is_upkeep, makes_page}
 use Rattle.log_index.specs.declared.listing.Listing.{Listing}
 use Rattle.page_ops.specs.Groups.{place_of}
@@ -71,15 +72,16 @@ pub record ArePlaced (made : Option ℕ) (new : ℕ) (r : Record) (f : Fields) :
 
 -- ---- behind a log
 
--- the listing is that of a lawful log, and what it noted last of an unfinished transaction is its last record
-pub record IsKnown (log : List Record) (s : Listing) : Type 0 where
+-- the listing is that of a lawful log, and knows the last record of each of these transactions that goes on
+pub record IsKnown (goes : ℕ → Bool) (log : List Record) (s : Listing) : Type 0 where
   pub lawful : AreLawful log
   pub listing : IsListingOf log s
-  pub noted_last : (t : ℕ) → list_any (finishes t) log ≡ false → noted s t ≡ last log t
+  pub noted_last : KnowsLast goes log s
 
-abbrev pub IsUnfinished : List Record → Option Link → Type 0
-IsUnfinished log None = Unit {0}
-IsUnfinished log (Some l) = list_any (finishes l.tx) log ≡ false
+-- the transaction, if there is one, is one of these, and isn't over
+abbrev pub IsGoingOn : (ℕ → Bool) → List Record → Option Link → Type 0
+IsGoingOn goes log None = Unit {0}
+IsGoingOn goes log (Some l) = (goes l.tx ≡ true) × (list_any (finishes l.tx) log ≡ false)
 
 -- they tell what stands before the record
 pub record AreChained (log : List Record) (made : Option ℕ) (new : ℕ) (r : Record) (f : Fields) : Type 0 where

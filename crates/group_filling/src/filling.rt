@@ -1,5 +1,5 @@
 //! Records of a group, filled in.
-ghost use Rattle.std.specs.Prelude.{◌≡◌, ◌+◌, ◌<◌, ◌≤◌, ◌^◌, [], ◌∷◌, ◌++◌, List, length, Some, false, slice_get, slice_set};
+ghost use Rattle.std.specs.Prelude.{◌≡◌, ◌+◌, ◌<◌, ◌≤◌, ◌^◌, [], ◌∷◌, ◌++◌, ℕ, List, length, Bool, Some, false, slice_get, slice_set};
 ghost use Rattle.std.specs.List.{list_any};
 ghost use Rattle.asking_laws.specs.Entered.{fill_all};
 ghost use Rattle.log_index.specs.Listing.{IsListingOf, noted};
@@ -10,7 +10,7 @@ ghost use Rattle.wal_record.specs.Chains.{head, link_of, pages};
 ghost use Rattle.wal_record.specs.Checkpoints.{is_checkpoint};
 ghost use Rattle.wal_record.specs.Sound.{AreLawful};
 ghost use Rattle.wal_record.specs.declared.record.Record.{Record};
-ghost use Rattle.group_filling.specs.Fields.{AreChained, ArePlaced, IsKnown, IsUnfinished, Joins, with_fields, with_two};
+ghost use Rattle.group_filling.specs.Fields.{AreChained, ArePlaced, IsGoingOn, IsKnown, Joins, with_fields, with_two};
 ghost use Rattle.group_filling.specs.Fields as fields;
 
 use crate::fields::{Fields, NONE, fields_of, set_fields};
@@ -125,7 +125,7 @@ fn fields_for(
     requires few { length before.now ≤ 1 }
     requires fits { lsn + 1 < 2 ^ 63 }
     ensures placed { ArePlaced made child rec.now result }
-    ensures chained { (log : List Record) → IsKnown log listing.now → lsn ≡ length log + 1 → pages log < 2 ^ 32 → IsUnfinished log (link_of rec.now) → Joins (before.now ++ rec.now ∷ [])
+    ensures chained { (goes : ℕ → Bool) (log : List Record) → IsKnown goes log listing.now → lsn ≡ length log + 1 → pages log < 2 ^ 32 → IsGoingOn goes log (link_of rec.now) → Joins (before.now ++ rec.now ∷ [])
         → AreChained (log ++ before.now) made child rec.now result }
 {
     let first = first_page(made, child, rec);
@@ -178,7 +178,7 @@ pub fn fill(
     ensures back { with_two result.first result.second recs.new ≡ recs.old }
     ensures filled { AreFilled child recs.old recs.new }
     ensures joins { (length recs.new ≤ 2) × Joins recs.new }
-    ensures told { (log : List Record) → IsKnown log listing.now → lsn ≡ length log + 1 → pages log < 2 ^ 32 → Each (λ r. IsUnfinished log (link_of r)) recs.old
+    ensures told { (goes : ℕ → Bool) (log : List Record) → IsKnown goes log listing.now → lsn ≡ length log + 1 → pages log < 2 ^ 32 → Each (λ r. IsGoingOn goes log (link_of r)) recs.old
         → recs.new ≡ fill_all log made child recs.old }
 {
     let mut before = Before {

@@ -6,6 +6,7 @@ use Rattle.books.specs.Rights.{SessionClaim}
 use Rattle.front.specs.Seen.{PassSeen}
 use Rattle.front.proofs.Keeping.{prefix_self}
 use Rattle.log_blocks.specs.LogState.{LogState, Refused, durable_lsn}
+use Rattle.log_index.specs.GoingOn.{may_go_on}
 use Rattle.log_index.specs.declared.listing.Listing.{Listing}
 use Rattle.log_manager.specs.Managed.{Managed}
 use Rattle.media.specs.Kept.{Kept}
@@ -35,7 +36,7 @@ use Rattle.life_history.proofs.Entries.{entered_own}
 use Rattle.listed_log.specs.Listed.{IsLogWith}
 use Rattle.journal.specs.Ends.{IsFailed}
 use Rattle.journal.specs.Kept.{IsOfLife, EndsByFault, IsKept}
-use Rattle.journal.proofs.Committing.{commit_spelled, unfinished, commit_lawful, commit_consistent}
+use Rattle.journal.proofs.Committing.{commit_spelled, goes_on, unfinished, commit_lawful, commit_consistent}
 use Rattle.journal.proofs.Ending.{failed}
 use Rattle.journal.proofs.Entering.{IsLive, entered_entry}
 use Rattle.journal.proofs.Locking.{held_still}
@@ -58,7 +59,7 @@ flush_ended F old new (Err _) e is runs = absurd is
 
 module _ {D : Type 0} (opens : List Record → Type 0) (tells : Type 0) (told : D → Kept) (may_leave : D → Kept → Type 0) (h0 h : List Entry) (m m1 m2 : Managed D) (s s1 s2 : Listing) (t : RangeLocks) (mark : ℕ)
     (k : IsOfLife opens tells told may_leave h0 m s t mark) (same : h ≡ h0) (x : SessionClaim) (l : IsLive opens h x) (tx prev lsn noted : ℕ) (own : tx ≡ x.tx) (small : x.tx ≤ 2 ^ 62) (low : prev < 2 ^ 63)
-    (chain : (rs : List Record) → IsLogWith tells told may_leave rs m s → list_any (finishes tx) rs ≡ false → noted ≡ last rs tx) (kept : noted < 2 ^ 63 → prev ≡ noted) (place : lsn ≡ m.log.next) where
+    (chain : (goes : ℕ → Bool) (rs : List Record) → IsLogWith tells told may_leave goes rs m s → goes tx ≡ true → list_any (finishes tx) rs ≡ false → noted ≡ last rs tx) (kept : noted < 2 ^ 63 → prev ≡ noted) (place : lsn ≡ m.log.next) where
   abbrev commit : Entry
   commit = commit_entry lsn x.tx prev
 
@@ -66,7 +67,7 @@ module _ {D : Type 0} (opens : List Record → Type 0) (tells : Type 0) (told : 
   prev_is opening stands =
       let over = unfinished opens h l.consistent x l.agrees l.some l.live opening stands in
       let runs : list_any (finishes tx) (life_log opening h0) ≡ false = (λ i. list_any (finishes (own i)) (life_log opening (sym same i))) ∙ over in
-      let is = chain (life_log opening h0) (k.records opening stands) runs in
+      let is = chain (may_go_on opening) (life_log opening h0) (k.records opening stands) (subst (λ (n : ℕ). may_go_on opening n ≡ true) (sym own) (goes_on opens h l.consistent x l.agrees l.some l.live opening stands)) runs in
       let within = last_in tx (life_log opening h0) in
       let few = k.places.numbers opening stands in
       kept (omega (arith, is, within, few)) ∙ is ∙ (λ i. last (life_log opening (sym same i)) (own i))
@@ -80,18 +81,18 @@ module _ {D : Type 0} (opens : List Record → Type 0) (tells : Type 0) (told : 
   lawful_then : (opening : List Record) → opens opening → AreLawful (life_log opening h ++ commit_of x.tx prev ∷ [])
   lawful_then = commit_lawful opens h l.consistent x l.agrees l.some l.live lsn prev (commit_spelled x.tx prev l.some small low) prev_is place_is
 
-  module _ (more : (rs : List Record) → IsLogWith tells told may_leave rs m s → AreLawful (rs ++ commit_of tx prev ∷ []) → length rs < 2 ^ 63 → IsLogWith tells told may_leave (rs ++ commit_of tx prev ∷ []) m1 s1)
+  module _ (more : (goes : ℕ → Bool) (rs : List Record) → IsLogWith tells told may_leave goes rs m s → AreLawful (rs ++ commit_of tx prev ∷ []) → length rs < 2 ^ 63 → IsLogWith tells told may_leave goes (rs ++ commit_of tx prev ∷ []) m1 s1)
       (spare : m1.spare + 1 ≡ m.spare) (places : m1.log.places ≡ m.log.places) (ended : m1.log.ended ≡ m.log.ended) (t1 : RangeLocks) (free : table.Releases t t1 tx) (h1 : List Entry) (now : h1 ≡ h ++ commit ∷ []) (live : live_count h1 + 1 ≡ live_count h) where
     committed : IsOfLife opens tells told may_leave h1 m1 s1 t1 mark
     committed =
         life_commit opens tells told may_leave h0 h1 m m1 s s1 t mark k t1 lsn x.tx prev (now ∙ ap (λ y. y ++ commit ∷ []) same) (subst (table.Releases t t1) own free) (live ∙ ap live_count same) spare places ended (λ opening stands.
         let few = k.places.numbers opening stands in
-        subst (λ n. IsLogWith tells told may_leave (life_log opening h0 ++ commit_of n prev ∷ []) m1 s1) own
-        (more (life_log opening h0) (k.records opening stands)
+        subst (λ n. IsLogWith tells told may_leave (may_go_on opening) (life_log opening h0 ++ commit_of n prev ∷ []) m1 s1) own
+        (more (may_go_on opening) (life_log opening h0) (k.records opening stands)
         (subst (λ (y : List Entry × ℕ). AreLawful (life_log opening y.0 ++ commit_of y.1 prev ∷ [])) (λ i. (same i, sym own i)) (lawful_then opening stands)) (omega (arith, few))))
 
-    module _ (runs : m.log.ended ≡ None) (flushed : (rs : List Record) → IsLogWith tells told may_leave rs m1 s1 → IsLogWith tells told may_leave rs m2 s2) (spare2 : m2.spare ≡ m1.spare)
-        (rises : (rs : List Record) → IsLogWith tells told may_leave rs m1 s1 → tells → m1.log.ended ≡ None → durable_lsn m1.log.places ≤ durable_lsn m2.log.places) where
+    module _ (runs : m.log.ended ≡ None) (flushed : (goes : ℕ → Bool) (rs : List Record) → IsLogWith tells told may_leave goes rs m1 s1 → IsLogWith tells told may_leave goes rs m2 s2) (spare2 : m2.spare ≡ m1.spare)
+        (rises : (goes : ℕ → Bool) (rs : List Record) → IsLogWith tells told may_leave goes rs m1 s1 → tells → m1.log.ended ≡ None → durable_lsn m1.log.places ≤ durable_lsn m2.log.places) where
       flushed_life : (mark' durable : ℕ) → durable ≡ durable_lsn m2.log.places → (mark' ≡ mark) ⊎ (mark' ≡ durable) → IsOfLife opens tells told may_leave h1 m2 s2 t1 mark'
       flushed_life mark' durable is marked = life_flush opens tells told may_leave h1 m1 m2 s1 s2 t1 mark mark' durable committed (ended ∙ runs) flushed spare2 rises is marked
 
@@ -113,8 +114,8 @@ module _ {D : Type 0} (opens : List Record → Type 0) (tells : Type 0) (told : 
             ends = ends_acknowledged m.log.ended h0 h1 h2 faults faults' lsn session x.tx prev ends first acked counted m2.log.ended (goes ∙ sym runs);
           }
 
-      pub number_is : (number : ℕ) → ((rs : List Record) → IsLogWith tells told may_leave rs m2 s2 → number ≡ commits rs) → (opening : List Record) → opens opening → number ≡ commits (life_log opening h1)
-      number_is number counts opening stands = counts (life_log opening h1) ((flushed_life mark (durable_lsn m2.log.places) refl (inl refl)).records opening stands)
+      pub number_is : (number : ℕ) → ((goes : ℕ → Bool) (rs : List Record) → IsLogWith tells told may_leave goes rs m2 s2 → number ≡ commits rs) → (opening : List Record) → opens opening → number ≡ commits (life_log opening h1)
+      number_is number counts opening stands = counts (may_go_on opening) (life_log opening h1) ((flushed_life mark (durable_lsn m2.log.places) refl (inl refl)).records opening stands)
 
 -- the transaction waits for its acknowledgement
 pub waits : (h h1 : List Entry) (lsn tx prev own : ℕ) → h1 ≡ h ++ commit_entry lsn tx prev ∷ [] → own ≡ tx → phase h1 own ≡ Committed

@@ -27,6 +27,8 @@ use Rattle.page_ops.specs.Claims.{SessionAgrees}
 use Rattle.page_ops.specs.Seeing.{IsConsistent}
 use Rattle.life_history.specs.Kept.{commit_entry}
 use Rattle.life_history.proofs.Keeping.{not_empty}
+use Rattle.log_index.specs.GoingOn.{may_go_on}
+use Rattle.journal.proofs.GoingOn.{live_goes_on}
 
 some_items : {A : Type 0} (xs : List A) → xs ≢ [] → has_items xs ≡ true
 some_items [] some = absurd (some refl)
@@ -47,6 +49,9 @@ pub its_own : (h : List Entry) (s : SessionClaim) → SessionAgrees h s → 0 < 
 its_own h s agrees some = (session_law [] h [] s.session).owner s.tx (λ none. absurd (omega (arith, some, none))) (sym agrees.tx)
 
 module _ (opens : List Record → Type 0) (h : List Entry) (c : IsConsistent opens h) (s : SessionClaim) (agrees : SessionAgrees h s) (some : 0 < s.tx) (live : phase h s.tx ≡ Live) where
+  pub goes_on : (opening : List Record) → opens opening → may_go_on opening s.tx ≡ true
+  goes_on opening stands = live_goes_on opening h (opened_lawful opens opening stands h c) (c.legal opening stands) s.tx live
+
   -- it isn't over
   pub unfinished : (opening : List Record) → opens opening → list_any (finishes s.tx) (life_log opening h) ≡ false
   unfinished opening stands =

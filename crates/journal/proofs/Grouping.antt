@@ -12,7 +12,7 @@ use Rattle.chain_laws.proofs.Previous.{unimaged}
 use Rattle.claim_laws.specs.Entering.{IsAtRest}
 use Rattle.claim_laws.proofs.Filling.{pages_law}
 use Rattle.claim_laws.proofs.Pages.{head_law}
-use Rattle.group_filling.specs.Fields.{IsKnown, IsUnfinished}
+use Rattle.group_filling.specs.Fields.{IsGoingOn, IsKnown}
 use Rattle.group_filling.specs.Fitting.{AreInRange}
 use Rattle.group_filling.proofs.Spelled.{spelled_group}
 use Rattle.log_manager.specs.Payload.{bytes_of}
@@ -21,6 +21,7 @@ use Rattle.wal_record.specs.Rules.{HasSpelling}
 use Rattle.life_history.specs.Groups.{is_still}
 use Rattle.life_history.proofs.Grouped.{log_group}
 use Rattle.listed_log.specs.Listed.{IsLogWith}
+use Rattle.log_index.specs.GoingOn.{may_go_on}
 use Rattle.log_index.specs.declared.listing.Listing.{Listing}
 use Rattle.log_manager.specs.Managed.{Managed}
 use Rattle.media.specs.Kept.{Kept}
@@ -39,7 +40,7 @@ use Rattle.std.proofs.lemmas.Bool.{leb-true}
 use Rattle.std.proofs.lemmas.Bool.Decides.{nat_tests}
 use Rattle.page_ops.specs.Claims.{PageAgrees}
 use Rattle.wal_record.specs.History.{life_log, phase, phase_step}
-use Rattle.wal_record.specs.Legal.{IsAllowed, IsLegal, untold, untold_step}
+use Rattle.wal_record.specs.Legal.{IsAllowed, IsLegal, RecordRule, untold, untold_step}
 use Rattle.wal_record.specs.Locks.{locks_step, taken_locks}
 use Rattle.wal_record.specs.Sound.{LinkRule, AreLawful}
 use Rattle.wal_record.specs.declared.record.Record.{Record}
@@ -50,6 +51,7 @@ use Rattle.wal_record.proofs.Along.{AllAlong_less}
 use Rattle.wal_record.proofs.Pushes.{legal_front, log_more, phase_push, untold_push, taken_push}
 use Rattle.journal.specs.Groups.{IsNext, IsNextPage, GroupFollows, IsNewRight}
 use Rattle.journal.specs.Kept.{AreRecords}
+use Rattle.journal.proofs.GoingOn.{live_goes_on, undo_goes_on}
 
 -- ---- no transaction ends by it
 
@@ -144,43 +146,44 @@ same_number log asked child new same = by (made_by asked) refl same
     by None e same = fill_free log new child asked e
     by (Some n) e same = ap (λ (m : ℕ). fill_all log (Some n) m asked) (same refl)
 
-link_unfinished : (log log' : List Record) (made : Option ℕ) (new : ℕ) (r : Record) → LinkRule log' (link_of (fill log made new r)) → IsUnfinished log' (link_of r)
-link_unfinished log log' made new (kinds.Write w) c = c.1
-link_unfinished log log' made new (kinds.Apply w) c = c.1
-link_unfinished log log' made new (kinds.Undo w) c = c.1
-link_unfinished log log' made new (kinds.End w) c = c.1
-link_unfinished log log' made new (kinds.Commit w) c = c.1
-link_unfinished log log' made new _ c = tt
+link_goes_on : (opening : List Record) (h : List Entry) → AreLawful opening → IsLegal opening h → (log log' : List Record) (made : Option ℕ) (new : ℕ) (r : Record) → LinkRule log' (link_of (fill log made new r)) → RecordRule opening h (fill log made new r)
+    → IsGoingOn (may_go_on opening) log' (link_of r)
+link_goes_on opening h sound legal log log' made new (kinds.Write w) c rule = (live_goes_on opening h sound legal w.tx rule.0, c.1)
+link_goes_on opening h sound legal log log' made new (kinds.Apply a) c rule = (live_goes_on opening h sound legal a.tx rule.0, c.1)
+link_goes_on opening h sound legal log log' made new (kinds.Undo u) c rule = (undo_goes_on opening h sound legal u.tx rule, c.1)
+link_goes_on opening h sound legal log log' made new (kinds.End e) c rule = (undo_goes_on opening h sound legal e.tx rule, c.1)
+link_goes_on opening h sound legal log log' made new (kinds.Commit x) c rule = (live_goes_on opening h sound legal x.tx rule, c.1)
+link_goes_on opening h sound legal log log' made new _ c rule = tt
 
 either_false : (a b : Bool) → (a || b) ≡ false → a ≡ false
 either_false true b e = absurd (cc e)
 either_false false b e = refl
 
-unfinished_before : (log more : List Record) (o : Option Link) → IsUnfinished (log ++ more) o → IsUnfinished log o
-unfinished_before log more None e = tt
-unfinished_before log more (Some l) e = either_false (list_any (finishes l.tx) log) (list_any (finishes l.tx) more) (sym (list_any-append (finishes l.tx) log more) ∙ e)
+going_before : (goes : ℕ → Bool) (log more : List Record) (o : Option Link) → IsGoingOn goes (log ++ more) o → IsGoingOn goes log o
+going_before goes log more None e = tt
+going_before goes log more (Some l) e = (e.0, either_false (list_any (finishes l.tx) log) (list_any (finishes l.tx) more) (sym (list_any-append (finishes l.tx) log more) ∙ e.1))
 
-each_before : (log more : List Record) (rs : List Record) → Each (λ r. IsUnfinished (log ++ more) (link_of r)) rs → Each (λ r. IsUnfinished log (link_of r)) rs
-each_before log more [] e = tt
-each_before log more (r ∷ rs) e = (unfinished_before log more (link_of r) e.0, each_before log more rs e.1)
+each_before : (goes : ℕ → Bool) (log more : List Record) (rs : List Record) → Each (λ r. IsGoingOn goes (log ++ more) (link_of r)) rs → Each (λ r. IsGoingOn goes log (link_of r)) rs
+each_before goes log more [] e = tt
+each_before goes log more (r ∷ rs) e = (going_before goes log more (link_of r) e.0, each_before goes log more rs e.1)
 
-first_allowed : (opening : List Record) (h : List Entry) (e : Entry) (es : List Entry) → IsLegal opening (h ++ e ∷ es) → IsAllowed opening h e
-first_allowed opening h e es legal = (legal_front opening h e (AllAlong_less (IsAllowed opening) (h ++ e ∷ []) es (subst (IsLegal opening) (sym (append_assoc h (e ∷ []) es)) legal))).1
+first_allowed : (opening : List Record) (h : List Entry) (e : Entry) (es : List Entry) → IsLegal opening (h ++ e ∷ es) → IsLegal opening h × IsAllowed opening h e
+first_allowed opening h e es legal = legal_front opening h e (AllAlong_less (IsAllowed opening) (h ++ e ∷ []) es (subst (IsLegal opening) (sym (append_assoc h (e ∷ []) es)) legal))
 
--- of a legal group no transaction has finished before
-unfinished_all : (opening : List Record) (made : Option ℕ) (new : ℕ) (asked : List Record) (h : List Entry) (lsn : ℕ) (es : List Entry) → IsLegal opening (h ++ (record_entries lsn (fill_all (life_log opening h) made new asked) ++ es))
-    → Each (λ r. IsUnfinished (life_log opening h) (link_of r)) asked
-unfinished_all opening made new [] h lsn es legal = tt
-unfinished_all opening made new (r ∷ rs) h lsn es legal =
+-- of a legal group each transaction may go on, and has not finished before
+going_all : (opening : List Record) → AreLawful opening → (made : Option ℕ) (new : ℕ) (asked : List Record) (h : List Entry) (lsn : ℕ) (es : List Entry) → IsLegal opening (h ++ (record_entries lsn (fill_all (life_log opening h) made new asked) ++ es))
+    → Each (λ r. IsGoingOn (may_go_on opening) (life_log opening h) (link_of r)) asked
+going_all opening sound made new [] h lsn es legal = tt
+going_all opening sound made new (r ∷ rs) h lsn es legal =
     let log = life_log opening h in
     let x = fill log made new r in
     let ok = first_allowed opening h (entries.Rec lsn x) (record_entries (suc lsn) (fill_all (log ++ x ∷ []) made new rs) ++ es) legal in
     let whole = subst (IsLegal opening) (sym (append_assoc h (entries.Rec lsn x ∷ []) (record_entries (suc lsn) (fill_all (log ++ x ∷ []) made new rs) ++ es))) legal in
-    let later = unfinished_all opening made new rs (h ++ entries.Rec lsn x ∷ []) (suc lsn) es
+    let later = going_all opening sound made new rs (h ++ entries.Rec lsn x ∷ []) (suc lsn) es
     (subst (λ (l : List Record). IsLegal opening ((h ++ entries.Rec lsn x ∷ []) ++ (record_entries (suc lsn) (fill_all l made new rs) ++ es))) (sym (log_more opening h lsn x)) whole) in
-    let there = subst (λ (l : List Record). Each (λ r. IsUnfinished l (link_of r)) rs) (log_more opening h lsn x) later in (
-      link_unfinished log log made new r ok.rule.lawful.chain,
-      each_before log (x ∷ []) rs there,
+    let there = subst (λ (l : List Record). Each (λ r. IsGoingOn (may_go_on opening) l (link_of r)) rs) (log_more opening h lsn x) later in (
+      link_goes_on opening h sound ok.0 log log made new r ok.1.rule.lawful.chain ok.1.rule.rule,
+      each_before (may_go_on opening) log (x ∷ []) rs there,
     )
 
 -- ---- the history behind it
@@ -188,7 +191,7 @@ unfinished_all opening made new (r ∷ rs) h lsn es legal =
 module _ (opens : List Record → Type 0) (h : List Entry) (c : IsConsistent opens h) (g : Group) (is_group : IsGroup g) (child lsn : ℕ) (now : List Record) (filling : AreFilled child g.recs now)
     (follows : (opening : List Record) → opens opening → MayFollow opening h g)
     (number : (opening : List Record) → opens opening → IsSome (made_by g.recs) → child ≡ suc (pages (life_log opening h)))
-    (told : (opening : List Record) → opens opening → Each (λ r. IsUnfinished (life_log opening h) (link_of r)) g.recs → now ≡ fill_all (life_log opening h) (made_by g.recs) child g.recs)
+    (told : (opening : List Record) → opens opening → Each (λ r. IsGoingOn (may_go_on opening) (life_log opening h) (link_of r)) g.recs → now ≡ fill_all (life_log opening h) (made_by g.recs) child g.recs)
     (next : IsNext opens h lsn) where
   determined : (opening : List Record) (stands : opens opening) → (follows opening stands).recs ≡ now
   determined opening stands =
@@ -198,7 +201,7 @@ module _ (opens : List Record → Type 0) (h : List Entry) (c : IsConsistent ope
       let is : m.recs ≡ fill_all log (made_by g.recs) m.new g.recs = law.determined m in
       let same : fill_all log (made_by g.recs) m.new g.recs ≡ fill_all log (made_by g.recs) child g.recs = same_number log g.recs child m.new (λ some. law.new is_group.kinds m some ∙ sym (number opening stands some)) in
       let legal = subst (λ (rs : List Record). IsLegal opening (h ++ (record_entries (suc (length log)) rs ++ said_entries g.said))) is m.legal in
-      is ∙ same ∙ sym (told opening stands (unfinished_all opening (made_by g.recs) m.new g.recs h (suc (length log)) (said_entries g.said) legal))
+      is ∙ same ∙ sym (told opening stands (going_all opening (opened_lawful opens opening stands h c) (made_by g.recs) m.new g.recs h (suc (length log)) (said_entries g.said) legal))
 
   abbrev done : List Entry
   done = h ++ group_entries lsn now g.said
@@ -230,8 +233,8 @@ module _ (opens : List Record → Type 0) (h : List Entry) (c : IsConsistent ope
 
 -- ---- the log that the listing knows
 
-pub known : {D : Type 0} (tells : Type 0) (told : D → Kept) (may_leave : D → Kept → Type 0) (rs : List Record) (m : Managed D) (s : Listing) → IsLogWith tells told may_leave rs m s → IsKnown rs s
-known tells told may_leave rs m s k = record { lawful = k.lawful; listing = k.listing; noted_last = k.noted }
+pub known : {D : Type 0} (tells : Type 0) (told : D → Kept) (may_leave : D → Kept → Type 0) (goes : ℕ → Bool) (rs : List Record) (m : Managed D) (s : Listing) → IsLogWith tells told may_leave goes rs m s → IsKnown goes rs s
+known tells told may_leave goes rs m s k = record { lawful = k.lawful; listing = k.listing; noted_last = k.noted }
 
 pub next_of : {D : Type 0} (opens : List Record → Type 0) (tells : Type 0) (told : D → Kept) (may_leave : D → Kept → Type 0) (h : List Entry) (m : Managed D) (s : Listing) (last lsn : ℕ)
     → AreRecords opens tells told may_leave h m s → last ≡ m.log.next - 1 → last < 2 ^ 62 → lsn ≡ m.log.next → IsNext opens h lsn
@@ -307,7 +310,7 @@ spelled_asked g new now is filling few x = spelled_group (made_by g.recs) new g.
 
 pub filled_follows : (opens : List Record → Type 0) (h : List Entry) → IsConsistent opens h → (g : Group) → IsGroup g → (made : Option ℕ) (new : Option PageClaim) (child lsn : ℕ) (now : List Record) → made ≡ made_by g.recs
     → (IsSome made → IsSome new) → IfSome new (IsNextPage opens h) → IfSome new (λ p. child ≡ p.page) → AreFilled child g.recs now → ((opening : List Record) → opens opening → HasNumbers opening h → MayFollow opening h g)
-    → ((opening : List Record) → opens opening → Each (λ r. IsUnfinished (life_log opening h) (link_of r)) g.recs → now ≡ fill_all (life_log opening h) made child g.recs) → IsNext opens h lsn → GroupFollows opens h lsn now g.said
+    → ((opening : List Record) → opens opening → Each (λ r. IsGoingOn (may_go_on opening) (life_log opening h) (link_of r)) g.recs → now ≡ fill_all (life_log opening h) made child g.recs) → IsNext opens h lsn → GroupFollows opens h lsn now g.said
 filled_follows opens h c g is_group made new child lsn now same some right is filling follows told next =
     group_follows opens h c g is_group child lsn now filling
     (λ opening stands. follows opening stands (let at = (next opening stands).0 in let low = (next opening stands).1 in omega (arith, at, low)))
@@ -316,8 +319,8 @@ filled_follows opens h c g is_group made new child lsn now same some right is fi
     next
 
 module _ {D : Type 0} (opens : List Record → Type 0) (tells : Type 0) (told : D → Kept) (may_leave : D → Kept → Type 0) (hist h : List Entry) (m : Managed D) (s s' : Listing) (last : ℕ) where
-  pub known_at : AreRecords opens tells told may_leave hist m s → hist ≡ h → s' ≡ s → ((rs : List Record) → IsLogWith tells told may_leave rs m s → last ≡ length rs) → (opening : List Record) → opens opening → IsKnown (life_log opening h) s' × (last + 1 ≡ length (life_log opening h) + 1)
+  pub known_at : AreRecords opens tells told may_leave hist m s → hist ≡ h → s' ≡ s → ((goes : ℕ → Bool) (rs : List Record) → IsLogWith tells told may_leave goes rs m s → last ≡ length rs) → (opening : List Record) → opens opening → IsKnown (may_go_on opening) (life_log opening h) s' × (last + 1 ≡ length (life_log opening h) + 1)
   known_at records now same at opening stands =
       let k = records opening stands in
-      subst (λ (x : List Entry × Listing). IsKnown (life_log opening x.0) x.1 × (last + 1 ≡ length (life_log opening x.0) + 1)) (λ i. (now i, sym same i))
-      (known tells told may_leave (life_log opening hist) m s k, ap (λ (n : ℕ). n + 1) (at (life_log opening hist) k))
+      subst (λ (x : List Entry × Listing). IsKnown (may_go_on opening) (life_log opening x.0) x.1 × (last + 1 ≡ length (life_log opening x.0) + 1)) (λ i. (now i, sym same i))
+      (known tells told may_leave (may_go_on opening) (life_log opening hist) m s k, ap (λ (n : ℕ). n + 1) (at (may_go_on opening) (life_log opening hist) k))

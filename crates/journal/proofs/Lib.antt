@@ -7,6 +7,7 @@ pub mod Living
 pub mod Locking
 pub mod Lookup
 pub mod Starting
+pub mod GoingOn
 pub mod Grouping
 pub mod Overs
 pub mod Restoring

@@ -5,6 +5,7 @@ use Rattle.std.specs.List.{list_all}
 use Rattle.std.specs.Prelude.{◌-◌, ◌⊎◌, ◌↔◌, Result, Ok, Err, OnOk, is_some}
 use Rattle.std.proofs.lemmas.Bool.{eqb-true}
 use Rattle.log_blocks.specs.LogState.{LogState, durable_lsn}
+use Rattle.log_index.specs.GoingOn.{may_go_on}
 use Rattle.log_index.specs.declared.listing.Listing.{Listing}
 use Rattle.log_manager.specs.Managed.{Managed}
 use Rattle.media.specs.Kept.{Kept}
@@ -74,8 +75,8 @@ ends_failed ended h faults faults' over more = record {
 
 -- ---- the log and the locks
 
-same_blocks : {D : Type 0} (tells : Type 0) (told : D → Kept) (may_leave : D → Kept → Type 0) (rs : List Record) (m m' : Managed D) (s : Listing) → IsLogWith tells told may_leave rs m s → m'.log ≡ m.log → IsLogWith tells told may_leave rs m' s
-same_blocks tells told may_leave rs m m' s k same = record {
+same_blocks : {D : Type 0} (tells : Type 0) (told : D → Kept) (may_leave : D → Kept → Type 0) (goes : ℕ → Bool) (rs : List Record) (m m' : Managed D) (s : Listing) → IsLogWith tells told may_leave goes rs m s → m'.log ≡ m.log → IsLogWith tells told may_leave goes rs m' s
+same_blocks tells told may_leave goes rs m m' s k same = record {
   lawful = k.lawful;
   listing = k.listing;
   noted = k.noted;
@@ -89,7 +90,7 @@ module _ {D : Type 0} (opens : List Record → Type 0) (tells : Type 0) (told : 
   life_entry t' e now none locks live =
       let log : (opening : List Record) → life_log opening h' ≡ life_log opening h = λ opening. ap (life_log opening) now ∙ log_same opening h e none in
       record {
-        records = λ opening stands. subst (λ (l : List Record). IsLogWith tells told may_leave l m s) (sym (log opening)) (k.records opening stands);
+        records = λ opening stands. subst (λ (l : List Record). IsLogWith tells told may_leave (may_go_on opening) l m s) (sym (log opening)) (k.records opening stands);
         locks = subst (λ (l : List Entry). AreHeld l t') (sym now) locks;
         telling = k.telling;
         places = record {
@@ -104,7 +105,7 @@ module _ {D : Type 0} (opens : List Record → Type 0) (tells : Type 0) (told : 
   life_room room listing =
       let same : m'.log ≡ m.log = ap (λ (x : Managed D). x.log) room in
       record {
-        records = λ opening stands. subst (λ (x : Listing). IsLogWith tells told may_leave (life_log opening h) m' x) (sym listing) (same_blocks tells told may_leave (life_log opening h) m m' s (k.records opening stands) same);
+        records = λ opening stands. subst (λ (x : Listing). IsLogWith tells told may_leave (may_go_on opening) (life_log opening h) m' x) (sym listing) (same_blocks tells told may_leave (may_go_on opening) (life_log opening h) m m' s (k.records opening stands) same);
         locks = k.locks;
         telling = k.telling;
         places = record {
@@ -122,7 +123,7 @@ module _ {D : Type 0} (opens : List Record → Type 0) (tells : Type 0) (told : 
       let roomy = life_room room listing in
       let log : (opening : List Record) → life_log opening h' ≡ life_log opening h = λ opening. ap (life_log opening) now ∙ log_same opening h (entries.Began session tx) refl in
       record {
-        records = λ opening stands. subst (λ (l : List Record). IsLogWith tells told may_leave l m' s') (sym (log opening)) (roomy.records opening stands);
+        records = λ opening stands. subst (λ (l : List Record). IsLogWith tells told may_leave (may_go_on opening) l m' s') (sym (log opening)) (roomy.records opening stands);
         locks = λ l. subst (λ (ls : List Held). table.Holds t l ↔ IsAmong (held l.range l.mode) ls) (sym (ap (λ x. taken_locks x l.tx) now ∙ taken_push h (entries.Began session tx) l.tx)) (k.locks l);
         telling = k.telling;
         places = record {
@@ -135,11 +136,11 @@ module _ {D : Type 0} (opens : List Record → Type 0) (tells : Type 0) (told : 
   -- a group by which no transaction ends
   pub life_group : (lsn : ℕ) (recs : List Record) (said : Option Said) → h' ≡ h ++ group_entries lsn recs said → list_all is_still recs ≡ true → length recs ≤ 2 → m'.log.ended ≡ m.log.ended → m'.log.places ≡ m.log.places → m'.spare ≡ m.spare
       → (live_count h' ≡ live_count h) × (live_count h ≤ 64) → IsNext opens h lsn
-      → ((opening : List Record) → opens opening → IsLogWith tells told may_leave (life_log opening h ++ recs) m' s') → IsOfLife opens tells told may_leave h' m' s' t mark
+      → ((opening : List Record) → opens opening → IsLogWith tells told may_leave (may_go_on opening) (life_log opening h ++ recs) m' s') → IsOfLife opens tells told may_leave h' m' s' t mark
   life_group lsn recs said now still few ended places spare live next records =
       let log : (opening : List Record) → life_log opening h' ≡ life_log opening h ++ recs = λ opening. ap (life_log opening) now ∙ log_group opening h lsn recs said in
       record {
-        records = λ opening stands. subst (λ (l : List Record). IsLogWith tells told may_leave l m' s') (sym (log opening)) (records opening stands);
+        records = λ opening stands. subst (λ (l : List Record). IsLogWith tells told may_leave (may_go_on opening) l m' s') (sym (log opening)) (records opening stands);
         locks = λ l. subst (λ (ls : List Held). table.Holds t l ↔ IsAmong (held l.range l.mode) ls) (sym (ap (λ x. taken_locks x l.tx) now ∙ locks_group h lsn recs said still l.tx)) (k.locks l);
         telling = k.telling;
         places = record {
@@ -169,11 +170,11 @@ module _ {D : Type 0} (opens : List Record → Type 0) (tells : Type 0) (told : 
 
   -- a record by which a live transaction is over, with the room for its commit or without
   pub life_over : (t' : RangeLocks) (lsn tx : ℕ) (r : Record) → LetsGo tx (entries.Rec lsn r) → h' ≡ h ++ entries.Rec lsn r ∷ [] → table.Releases t t' tx → live_count h' + 1 ≡ live_count h → m.spare ≤ m'.spare + 1 → m'.log.places ≡ m.log.places → m'.log.ended ≡ m.log.ended
-      → ((opening : List Record) → opens opening → IsLogWith tells told may_leave (life_log opening h ++ r ∷ []) m' s') → IsOfLife opens tells told may_leave h' m' s' t' mark
+      → ((opening : List Record) → opens opening → IsLogWith tells told may_leave (may_go_on opening) (life_log opening h ++ r ∷ []) m' s') → IsOfLife opens tells told may_leave h' m' s' t' mark
   life_over t' lsn tx r goes now free live spare places ended records =
       let log : (opening : List Record) → life_log opening h' ≡ life_log opening h ++ r ∷ [] = λ opening. ap (life_log opening) now ∙ log_more opening h lsn r in
       record {
-        records = λ opening stands. subst (λ (l : List Record). IsLogWith tells told may_leave l m' s') (sym (log opening)) (records opening stands);
+        records = λ opening stands. subst (λ (l : List Record). IsLogWith tells told may_leave (may_go_on opening) l m' s') (sym (log opening)) (records opening stands);
         locks = subst (λ (l : List Entry). AreHeld l t') (sym now) (released t' (entries.Rec lsn r) tx goes free);
         telling = k.telling;
         places = record {
@@ -186,22 +187,22 @@ module _ {D : Type 0} (opens : List Record → Type 0) (tells : Type 0) (told : 
       }
 
   pub life_commit : (t' : RangeLocks) (lsn tx prev : ℕ) → h' ≡ h ++ commit_entry lsn tx prev ∷ [] → table.Releases t t' tx → live_count h' + 1 ≡ live_count h → m'.spare + 1 ≡ m.spare → m'.log.places ≡ m.log.places → m'.log.ended ≡ m.log.ended
-      → ((opening : List Record) → opens opening → IsLogWith tells told may_leave (life_log opening h ++ kinds.Commit (record { tx = tx; prev = prev }) ∷ []) m' s') → IsOfLife opens tells told may_leave h' m' s' t' mark
+      → ((opening : List Record) → opens opening → IsLogWith tells told may_leave (may_go_on opening) (life_log opening h ++ kinds.Commit (record { tx = tx; prev = prev }) ∷ []) m' s') → IsOfLife opens tells told may_leave h' m' s' t' mark
   life_commit t' lsn tx prev now free live spare places ended records = life_over t' lsn tx (kinds.Commit (record { tx = tx; prev = prev })) (λ u ls. refl) now free live (omega (arith, spare)) places ended records
 
 -- ---- a flush
 
 pub life_flush : {D : Type 0} (opens : List Record → Type 0) (tells : Type 0) (told : D → Kept) (may_leave : D → Kept → Type 0) (h : List Entry) (m m' : Managed D) (s s' : Listing) (t : RangeLocks) (mark mark' durable : ℕ)
-    → IsOfLife opens tells told may_leave h m s t mark → m.log.ended ≡ None → ((rs : List Record) → IsLogWith tells told may_leave rs m s → IsLogWith tells told may_leave rs m' s') → m'.spare ≡ m.spare
-    → ((rs : List Record) → IsLogWith tells told may_leave rs m s → tells → m.log.ended ≡ None → durable_lsn m.log.places ≤ durable_lsn m'.log.places)
+    → IsOfLife opens tells told may_leave h m s t mark → m.log.ended ≡ None → ((goes : ℕ → Bool) (rs : List Record) → IsLogWith tells told may_leave goes rs m s → IsLogWith tells told may_leave goes rs m' s') → m'.spare ≡ m.spare
+    → ((goes : ℕ → Bool) (rs : List Record) → IsLogWith tells told may_leave goes rs m s → tells → m.log.ended ≡ None → durable_lsn m.log.places ≤ durable_lsn m'.log.places)
     → durable ≡ durable_lsn m'.log.places → (mark' ≡ mark) ⊎ (mark' ≡ durable) → IsOfLife opens tells told may_leave h m' s' t mark'
 life_flush opens tells told may_leave h m m' s s' t mark mark' durable k runs same spare rises is marked = record {
-  records = λ opening stands. same (life_log opening h) (k.records opening stands);
+  records = λ opening stands. same (may_go_on opening) (life_log opening h) (k.records opening stands);
   locks = k.locks;
   telling = k.telling;
   places = record { commits = subst (λ n. live_count h ≤ n) (sym spare) k.places.commits; numbers = k.places.numbers };
   durable = λ opening stands tell _.
-      let more = rises (life_log opening h) (k.records opening stands) tell runs in
+      let more = rises (may_go_on opening) (life_log opening h) (k.records opening stands) tell runs in
       let was = k.durable opening stands tell runs in
       elim marked [
         | inl old ↦ omega (arith, old, was, more)
@@ -250,7 +251,7 @@ module _ {D : Type 0} (opens : List Record → Type 0) (tells : Type 0) (told : 
   -- a group by which no transaction ends
   pub kept_group : (lsn : ℕ) (recs : List Record) (said : Option Said) → h' ≡ h ++ group_entries lsn recs said → list_all is_still recs ≡ true → length recs ≤ 2 → m'.log.ended ≡ m.log.ended → m'.log.places ≡ m.log.places → m'.spare ≡ m.spare
       → (live_count h' ≡ live_count h) × (live_count h ≤ 64) → IsNext opens h lsn
-      → ((opening : List Record) → opens opening → IsLogWith tells told may_leave (life_log opening h ++ recs) m' s') → IsKept opens tells told may_leave h' m' s' t mark faults'
+      → ((opening : List Record) → opens opening → IsLogWith tells told may_leave (may_go_on opening) (life_log opening h ++ recs) m' s') → IsKept opens tells told may_leave h' m' s' t mark faults'
   kept_group lsn recs said now still few ended places spare live next records = record {
     life = life_group opens tells told may_leave h h' m m' s s' t mark k.life lsn recs said now still few ended places spare live next records;
     ends = record {
@@ -262,14 +263,14 @@ module _ {D : Type 0} (opens : List Record → Type 0) (tells : Type 0) (told : 
 
   -- the End of a live transaction
   pub kept_end : (lsn : ℕ) (end : End) → h' ≡ h ++ entries.Rec lsn (kinds.End end) ∷ [] → table.Releases t t' end.tx → live_count h' + 1 ≡ live_count h → m'.spare ≡ m.spare → m'.log.places ≡ m.log.places → m'.log.ended ≡ m.log.ended
-      → ((opening : List Record) → opens opening → IsLogWith tells told may_leave (life_log opening h ++ kinds.End end ∷ []) m' s') → IsKept opens tells told may_leave h' m' s' t' mark faults'
+      → ((opening : List Record) → opens opening → IsLogWith tells told may_leave (may_go_on opening) (life_log opening h ++ kinds.End end ∷ []) m' s') → IsKept opens tells told may_leave h' m' s' t' mark faults'
   kept_end lsn end now free live spare places ended records = record {
     life = life_over opens tells told may_leave h h' m m' s s' t mark k.life t' lsn end.tx (kinds.End end) (λ u ls. refl) now free live (omega (arith, spare)) places ended records;
     ends = subst (λ (e : Option ℕ). EndsByFault e h' faults') (sym ended) (ends_entry m.log.ended h h' faults faults' (entries.Rec lsn (kinds.End end)) k.ends now same (end_stays lsn end));
   }
 
   -- the log went on by nothing, or its disk is as before
-  pub kept_refused : h' ≡ h → m'.spare ≡ m.spare → m'.log.places ≡ m.log.places → m'.log.ended ≡ m.log.ended → ((opening : List Record) → opens opening → IsLogWith tells told may_leave (life_log opening h) m' s') → IsKept opens tells told may_leave h' m' s' t mark faults'
+  pub kept_refused : h' ≡ h → m'.spare ≡ m.spare → m'.log.places ≡ m.log.places → m'.log.ended ≡ m.log.ended → ((opening : List Record) → opens opening → IsLogWith tells told may_leave (may_go_on opening) (life_log opening h) m' s') → IsKept opens tells told may_leave h' m' s' t mark faults'
   kept_refused now spare places ended records = subst (λ (x : List Entry × ℕ). IsKept opens tells told may_leave x.0 m' s' t mark x.1) (λ i. (sym now i, sym same i)) (record {
     life = record {
       records = records;
@@ -306,8 +307,8 @@ ends_call was ended h faults before faults' old new (Err answers.LogFault) k run
 ends_call was ended h faults before faults' old new (Err _) k runs same g = goes_on was ended h faults before faults' old new k runs same g
 
 pub kept_call : {D A : Type 0} (opens : List Record → Type 0) (tells : Type 0) (told : D → Kept) (may_leave : D → Kept → Type 0) (h h' : List Entry) (m m' : Managed D) (s s' : Listing) (t : RangeLocks) (mark faults before faults' : ℕ)
-    → IsKept opens tells told may_leave h m s t mark faults → h' ≡ h → before ≡ faults → m.log.ended ≡ None → ((rs : List Record) → IsLogWith tells told may_leave rs m s → IsLogWith tells told may_leave rs m' s') → m'.spare ≡ m.spare
-    → ((rs : List Record) → IsLogWith tells told may_leave rs m s → tells → m.log.ended ≡ None → durable_lsn m.log.places ≤ durable_lsn m'.log.places)
+    → IsKept opens tells told may_leave h m s t mark faults → h' ≡ h → before ≡ faults → m.log.ended ≡ None → ((goes : ℕ → Bool) (rs : List Record) → IsLogWith tells told may_leave goes rs m s → IsLogWith tells told may_leave goes rs m' s') → m'.spare ≡ m.spare
+    → ((goes : ℕ → Bool) (rs : List Record) → IsLogWith tells told may_leave goes rs m s → tells → m.log.ended ≡ None → durable_lsn m.log.places ≤ durable_lsn m'.log.places)
     → (old new : Account) (result : Result A Fault) → EndsCall m'.log.ended before faults' old new result → IsKept opens tells told may_leave h' m' s' t mark faults'
 kept_call opens tells told may_leave h h' m m' s s' t mark faults before faults' k now same runs records spare rises old new result ends =
     subst (λ (l : List Entry). IsKept opens tells told may_leave l m' s' t mark faults') (sym now) (record {

@@ -1,7 +1,8 @@
 -- The End of a session's transaction, as it is entered.
-use Rattle.std.proofs.Common.{◌≡◌, ℕ, ◌-◌, ◌<◌, ◌^◌, List, [], ◌∷◌, ◌++◌, length, Option, Some, None, is_some, false, refl, sym, subst, arith}
+use Rattle.std.proofs.Common.{◌≡◌, ℕ, ◌-◌, ◌<◌, ◌^◌, List, [], ◌∷◌, ◌++◌, length, Option, Some, None, is_some, Bool, false, refl, sym, subst, arith}
 use Rattle.life_history.specs.Kept.{end_entry}
 use Rattle.listed_log.specs.Listed.{IsLogWith}
+use Rattle.log_index.specs.GoingOn.{may_go_on}
 use Rattle.log_index.specs.declared.listing.Listing.{Listing}
 use Rattle.log_manager.specs.Managed.{Managed}
 use Rattle.media.specs.Kept.{Kept}
@@ -31,8 +32,8 @@ module _ {D : Type 0} (opens : List Record → Type 0) (tells : Type 0) (told : 
   pub over_consistent : (tx : ℕ) → end.tx ≡ tx → IsConsistent opens (h0 ++ end_entry lsn tx end.prev ∷ [])
   over_consistent tx same = subst (λ (z : List Entry × ℕ). IsConsistent opens (z.0 ++ end_entry lsn z.1 end.prev ∷ [])) (λ i. (sym view i, same i)) over_follows.consistent
 
-  pub over_records : ((rs : List Record) → IsLogWith tells told may_leave rs m s → AreLawful (rs ++ kinds.End end ∷ []) → length rs < 2 ^ 62 → IsLogWith tells told may_leave (rs ++ kinds.End end ∷ []) m1 s1)
-      → (opening : List Record) → opens opening → IsLogWith tells told may_leave (life_log opening h0 ++ kinds.End end ∷ []) m1 s1
+  pub over_records : ((goes : ℕ → Bool) (rs : List Record) → IsLogWith tells told may_leave goes rs m s → AreLawful (rs ++ kinds.End end ∷ []) → length rs < 2 ^ 62 → IsLogWith tells told may_leave goes (rs ++ kinds.End end ∷ []) m1 s1)
+      → (opening : List Record) → opens opening → IsLogWith tells told may_leave (may_go_on opening) (life_log opening h0 ++ kinds.End end ∷ []) m1 s1
   over_records more opening stands =
       let place = next opening stands in
-      more (life_log opening h0) (records opening stands) (subst (λ (l : List Entry). AreLawful (life_log opening l ++ kinds.End end ∷ [])) (sym view) (over_follows.lawful opening stands)) (omega (arith, place.0, place.1))
+      more (may_go_on opening) (life_log opening h0) (records opening stands) (subst (λ (l : List Entry). AreLawful (life_log opening l ++ kinds.End end ∷ [])) (sym view) (over_follows.lawful opening stands)) (omega (arith, place.0, place.1))

@@ -2,6 +2,7 @@
 use Rattle.std.proofs.Common.{◌≡◌, ℕ, ◌≤◌, ◌^◌, List, [], length, refl, sym, ap, subst, arith, append-nil}
 use Rattle.std.specs.Prelude.{None, is_some}
 use Rattle.listed_log.specs.Listed.{IsLogWith}
+use Rattle.log_index.specs.GoingOn.{may_go_on}
 use Rattle.log_index.specs.declared.listing.Listing.{Listing}
 use Rattle.log_manager.specs.Managed.{Managed}
 use Rattle.media.specs.Kept.{Kept}
@@ -32,13 +33,13 @@ unfolding phase along
 nothing_waits t e = absurd (cc e)
 
 pub kept_start : {D : Type 0} (opens : List Record → Type 0) (tells : Type 0) (told : D → Kept) (may_leave : D → Kept → Type 0) (h : List Entry) (m : Managed D) (s : Listing) (t : RangeLocks) (faults : ℕ)
-    → h ≡ [] → m.log.ended ≡ None → faults ≡ 0 → ((opening : List Record) → opens opening → length opening ≤ 2 ^ 62) → ((opening : List Record) → opens opening → IsLogWith tells told may_leave opening m s) → tables.held t ≡ [] → IsTold opens tells → IsKept opens tells told may_leave h m s t 0 faults
+    → h ≡ [] → m.log.ended ≡ None → faults ≡ 0 → ((opening : List Record) → opens opening → length opening ≤ 2 ^ 62) → ((opening : List Record) → opens opening → IsLogWith tells told may_leave (may_go_on opening) opening m s) → tables.held t ≡ [] → IsTold opens tells → IsKept opens tells told may_leave h m s t 0 faults
 kept_start opens tells told may_leave h m s t faults begins goes fresh few records none telling =
     let same : (opening : List Record) → life_log opening [] ≡ opening = λ opening. append-nil opening in
     subst (λ (l : List Entry). IsKept opens tells told may_leave l m s t 0 faults) (sym begins)
     (record {
       life = record {
-        records = λ opening stands. subst (λ (l : List Record). IsLogWith tells told may_leave l m s) (sym (same opening)) (records opening stands);
+        records = λ opening stands. subst (λ (l : List Record). IsLogWith tells told may_leave (may_go_on opening) l m s) (sym (same opening)) (records opening stands);
         locks = none_held t none;
         telling = telling;
         places = record { commits = omega arith; numbers = λ opening stands. let f = few opening stands in omega (arith, f, ap (λ (l : List Record). length l) (same opening)) };

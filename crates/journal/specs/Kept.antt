@@ -1,6 +1,7 @@
 -- What holds of a journal whenever its lock is free.
 use Rattle.std.specs.Prelude.{◌≡◌, ℕ, ◌+◌, ◌^◌, ◌<◌, ◌≤◌, List, length, Option, None, is_some, true}
 use Rattle.log_blocks.specs.LogState.{durable_lsn}
+use Rattle.log_index.specs.GoingOn.{may_go_on}
 use Rattle.log_index.specs.declared.listing.Listing.{Listing}
 use Rattle.log_manager.specs.Managed.{Managed}
 use Rattle.media.specs.Kept.{Kept}
@@ -15,9 +16,10 @@ use Rattle.journal.specs.Locks.{AreHeld, AreAcknowledged}
 abbrev pub IsTold : (List Record → Type 0) → Type 0 → Type 0
 IsTold opens tells = (opening : List Record) → opens opening → tells
 
--- whatever log the life began with, the journal's log and its listing are those of the life
+-- Whatever log the life began with, the journal's log and its listing are those of the life. The listing knows the last record
+-- of each transaction that may go on behind that log.
 abbrev pub AreRecords : {D : Type 0} → (List Record → Type 0) → Type 0 → (D → Kept) → (D → Kept → Type 0) → List Entry → Managed D → Listing → Type 0
-AreRecords opens tells told may_leave h m s = (opening : List Record) → opens opening → IsLogWith tells told may_leave (life_log opening h) m s
+AreRecords opens tells told may_leave h m s = (opening : List Record) → opens opening → IsLogWith tells told may_leave (may_go_on opening) (life_log opening h) m s
 
 -- there is room for the commit of each transaction that is live, and LSNs
 pub record HasPlaces (opens : List Record → Type 0) (h : List Entry) (spare : ℕ) : Type 0 where

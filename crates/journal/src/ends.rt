@@ -1,5 +1,5 @@
 //! How a life ends: by a fault of its log disk. And what a call does before it enters anything.
-ghost use Rattle.std.specs.Prelude.{◌≡◌, ◌⊎◌, ◌<◌, ◌≤◌, ◌+◌, ◌-◌, ◌^◌, List, Some, None, is_some, true, IfOk, IfErr, OnErr, OnOk};
+ghost use Rattle.std.specs.Prelude.{◌≡◌, ◌⊎◌, ◌<◌, ◌≤◌, ◌+◌, ◌-◌, ◌^◌, ℕ, List, Bool, Some, None, is_some, true, IfOk, IfErr, OnErr, OnOk};
 ghost use Rattle.journal.specs.Ends.{EndsCall, IsFailed, IsStopped, IsToldEnd, IsUnread};
 ghost use Rattle.journal.specs.Lookups.{HasSpelledRecord, IsFoundIn};
 ghost use Rattle.listed_log.specs.Listed.{IsLogWith};
@@ -116,9 +116,9 @@ pub(crate) fn find<L: Disk, N: Life>(
     lsn: Lsn,
 ) -> Result<Found, Fault>
     requires runs { log.old.log.log.ended ≡ None }
-    ensures found { (rs : List Record) → IsLogWith L.tells L.told L.may_leave rs log.old.log log.old.listing → L.tells → IfOk result (IsFoundIn rs lsn) × IfErr result IsNoBadLog }
+    ensures found { (goes : ℕ → Bool) (rs : List Record) → IsLogWith L.tells L.told L.may_leave goes rs log.old.log log.old.listing → L.tells → IfOk result (IsFoundIn rs lsn) × IfErr result IsNoBadLog }
     ensures spelling { IfOk result HasSpelledRecord }
-    ensures same { (rs : List Record) → IsLogWith L.tells L.told L.may_leave rs log.old.log log.old.listing → IsLogWith L.tells L.told L.may_leave rs log.new.log log.new.listing }
+    ensures same { (goes : ℕ → Bool) (rs : List Record) → IsLogWith L.tells L.told L.may_leave goes rs log.old.log log.old.listing → IsLogWith L.tells L.told L.may_leave goes rs log.new.log log.new.listing }
     ensures places { (log.new.log.spare ≡ log.old.log.spare) × (log.new.log.log.places ≡ log.old.log.log.places) }
     ensures unread { IfErr result IsUnread }
     ensures ends { EndsCall log.new.log.log.ended faults.old.total faults.new.total counts.old counts.new result }
@@ -150,9 +150,9 @@ pub(crate) fn recycle_log<L: Disk, N: Life>(
     counts: &mut Counts<N>,
 ) -> Result<Lsn, Fault>
     requires runs { log.old.log.log.ended ≡ None }
-    ensures needed { (rs : List Record) → IsLogWith L.tells L.told L.may_leave rs log.old.log log.old.listing → IfOk result (λ lsn. (lsn ≡ first_kept log.old.log.log) ⊎ (lsn ≤ recycle_point rs)) }
-    ensures same { (rs : List Record) → IsLogWith L.tells L.told L.may_leave rs log.old.log log.old.listing → IsLogWith L.tells L.told L.may_leave rs log.new.log log.new.listing }
-    ensures rises { (rs : List Record) → IsLogWith L.tells L.told L.may_leave rs log.old.log log.old.listing → L.tells → log.old.log.log.ended ≡ None → durable_lsn log.old.log.log.places ≤ durable_lsn log.new.log.log.places }
+    ensures needed { (goes : ℕ → Bool) (rs : List Record) → IsLogWith L.tells L.told L.may_leave goes rs log.old.log log.old.listing → IfOk result (λ lsn. (lsn ≡ first_kept log.old.log.log) ⊎ (lsn ≤ recycle_point rs)) }
+    ensures same { (goes : ℕ → Bool) (rs : List Record) → IsLogWith L.tells L.told L.may_leave goes rs log.old.log log.old.listing → IsLogWith L.tells L.told L.may_leave goes rs log.new.log log.new.listing }
+    ensures rises { (goes : ℕ → Bool) (rs : List Record) → IsLogWith L.tells L.told L.may_leave goes rs log.old.log log.old.listing → L.tells → log.old.log.log.ended ≡ None → durable_lsn log.old.log.log.places ≤ durable_lsn log.new.log.log.places }
     ensures spare { log.new.log.spare ≡ log.old.log.spare }
     ensures unread { IfErr result (λ fault. fault ≡ answers.LogFault) }
     ensures ends { EndsCall log.new.log.log.ended faults.old.total faults.new.total counts.old counts.new result }

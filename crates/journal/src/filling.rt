@@ -1,5 +1,5 @@
 //! Records added to the log, and small tests of numbers.
-ghost use Rattle.std.specs.Prelude.{◌≡◌, ◌+◌, ◌<◌, ◌≤◌, ◌^◌, ◌++◌, List, [], ◌∷◌, ℕ, length, false, None, IfOk, OnOk, OnErr, IfSome, IsTrue};
+ghost use Rattle.std.specs.Prelude.{◌≡◌, ◌+◌, ◌<◌, ◌≤◌, ◌^◌, ◌++◌, List, [], ◌∷◌, ℕ, length, Bool, false, None, IfOk, OnOk, OnErr, IfSome, IsTrue};
 ghost use Rattle.std.specs.List.{All};
 ghost use Rattle.listed_log.specs.Listed.{IsLogWith, Joins};
 ghost use Rattle.log_manager.specs.Payload.{bytes_of};
@@ -27,9 +27,9 @@ pub(crate) fn append_all<L: Disk>(
     requires spelled { All HasSpelling recs.now }
     requires size { length (bytes_of recs.now) ≤ 4194304 }
     ensures lsn { IfOk result (λ lsn. lsn ≡ log.old.log.log.next) }
-    ensures more { (rs : List Record) → IsLogWith L.tells L.told L.may_leave rs log.old.log log.old.listing → AreLawful (rs ++ recs.now) → length rs < 2 ^ 62
-        → OnOk result (IsLogWith L.tells L.told L.may_leave (rs ++ recs.now) log.new.log log.new.listing) }
-    ensures same { (rs : List Record) → IsLogWith L.tells L.told L.may_leave rs log.old.log log.old.listing → OnErr result (IsLogWith L.tells L.told L.may_leave rs log.new.log log.new.listing) }
+    ensures more { (goes : ℕ → Bool) (rs : List Record) → IsLogWith L.tells L.told L.may_leave goes rs log.old.log log.old.listing → AreLawful (rs ++ recs.now) → length rs < 2 ^ 62
+        → OnOk result (IsLogWith L.tells L.told L.may_leave goes (rs ++ recs.now) log.new.log log.new.listing) }
+    ensures same { (goes : ℕ → Bool) (rs : List Record) → IsLogWith L.tells L.told L.may_leave goes rs log.old.log log.old.listing → OnErr result (IsLogWith L.tells L.told L.may_leave goes rs log.new.log log.new.listing) }
     ensures spare { log.new.log.spare ≡ log.old.log.spare }
     ensures disk { (log.new.log.log.places ≡ log.old.log.log.places) × (log.new.log.log.ended ≡ log.old.log.log.ended) }
 {

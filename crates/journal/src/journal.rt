@@ -2,6 +2,7 @@
 ghost use Rattle.std.specs.Prelude.{◌≡◌, ◌+◌, ◌<◌, ◌≤◌, ◌^◌, ℕ, suc, List, [], ◌∷◌, ◌++◌, length, map, min, true, false, Some, None, IfSome, IfNone, IsSome, IfOk, IfErr, OnOk, OnErr, IsTrue};
 ghost use Rattle.std.specs.List.{All, list_any};
 ghost use Rattle.group_filling.specs.Fitting.{AreInRange};
+ghost use Rattle.log_index.specs.GoingOn.{may_go_on};
 ghost use Rattle.log_manager.specs.Payload.{bytes_of};
 ghost use Rattle.listed_log.specs.Listed.{IsLogWith, Joins};
 ghost use Rattle.page_ops.specs.Asking.{HasNumbers, HasRoomFor, IsAskable, IsLate, IsTimely, LacksRoomFor, MayBeDeclined, MayFollow, WasTimely, can_be_late};
@@ -106,7 +107,7 @@ impl<'a, L: Disk, N: Life> Journal<'a, L, N> {
         requires begins { history ≡ [] }
         requires fresh { (mark ≡ 0) × (faults.total ≡ 0) }
         requires few { (opening : List Record) → N.opens opening → length opening ≤ 2 ^ 62 }
-        requires records { (opening : List Record) → N.opens opening → IsLogWith L.tells L.told L.may_leave opening log.log log.listing }
+        requires records { (opening : List Record) → N.opens opening → IsLogWith L.tells L.told L.may_leave (may_go_on opening) opening log.log log.listing }
         requires losers { (opening : List Record) → N.opens opening → losers ≡ map untouched (writes.losers opening) }
         requires telling { IsTold N.opens L.tells }
         ensures { result ≡ [] }

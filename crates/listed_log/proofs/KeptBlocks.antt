@@ -1,5 +1,5 @@
 -- What the log keeps: where a record stands, and which blocks are forgotten.
-use Rattle.std.proofs.Common.{◌≡◌, ℕ, zero, suc, ◌+◌, ◌<◌, ◌≤◌, List, [], ◌∷◌, ◌++◌, length, get_or, take, drop, Option, Some, None, refl, sym, ap, ◌∙◌, subst, arith, append_assoc, length-append, inl, inr}
+use Rattle.std.proofs.Common.{◌≡◌, ℕ, zero, suc, ◌+◌, ◌<◌, ◌≤◌, List, [], ◌∷◌, ◌++◌, length, get_or, take, drop, Option, Some, None, Bool, refl, sym, ap, ◌∙◌, subst, arith, append_assoc, length-append, inl, inr}
 use Rattle.std.specs.Prelude.{◌-◌, ◌⊎◌, map, Result, Ok, Err, OnOk, OnErr, IfOk, IfErr, slice_get}
 use Rattle.std.proofs.lemmas.List.{take-append-drop}
 use Rattle.media.specs.Kept.{Kept}
@@ -72,7 +72,7 @@ found_at told may_leave log rs h next lsn kept r at =
     let place : lsn ≡ suc (length h.forgotten + (lsn - first_kept log)) = omega (arith, first, kept) in
     ap (record_with rs) place ∙ ap (λ (l : List Record). slice_get l (length h.forgotten + (lsn - first_kept log))) h.is ∙ record_behind h.forgotten (h.stable ++ h.waiting) (lsn - first_kept log) r at
 
-module _ {D : Type 0} (tells : Type 0) (told : D → Kept) (may_leave : D → Kept → Type 0) (rs : List Record) (m m' : Managed D) (s : Listing) (k : IsLogWith tells told may_leave rs m s) where
+module _ {D : Type 0} (tells : Type 0) (told : D → Kept) (may_leave : D → Kept → Type 0) (goes : ℕ → Bool) (rs : List Record) (m m' : Managed D) (s : Listing) (k : IsLogWith tells told may_leave goes rs m s) where
   read_on : tells → (tells → (before : ℕ) (stable waiting : List Record) → IsLogOf told may_leave m.log before stable waiting → IsLogOf told may_leave m'.log before stable waiting) → m.log.ended ≡ None → HoldsEnd told may_leave m'.log rs
   read_on t blocks runs =
       let old = k.records t runs in
@@ -92,7 +92,7 @@ module _ {D : Type 0} (tells : Type 0) (told : D → Kept) (may_leave : D → Ke
   -- a read leaves the records, whatever comes of it
   pub kept_read : {A : Type 0} (count : D → ℕ) (result : Result A Fault) → m'.log.next ≡ m.log.next
       → (tells → (before : ℕ) (stable waiting : List Record) → IsLogOf told may_leave m.log before stable waiting → IsLogOf told may_leave m'.log before stable waiting)
-      → OnOk result ((m.log.ended ≡ None) × (m'.log.ended ≡ None)) → IfErr result (ReadRefused count m.log m'.log) → IsLogWith tells told may_leave rs m' s
+      → OnOk result ((m.log.ended ≡ None) × (m'.log.ended ≡ None)) → IfErr result (ReadRefused count m.log m'.log) → IsLogWith tells told may_leave goes rs m' s
   kept_read count result next blocks live why = record { lawful = k.lawful; listing = k.listing; noted = k.noted; next = next ∙ k.next; records = λ t runs. read_on t blocks (before count result live why runs) }
 
 -- ---- blocks that are forgotten
@@ -116,7 +116,7 @@ first_left m m' point ends is = by (before_lsn point m.log.places) ends is
         let low = subst (λ (i : ℕ). get_or (map (λ (p : Place). p.first) m.log.places) i 0 ≤ point) one (e.each n (omega arith)) in
         inr (omega (arith, first, low))
 
-module _ {D : Type 0} (tells : Type 0) (told : D → Kept) (may_leave : D → Kept → Type 0) (count : D → ℕ) (rs : List Record) (m m' : Managed D) (s : Listing) (k : IsLogWith tells told may_leave rs m s) (next : m'.log.next ≡ m.log.next) (point : ℕ) where
+module _ {D : Type 0} (tells : Type 0) (told : D → Kept) (may_leave : D → Kept → Type 0) (count : D → ℕ) (goes : ℕ → Bool) (rs : List Record) (m m' : Managed D) (s : Listing) (k : IsLogWith tells told may_leave goes rs m s) (next : m'.log.next ≡ m.log.next) (point : ℕ) where
   abbrev Blocks : Type 0
   Blocks = tells → (before : ℕ) (stable waiting : List Record) → IsLogOf told may_leave m.log before stable waiting → IsLogFrom told may_leave before (first_kept m.log) stable waiting (recycled point m.log.places) m'.log
 
@@ -150,7 +150,7 @@ module _ {D : Type 0} (tells : Type 0) (told : D → Kept) (may_leave : D → Ke
   refused_blocks _ why runs = absurd why
 
   pub kept_recycled : {A : Type 0} (result : Result A Fault) → (tells → (before : ℕ) (stable waiting : List Record) → IsLogOf told may_leave m.log before stable waiting → OnOk result (IsLogFrom told may_leave before (first_kept m.log) stable waiting (recycled point m.log.places) m'.log))
-      → OnOk result ((m.log.ended ≡ None) × (m'.log.ended ≡ None)) → IfErr result (Refused ⊥ count m.log m'.log) → IsLogWith tells told may_leave rs m' s
+      → OnOk result ((m.log.ended ≡ None) × (m'.log.ended ≡ None)) → IfErr result (Refused ⊥ count m.log m'.log) → IsLogWith tells told may_leave goes rs m' s
   kept_recycled (Ok x) blocks live why = record { lawful = k.lawful; listing = k.listing; noted = k.noted; next = next ∙ k.next; records = λ t runs. left_blocks t blocks live.0 }
   kept_recycled (Err fault) blocks live why = record { lawful = k.lawful; listing = k.listing; noted = k.noted; next = next ∙ k.next; records = λ t runs. refused_blocks fault why runs }
 
@@ -167,7 +167,7 @@ module _ {D : Type 0} (tells : Type 0) (told : D → Kept) (may_leave : D → Ke
 
 -- ---- what a read finds
 
-module _ {D : Type 0} (tells : Type 0) (told : D → Kept) (may_leave : D → Kept → Type 0) (count : D → ℕ) (rs : List Record) (m m' : Managed D) (s : Listing) (k : IsLogWith tells told may_leave rs m s) (lsn : ℕ) (kept : first_kept m.log ≤ lsn) (t : tells) where
+module _ {D : Type 0} (tells : Type 0) (told : D → Kept) (may_leave : D → Kept → Type 0) (count : D → ℕ) (goes : ℕ → Bool) (rs : List Record) (m m' : Managed D) (s : Listing) (k : IsLogWith tells told may_leave goes rs m s) (lsn : ℕ) (kept : first_kept m.log ≤ lsn) (t : tells) where
   pub found_in : (result : Result Record Fault) → ((before : ℕ) (stable waiting : List Record) → IsLogOf told may_leave m.log before stable waiting → IfOk result (IsAt (stable ++ waiting) (lsn - first_kept m.log)) × IfErr result IsNoBadLog)
       → OnOk result ((m.log.ended ≡ None) × (m'.log.ended ≡ None)) → IfErr result (ReadRefused count m.log m'.log) → IfOk result (λ r. record_with rs lsn ≡ Some r) × IfErr result IsNoBadLog
   found_in (Ok r) found live why = let old = k.records t live.0 in (found_at told may_leave m.log rs old k.next lsn kept r (found (last_checkpoint old.forgotten) old.stable old.waiting old.blocks).0, tt)

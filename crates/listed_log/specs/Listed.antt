@@ -1,14 +1,14 @@
 -- A log and its listing, and of which records they are.
-use Rattle.std.specs.Prelude.{◌≡◌, ℕ, suc, List, [], ◌∷◌, ◌++◌, length, None, false}
-use Rattle.std.specs.List.{list_any}
+use Rattle.std.specs.Prelude.{◌≡◌, ℕ, suc, List, [], ◌∷◌, ◌++◌, length, None, Bool, false}
 use Rattle.media.specs.Kept.{Kept}
 use Rattle.log_blocks.specs.LogState.{LogState}
-use Rattle.log_index.specs.Listing.{IsListingOf, IsReady, noted}
+use Rattle.log_index.specs.GoingOn.{KnowsLast}
+use Rattle.log_index.specs.Listing.{IsListingOf, IsReady}
 use Rattle.log_index.specs.Ready.{is_upkeep, makes_page}
 use Rattle.log_index.specs.declared.listing.Listing.{Listing}
 use Rattle.log_manager.specs.Managed.{Managed}
 use Rattle.log_manager.specs.Records.{IsLogOf}
-use Rattle.wal_record.specs.Chains.{finishes, last, link_of}
+use Rattle.wal_record.specs.Chains.{link_of}
 use Rattle.wal_record.specs.Checkpoints.{last_checkpoint}
 use Rattle.wal_record.specs.Sound.{AreLawful}
 use Rattle.wal_record.specs.declared.record.Record.{Record}
@@ -22,12 +22,12 @@ pub record HoldsEnd {D : Type 0} (told : D → Kept) (may_leave : D → Kept →
   pub is : rs ≡ forgotten ++ (stable ++ waiting)
   pub blocks : IsLogOf told may_leave log (last_checkpoint forgotten) stable waiting
 
--- The log has these records, until a device call fails, and the listing is theirs. What it noted last of a transaction
--- is its last record, as long as that one isn't over.
-pub record IsLogWith {D : Type 0} (tells : Type 0) (told : D → Kept) (may_leave : D → Kept → Type 0) (rs : List Record) (m : Managed D) (s : Listing) : Type 0 where
+-- The log has these records, until a device call fails, and the listing is theirs. It knows the last record of each of
+-- these transactions that goes on.
+pub record IsLogWith {D : Type 0} (tells : Type 0) (told : D → Kept) (may_leave : D → Kept → Type 0) (goes : ℕ → Bool) (rs : List Record) (m : Managed D) (s : Listing) : Type 0 where
   pub lawful : AreLawful rs
   pub listing : IsListingOf rs s
-  pub noted : (t : ℕ) → list_any (finishes t) rs ≡ false → noted s t ≡ last rs t
+  pub noted : KnowsLast goes rs s
   pub next : m.log.next ≡ suc (length rs)
   pub records : tells → m.log.ended ≡ None → HoldsEnd told may_leave m.log rs
 

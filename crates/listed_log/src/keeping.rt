@@ -1,5 +1,5 @@
 //! What the log keeps of its records: read, and forgotten.
-ghost use Rattle.std.specs.Prelude.{◌≡◌, ◌⊎◌, ◌<◌, ◌≤◌, List, None, Some, OnOk, IfOk, IfErr};
+ghost use Rattle.std.specs.Prelude.{◌≡◌, ◌⊎◌, ◌<◌, ◌≤◌, ℕ, List, Bool, None, Some, OnOk, IfOk, IfErr};
 ghost use Rattle.log_blocks.specs.LogState.{Refused, durable_lsn};
 ghost use Rattle.log_manager.specs.Managed.{IsNoBadLog, ReadRefused, first_kept};
 ghost use Rattle.wal_record.specs.Chains.{record_with};
@@ -25,9 +25,9 @@ impl<L: Disk> ListedLog<L> {
     /// The record of an LSN that the log keeps. The records stay the same, whatever comes of it.
     pub fn read(&mut self, alloc: Global, lsn: Lsn) -> Result<Record, Fault>
         requires kept { (first_kept self.old.log.log ≤ lsn) × (lsn < self.old.log.log.next) }
-        ensures found { L.tells → (rs : List Record) → IsLogWith L.tells L.told L.may_leave rs self.old.log self.old.listing → IfOk result (λ r. record_with rs lsn ≡ Some r) × IfErr result IsNoBadLog }
+        ensures found { L.tells → (goes : ℕ → Bool) (rs : List Record) → IsLogWith L.tells L.told L.may_leave goes rs self.old.log self.old.listing → IfOk result (λ r. record_with rs lsn ≡ Some r) × IfErr result IsNoBadLog }
         ensures spelling { IfOk result HasSpelling }
-        ensures same { (rs : List Record) → IsLogWith L.tells L.told L.may_leave rs self.old.log self.old.listing → IsLogWith L.tells L.told L.may_leave rs self.new.log self.new.listing }
+        ensures same { (goes : ℕ → Bool) (rs : List Record) → IsLogWith L.tells L.told L.may_leave goes rs self.old.log self.old.listing → IsLogWith L.tells L.told L.may_leave goes rs self.new.log self.new.listing }
         ensures rest { self.new ≡ record self.old { log = record self.old.log { log = record self.old.log.log { device = self.new.log.log.device; ended = self.new.log.log.ended } } } }
         ensures live { OnOk result ((self.old.log.log.ended ≡ None) × (self.new.log.log.ended ≡ None)) }
         ensures refused { IfErr result (ReadRefused L.faults self.old.log.log self.new.log.log) }
@@ -41,10 +41,10 @@ impl<L: Disk> ListedLog<L> {
     pub fn recycle(&mut self) -> Result<Lsn, Fault>
         ensures first { IfOk result (λ lsn. lsn ≡ first_kept self.new.log.log) }
         // Nothing is forgotten that is needed.
-        ensures needed { (rs : List Record) → IsLogWith L.tells L.told L.may_leave rs self.old.log self.old.listing → IfOk result (λ lsn. (lsn ≡ first_kept self.old.log.log) ⊎ (lsn ≤ recycle_point rs)) }
-        ensures same { (rs : List Record) → IsLogWith L.tells L.told L.may_leave rs self.old.log self.old.listing → IsLogWith L.tells L.told L.may_leave rs self.new.log self.new.listing }
+        ensures needed { (goes : ℕ → Bool) (rs : List Record) → IsLogWith L.tells L.told L.may_leave goes rs self.old.log self.old.listing → IfOk result (λ lsn. (lsn ≡ first_kept self.old.log.log) ⊎ (lsn ≤ recycle_point rs)) }
+        ensures same { (goes : ℕ → Bool) (rs : List Record) → IsLogWith L.tells L.told L.may_leave goes rs self.old.log self.old.listing → IsLogWith L.tells L.told L.may_leave goes rs self.new.log self.new.listing }
         // What is stable stays so.
-        ensures rises { (rs : List Record) → IsLogWith L.tells L.told L.may_leave rs self.old.log self.old.listing → L.tells → self.old.log.log.ended ≡ None → durable_lsn self.old.log.log.places ≤ durable_lsn self.new.log.log.places }
+        ensures rises { (goes : ℕ → Bool) (rs : List Record) → IsLogWith L.tells L.told L.may_leave goes rs self.old.log self.old.listing → L.tells → self.old.log.log.ended ≡ None → durable_lsn self.old.log.log.places ≤ durable_lsn self.new.log.log.places }
         ensures spare { self.new.log.spare ≡ self.old.log.spare }
         ensures next { self.new.log.log.next ≡ self.old.log.log.next }
         ensures listing { self.new.listing ≡ self.old.listing }

@@ -5,7 +5,9 @@
 //! added to the one is noted in the other, in one call that is done whole or not at all.
 //!
 //! Contracts see both side by side. `IsLogWith` of `specs/Listed` says of which records they are: the listing is
-//! theirs, and the blocks have the last of them, stable ones and waiting ones. What is promised:
+//! theirs, and the blocks have the last of them, stable ones and waiting ones. It also names the transactions of which the
+//! listing knows the last record, by any test: a log that was read from a Checkpoint on doesn't tell it of those that undid
+//! all their writes and lost their End, and nobody adds a record to them. What is promised:
 //!
 //! 1. [`ListedLog::append_group`] adds one record, or two that stand together, all in one block. Of a lawful log, it is then the
 //!    longer log with its listing. After a refusal both are of the same records as before.

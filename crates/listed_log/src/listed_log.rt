@@ -1,8 +1,9 @@
 //! The log and its listing.
-ghost use Rattle.std.specs.Prelude.{◌≡◌, ◌+◌, ◌-◌, ◌<◌, ◌≤◌, ◌^◌, ◌++◌, ◌∷◌, [], ℕ, List, length, None, false, OnOk, OnErr, IfOk, IfErr};
+ghost use Rattle.std.specs.Prelude.{◌≡◌, ◌+◌, ◌-◌, ◌<◌, ◌≤◌, ◌^◌, ◌++◌, ◌∷◌, [], ℕ, List, length, None, Bool, true, false, OnOk, OnErr, IfOk, IfErr};
 ghost use Rattle.std.specs.List.{All, list_any};
 ghost use Rattle.log_blocks.specs.LogState.{Refused, durable_lsn};
-ghost use Rattle.log_index.specs.Listing.{IsListingOf, noted};
+ghost use Rattle.log_index.specs.GoingOn.{KnowsLast};
+ghost use Rattle.log_index.specs.Listing.{IsListingOf};
 ghost use Rattle.log_manager.specs.Managed.{NotAdded};
 ghost use Rattle.log_manager.specs.Payload.{bytes_of};
 ghost use Rattle.log_manager.specs.Records.{IsLogOf};
@@ -33,8 +34,8 @@ impl<L: Disk> ListedLog<L> {
     /// Both of the same records.
     pub fn new(log: LogManager<L>, listing: Listing) -> ListedLog<L>
         ensures same { (result.log ≡ log) × (result.listing ≡ listing) }
-        ensures records { (rs : List Record) → AreLawful rs → IsListingOf rs listing → ((t : ℕ) → list_any (finishes t) rs ≡ false → noted listing t ≡ last rs t)
-            → log.log.next ≡ length rs + 1 → (L.tells → log.log.ended ≡ None → HoldsEnd L.told L.may_leave log.log rs) → IsLogWith L.tells L.told L.may_leave rs log listing }
+        ensures records { (goes : ℕ → Bool) (rs : List Record) → AreLawful rs → IsListingOf rs listing → KnowsLast goes rs listing
+            → log.log.next ≡ length rs + 1 → (L.tells → log.log.ended ≡ None → HoldsEnd L.told L.may_leave log.log rs) → IsLogWith L.tells L.told L.may_leave goes rs log listing }
     {
         ListedLog { log, listing }
     }
@@ -46,9 +47,9 @@ impl<L: Disk> ListedLog<L> {
         &self.listing
     }
 
-    /// The LSN of the last record of a transaction that isn't over, 0 for none.
+    /// The LSN of the last record of a transaction that goes on and isn't over, 0 for none.
     pub fn last_of(&self, tx: TxId) -> Lsn
-        ensures { (rs : List Record) → IsLogWith L.tells L.told L.may_leave rs self.now.log self.now.listing → list_any (finishes tx) rs ≡ false → result ≡ last rs tx }
+        ensures { (goes : ℕ → Bool) (rs : List Record) → IsLogWith L.tells L.told L.may_leave goes rs self.now.log self.now.listing → goes tx ≡ true → list_any (finishes tx) rs ≡ false → result ≡ last rs tx }
     {
         self.listing.noted(tx)
     }
@@ -56,7 +57,7 @@ impl<L: Disk> ListedLog<L> {
     /// The LSN of the last record, 0 where there is none.
     pub fn last(&self) -> Lsn
         ensures next { result ≡ self.now.log.log.next - 1 }
-        ensures length { (rs : List Record) → IsLogWith L.tells L.told L.may_leave rs self.now.log self.now.listing → result ≡ length rs }
+        ensures length { (goes : ℕ → Bool) (rs : List Record) → IsLogWith L.tells L.told L.may_leave goes rs self.now.log self.now.listing → result ≡ length rs }
     {
         self.log.last()
     }
@@ -89,9 +90,9 @@ impl<L: Disk> ListedLog<L> {
         requires spelled { All HasSpelling recs.now }
         requires size { length (bytes_of recs.now) ≤ MOST_BYTES }
         ensures lsn { IfOk result (λ lsn. lsn ≡ self.old.log.log.next) }
-        ensures more { (rs : List Record) → IsLogWith L.tells L.told L.may_leave rs self.old.log self.old.listing → AreLawful (rs ++ recs.now) → length rs < 2 ^ 62
-            → OnOk result (IsLogWith L.tells L.told L.may_leave (rs ++ recs.now) self.new.log self.new.listing) }
-        ensures same { (rs : List Record) → IsLogWith L.tells L.told L.may_leave rs self.old.log self.old.listing → OnErr result (IsLogWith L.tells L.told L.may_leave rs self.new.log self.new.listing) }
+        ensures more { (goes : ℕ → Bool) (rs : List Record) → IsLogWith L.tells L.told L.may_leave goes rs self.old.log self.old.listing → AreLawful (rs ++ recs.now) → length rs < 2 ^ 62
+            → OnOk result (IsLogWith L.tells L.told L.may_leave goes (rs ++ recs.now) self.new.log self.new.listing) }
+        ensures same { (goes : ℕ → Bool) (rs : List Record) → IsLogWith L.tells L.told L.may_leave goes rs self.old.log self.old.listing → OnErr result (IsLogWith L.tells L.told L.may_leave goes rs self.new.log self.new.listing) }
         ensures spare { self.new.log.spare ≡ self.old.log.spare }
         ensures disk { (self.new.log.log.device ≡ self.old.log.log.device) × (self.new.log.log.places ≡ self.old.log.log.places) × (self.new.log.log.ended ≡ self.old.log.log.ended) }
         ensures refused { IfErr result (NotAdded self.old.log.log) }
@@ -118,8 +119,8 @@ impl<L: Disk> ListedLog<L> {
         requires spare { 1 ≤ self.old.log.spare }
         requires spelled { HasSpelling (kinds.Commit (record { tx = tx; prev = prev })) }
         ensures lsn { result ≡ self.old.log.log.next }
-        ensures more { (rs : List Record) → IsLogWith L.tells L.told L.may_leave rs self.old.log self.old.listing → AreLawful (rs ++ kinds.Commit (record { tx = tx; prev = prev }) ∷ []) → length rs < 2 ^ 63
-            → IsLogWith L.tells L.told L.may_leave (rs ++ kinds.Commit (record { tx = tx; prev = prev }) ∷ []) self.new.log self.new.listing }
+        ensures more { (goes : ℕ → Bool) (rs : List Record) → IsLogWith L.tells L.told L.may_leave goes rs self.old.log self.old.listing → AreLawful (rs ++ kinds.Commit (record { tx = tx; prev = prev }) ∷ []) → length rs < 2 ^ 63
+            → IsLogWith L.tells L.told L.may_leave goes (rs ++ kinds.Commit (record { tx = tx; prev = prev }) ∷ []) self.new.log self.new.listing }
         ensures next { self.new.log.log.next ≡ self.old.log.log.next + 1 }
         ensures spare { self.new.log.spare + 1 ≡ self.old.log.spare }
         ensures disk { (self.new.log.log.device ≡ self.old.log.log.device) × (self.new.log.log.places ≡ self.old.log.log.places) × (self.new.log.log.ended ≡ self.old.log.log.ended) }
@@ -132,10 +133,10 @@ impl<L: Disk> ListedLog<L> {
     /// Makes all records up to this LSN stable. The records stay the same, whatever comes of it.
     pub fn flush_to(&mut self, lsn: Lsn) -> Result<(), Fault>
         requires { lsn < self.old.log.log.next }
-        ensures same { (rs : List Record) → IsLogWith L.tells L.told L.may_leave rs self.old.log self.old.listing → IsLogWith L.tells L.told L.may_leave rs self.new.log self.new.listing }
+        ensures same { (goes : ℕ → Bool) (rs : List Record) → IsLogWith L.tells L.told L.may_leave goes rs self.old.log self.old.listing → IsLogWith L.tells L.told L.may_leave goes rs self.new.log self.new.listing }
         ensures durable { OnOk result (lsn ≤ durable_lsn self.new.log.log.places) }
         // What is stable stays so.
-        ensures rises { (rs : List Record) → IsLogWith L.tells L.told L.may_leave rs self.old.log self.old.listing → L.tells → self.old.log.log.ended ≡ None → durable_lsn self.old.log.log.places ≤ durable_lsn self.new.log.log.places }
+        ensures rises { (goes : ℕ → Bool) (rs : List Record) → IsLogWith L.tells L.told L.may_leave goes rs self.old.log self.old.listing → L.tells → self.old.log.log.ended ≡ None → durable_lsn self.old.log.log.places ≤ durable_lsn self.new.log.log.places }
         ensures spare { self.new.log.spare ≡ self.old.log.spare }
         ensures next { self.new.log.log.next ≡ self.old.log.log.next }
         ensures live { OnOk result ((self.old.log.log.ended ≡ None) × (self.new.log.log.ended ≡ None)) }

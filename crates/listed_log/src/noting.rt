@@ -1,8 +1,8 @@
 //! One record or two that stand together, noted in a listing.
-ghost use Rattle.std.specs.Prelude.{◌≡◌, ◌+◌, ◌<◌, ◌≤◌, ◌^◌, ◌++◌, ℕ, List, length, false, OnOk};
-ghost use Rattle.std.specs.List.{All, list_any};
+ghost use Rattle.std.specs.Prelude.{◌≡◌, ◌+◌, ◌<◌, ◌≤◌, ◌^◌, ◌++◌, ℕ, List, length, Bool, OnOk};
+ghost use Rattle.std.specs.List.{All};
+ghost use Rattle.log_index.specs.GoingOn.{KnowsLast};
 ghost use Rattle.log_index.specs.Listing.{IsListingOf, noted};
-ghost use Rattle.wal_record.specs.Chains.{finishes, last};
 ghost use Rattle.wal_record.specs.Rules.{HasSpelling};
 ghost use Rattle.wal_record.specs.Sound.{AreLawful};
 ghost use Rattle.wal_record.specs.declared.record.Record.{Record};
@@ -37,8 +37,7 @@ pub(crate) fn note_all(listing: &mut Listing, lsn: Lsn, recs: &[Record])
     requires spelled { All HasSpelling recs.now }
     requires ready { AreReady recs.now listing.old }
     ensures more { (log : List Record) → IsListingOf log listing.old → AreLawful (log ++ recs.now) → lsn ≡ length log + 1 → length log < 2 ^ 62 → IsListingOf (log ++ recs.now) listing.new }
-    ensures noted { (log : List Record) → lsn ≡ length log + 1 → length log < 2 ^ 62 → ((t : ℕ) → list_any (finishes t) log ≡ false → noted listing.old t ≡ last log t)
-        → (t : ℕ) → list_any (finishes t) (log ++ recs.now) ≡ false → noted listing.new t ≡ last (log ++ recs.now) t }
+    ensures noted { (goes : ℕ → Bool) (log : List Record) → lsn ≡ length log + 1 → length log < 2 ^ 62 → KnowsLast goes log listing.old → KnowsLast goes (log ++ recs.now) listing.new }
 {
     match recs {
         [one] => listing.note(lsn, one),

@@ -11,13 +11,13 @@ use Rattle.log_index.specs.Noted.{NotedLaw}
 over : (a n m : ℕ) (b : Bool) → b ≡ false → cond b 0 n ≡ cond b m n
 over a n m b e = ap (λ (c : Bool). cond c 0 n) e ∙ sym (ap (λ (c : Bool). cond c m n) e)
 
-same : (log : List Record) (t : ℕ) (r : Record) → finishes t r ≡ false → (n : ℕ) → noted_step (length log + 1) t n r ≡ cond (is_link_of t (link_of r)) (length log + 1) n
-same log t (kinds.Write w) e n = refl
-same log t (kinds.Apply w) e n = refl
-same log t (kinds.Undo w) e n = refl
-same log t (kinds.Commit c) e n = over 0 n (length log + 1) (eqb c.tx t) e
-same log t (kinds.End c) e n = over 0 n (length log + 1) (eqb c.tx t) e
-same log t _ e n = refl
+pub noted_by_link : (log : List Record) (t : ℕ) (r : Record) → finishes t r ≡ false → (n : ℕ) → noted_step (length log + 1) t n r ≡ cond (is_link_of t (link_of r)) (length log + 1) n
+noted_by_link log t (kinds.Write w) e n = refl
+noted_by_link log t (kinds.Apply w) e n = refl
+noted_by_link log t (kinds.Undo w) e n = refl
+noted_by_link log t (kinds.Commit c) e n = over 0 n (length log + 1) (eqb c.tx t) e
+noted_by_link log t (kinds.End c) e n = over 0 n (length log + 1) (eqb c.tx t) e
+noted_by_link log t _ e n = refl
 
 pub noted_kept : (log : List Record) (r : Record) (t : ℕ) → NotedLaw log r t
-noted_kept log r t = record { kept = λ e n h. same log t r e n ∙ ap (λ (m : ℕ). cond (is_link_of t (link_of r)) (length log + 1) m) h ∙ sym (last_push log r t) }
+noted_kept log r t = record { kept = λ e n h. noted_by_link log t r e n ∙ ap (λ (m : ℕ). cond (is_link_of t (link_of r)) (length log + 1) m) h ∙ sym (last_push log r t) }

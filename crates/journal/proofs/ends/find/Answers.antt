@@ -4,4 +4,4 @@ use Rattle.journal.proofs.Lookup.{run_of}
 use Rattle.journal.proofs.ends.find.Goals as goal
 
 pub returns-in-Some-clause-found : goal.returns-in-Some-clause-found
-returns-in-Some-clause-found g c rs k tells = (run_of rs c.args.lsn c.in-Some.run' (sym c.in-Some.is ∙ c.run_at.ensures rs (subst (IsListingOf rs) (sym c.listing.ensures) k.listing) k.lawful), tt)
+returns-in-Some-clause-found g c goes rs k tells = (run_of rs c.args.lsn c.in-Some.run' (sym c.in-Some.is ∙ c.run_at.ensures rs (subst (IsListingOf rs) (sym c.listing.ensures) k.listing) k.lawful), tt)

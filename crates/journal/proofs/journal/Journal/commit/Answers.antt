@@ -111,7 +111,7 @@ returns-clause-entered g c =
     let fine = sym c.is_err.ensures.value ∙ c.if-is_err.false in
     let acked = done.history ∙ (λ i. c.enter_commit.new.self ++ entries.Acked (c.enter_commit.ensures.right i).session (c.enter_commit.ensures.right i).tx ∷ []) ∙ (λ i. c.enter_commit.new.self ++ entries.Acked (watch.right i).session (watch.right i).tx ∷ []) in
     let least = on_ok c.flush_to.result fine c.flush_to.ensures.durable in
-    let number = number_is g.N.Life.opens g.L.Disk.tells g.L.Disk.told g.L.Disk.may_leave c.self.inside.history h c.self.inside.log.log c.commit-lsn.new.self.log c.flush_to.new.self.log c.self.inside.log.listing c.commit-lsn.new.self.listing c.flush_to.new.self.listing c.self.inside.locks c.self.inside.marked k.life watch.same c.watch_session.new.s l c.tx-tx.result c.in_range-prev.result c.commit-lsn.result c.last_of.result c.tx-tx.ensures (subst (λ (n : ℕ). n ≤ 2 ^ 62) (sym (ap (λ x. x.tx) watch.right)) (watch.number c.requires.active)) c.in_range-prev.ensures.low c.last_of.ensures c.in_range-prev.ensures.same c.commit-lsn.ensures.lsn c.commit-lsn.ensures.more c.commit-lsn.ensures.spare c.commit-lsn.ensures.disk.1 c.commit-lsn.ensures.disk.2 c.release_all.new.self c.release_all.ensures.released c.enter_commit.new.self c.enter_commit.ensures.history c.enter_commit.ensures.live runs c.flush_to.ensures.same c.flush_to.ensures.spare c.flush_to.ensures.rises c.commits.result (λ rs has. c.commits.ensures rs (subst (IsListingOf rs) (sym c.listing.ensures) has.listing)) in
+    let number = number_is g.N.Life.opens g.L.Disk.tells g.L.Disk.told g.L.Disk.may_leave c.self.inside.history h c.self.inside.log.log c.commit-lsn.new.self.log c.flush_to.new.self.log c.self.inside.log.listing c.commit-lsn.new.self.listing c.flush_to.new.self.listing c.self.inside.locks c.self.inside.marked k.life watch.same c.watch_session.new.s l c.tx-tx.result c.in_range-prev.result c.commit-lsn.result c.last_of.result c.tx-tx.ensures (subst (λ (n : ℕ). n ≤ 2 ^ 62) (sym (ap (λ x. x.tx) watch.right)) (watch.number c.requires.active)) c.in_range-prev.ensures.low c.last_of.ensures c.in_range-prev.ensures.same c.commit-lsn.ensures.lsn c.commit-lsn.ensures.more c.commit-lsn.ensures.spare c.commit-lsn.ensures.disk.1 c.commit-lsn.ensures.disk.2 c.release_all.new.self c.release_all.ensures.released c.enter_commit.new.self c.enter_commit.ensures.history c.enter_commit.ensures.live runs c.flush_to.ensures.same c.flush_to.ensures.spare c.flush_to.ensures.rises c.commits.result (λ goes rs has. c.commits.ensures rs (subst (IsListingOf rs) (sym c.listing.ensures) has.listing)) in
     commits_then g.N.Life.opens g.N.Life.entries g.N.Life.session_entries g.N.Life.log_faults _ _ _ c.enter_commit.new.counts _ _ _ _ _ h c.enter_commit.new.self c.commit-lsn.result c.in_range-prev.result watch.seen watch.counts c.in_ok-check_open.ensures.open.1 watch.right (watch.pass ∙ sym watch.same)
     first c.enter_commit.ensures.counts c.enter_commit.ensures.counted whole c.enter_commit.ensures.agrees c.acknowledge.new.counts _ c.look-2.new.pass _ _ c.acknowledge.new.self _ acked done.counts last.counts done.consistent done.agrees (tell.log ∙ last.pass)
     (omega (arith, last.durable, tell.before)) (c.length.ensures ∙ ap (λ (y : List Entry). length y) last.same) number (omega (arith, least, c.durable.ensures, tell.told))

@@ -30,7 +30,7 @@ invariant_of-self-in_err-lsn g c =
     let done = c.append_all.ensures in (
       c.self.invariant.0,
       kept_refused _ _ _ _ _ _ c.self.inside.log.log c.append_all.new.log.log c.self.inside.log.listing c.append_all.new.log.listing c.self.inside.locks c.self.inside.locks _ c.self.inside.faults.total c.self.inside.faults.total c.self.invariant.1 refl refl done.spare done.disk.0 done.disk.1
-          (λ opening stands. c.in_err-lsn.ensures.same _ (c.self.invariant.1.life.records opening stands)),
+          (λ opening stands. c.in_err-lsn.ensures.same _ _ (c.self.invariant.1.life.records opening stands)),
       restored_kept c.self.inside.history c.self.inside.restored c.prepare_group.new.places c.self.invariant.2 c.prepare_group.ensures.same,
       c.self.invariant.3,
     )
@@ -46,7 +46,7 @@ invariant_of-self-2 g c =
       kept_group _ _ _ _ _ _ c.self.inside.log.log _ c.self.inside.log.listing _ c.self.inside.locks c.self.inside.locks _ c.self.inside.faults.total c.self.inside.faults.total k refl lsn c.args.recs.now c.args.said.now c.enter_group.ensures.history (c.is_fit.ensures c.if-not-is_fit.false).still c.requires.few done.disk.1 done.disk.0 done.spare c.enter_group.ensures.live next
           (λ opening stands.
           let at = next opening stands in
-          done.more (life_log opening c.self.inside.history) (k.life.records opening stands)
+          done.more _ (life_log opening c.self.inside.history) (k.life.records opening stands)
           (subst (λ (h : List Entry). AreLawful (life_log opening h ++ c.args.recs.now)) (sym c.self.view_is) (follows.lawful opening stands)) (omega (arith, at.0, at.1))),
       restored_same _ _ c.note_group.new.places (c.note_group.ensures c.self.inside.history lsn c.args.said.now (restored_kept c.self.inside.history c.self.inside.restored c.prepare_group.new.places c.self.invariant.2 c.prepare_group.ensures.same) c.length-before.ensures) c.enter_group.ensures.history,
       losers_group g.N.Life.opens c.self.inside.history _ c.self.inside.losers c.note_undone.new.losers c.self.invariant.3 lsn c.args.recs.now c.args.said.now c.enter_group.ensures.history c.note_undone.ensures.txs

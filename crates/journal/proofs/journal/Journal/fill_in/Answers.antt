@@ -23,7 +23,7 @@ enter_filled-requires-clause-follows g c lsn next =
     (λ opening stands runs.
     let at =
     known_at g.N.Life.opens g.L.Disk.tells g.L.Disk.told g.L.Disk.may_leave c.self.inside.history c.args.self.now c.self.inside.log.log c.self.inside.log.listing _ _ c.self.invariant.1.life.records c.self.view_is c.listing.ensures c.last-last.ensures.length opening stands in
-    c.fill-before.ensures.told _ at.0 at.1 (few_pages g.N.Life.opens c.args.self.now c.requires.consistent opening stands) runs)
+    c.fill-before.ensures.told _ _ at.0 at.1 (few_pages g.N.Life.opens c.args.self.now c.requires.consistent opening stands) runs)
     next)
 
 pub returns-in-Ok-clause-entered : goal.returns-in-Ok-clause-entered

@@ -4,4 +4,4 @@ use Rattle.wal_record.specs.declared.entry.Entry.{Entry}
 use Rattle.journal.proofs.journal.Journal.last.Goals as goal
 
 pub returns : goal.returns
-returns g c opening stands = c.last.ensures.length (life_log opening c.self.inside.history) (c.self.invariant.1.life.records opening stands) ∙ ap (λ (h : List Entry). length (life_log opening h)) c.self.view_is
+returns g c opening stands = c.last.ensures.length _ (life_log opening c.self.inside.history) (c.self.invariant.1.life.records opening stands) ∙ ap (λ (h : List Entry). length (life_log opening h)) c.self.view_is

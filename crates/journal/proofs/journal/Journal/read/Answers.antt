@@ -20,7 +20,7 @@ invariant_of-self g c =
     let read = c.find.ensures in (
       c.self.invariant.0,
       kept_call g.N.Life.opens g.L.Disk.tells g.L.Disk.told g.L.Disk.may_leave c.self.inside.history c.look.new.self c.self.inside.log.log c.find.new.log.log c.self.inside.log.listing c.find.new.log.listing c.self.inside.locks c.self.inside.marked c.self.inside.faults.total
-          c.check_open.new.faults.total c.find.new.faults.total k c.look.ensures.same c.check_open.ensures.total c.in-Ok.ensures.open.0 read.same read.places.0 (λ rs has tells runs. subst (λ ps. durable_lsn c.self.inside.log.log.log.places ≤ durable_lsn ps) (sym read.places.1) (omega arith))
+          c.check_open.new.faults.total c.find.new.faults.total k c.look.ensures.same c.check_open.ensures.total c.in-Ok.ensures.open.0 read.same read.places.0 (λ goes rs has tells runs. subst (λ ps. durable_lsn c.self.inside.log.log.log.places ≤ durable_lsn ps) (sym read.places.1) (omega arith))
           c.check_open.new.counts c.find.new.counts c.find.result read.ends,
       restored_same c.self.inside.history _ c.self.inside.restored c.self.invariant.2 c.look.ensures.same,
       losers_same g.N.Life.opens c.self.inside.history _ c.self.inside.losers c.self.inside.losers c.self.invariant.3 c.look.ensures.same,
@@ -42,9 +42,9 @@ returns-in-Ok-clause-ends g c =
 pub returns-in-Ok-clause-found : goal.returns-in-Ok-clause-found
 returns-in-Ok-clause-found g c =
     let k = c.self.invariant.1.life in
-    found_told g.N.Life.opens c.look.new.pass.log c.self.inside.history c.look.ensures.pass c.args.lsn c.find.result c.find.ensures.spelling (λ opening stands. c.find.ensures.found (life_log opening c.self.inside.history) (k.records opening stands) (k.telling opening stands))
+    found_told g.N.Life.opens c.look.new.pass.log c.self.inside.history c.look.ensures.pass c.args.lsn c.find.result c.find.ensures.spelling (λ opening stands. c.find.ensures.found _ (life_log opening c.self.inside.history) (k.records opening stands) (k.telling opening stands))
 
 pub returns-in-Ok-clause-refused : goal.returns-in-Ok-clause-refused
 returns-in-Ok-clause-refused g c =
     let k = c.self.invariant.1.life in
-    unread_told g.N.Life.opens c.look.new.pass.log c.self.inside.history c.look.ensures.pass c.args.lsn c.find.result c.find.ensures.unread (λ opening stands. c.find.ensures.found (life_log opening c.self.inside.history) (k.records opening stands) (k.telling opening stands))
+    unread_told g.N.Life.opens c.look.new.pass.log c.self.inside.history c.look.ensures.pass c.args.lsn c.find.result c.find.ensures.unread (λ opening stands. c.find.ensures.found _ (life_log opening c.self.inside.history) (k.records opening stands) (k.telling opening stands))

@@ -2,6 +2,6 @@ use Rattle.listed_log.proofs.Adding.{added_one}
 use Rattle.listed_log.proofs.listed_log.ListedLog.commit.Goals as goal
 
 pub returns-clause-more : goal.returns-clause-more
-returns-clause-more g c rs k lawful few =
-    added_one _ _ _ rs _ _ c.append_commit-lsn.result _ _ _ k lawful c.append_commit-lsn.ensures.lsn
+returns-clause-more g c goes rs k lawful few =
+    added_one _ _ _ goes rs _ _ c.append_commit-lsn.result _ _ _ k lawful c.append_commit-lsn.ensures.lsn
     (λ place. c.note.ensures.more rs k.listing lawful place few) c.note.ensures.noted c.append_commit-lsn.ensures.added.0 c.append_commit-lsn.ensures.records

@@ -3,12 +3,12 @@ use Rattle.listed_log.proofs.Adding.{flushed}
 use Rattle.listed_log.proofs.listed_log.ListedLog.flush_to.Goals as goal
 
 pub returns-clause-same : goal.returns-clause-same
-returns-clause-same g c rs k =
+returns-clause-same g c goes rs k =
     let flush = c.flush_to.ensures in
-    flushed _ _ _ rs _ g.L.Disk.faults _ _ c.flush_to.result k flush.next.0 flush.records flush.live flush.refused
+    flushed _ _ _ goes rs _ g.L.Disk.faults _ _ c.flush_to.result k flush.next.0 flush.records flush.live flush.refused
 
 pub returns-clause-rises : goal.returns-clause-rises
-returns-clause-rises g c rs k tells runs =
+returns-clause-rises g c goes rs k tells runs =
     let flush = c.flush_to.ensures in
     let held = k.records tells runs in
     let left = (flush.left tells _ held.stable held.waiting held.blocks).durable in

@@ -6,26 +6,26 @@ use Rattle.listed_log.proofs.KeptBlocks.{first_left, kept_recycled, needed_left,
 use Rattle.listed_log.proofs.listed_log.ListedLog.recycle.Goals as goal
 
 pub returns-in-Ok-clause-needed : goal.returns-in-Ok-clause-needed
-returns-in-Ok-clause-needed g c rs k =
+returns-in-Ok-clause-needed g c goes rs k =
     let drop = c.recycle_to.ensures in
     needed_left (first_kept c.args.self.now.log.log) (first_kept c.recycle_to.new.self.log) c.recycle_point-point.result (recycle_point rs) c.first_kept.result (first_left c.args.self.now.log c.recycle_to.new.self c.recycle_point-point.result drop.these c.in-Ok.ensures.dropped) c.first_kept.ensures (c.recycle_point-point.ensures rs k.listing k.lawful)
 
 pub returns-in-Ok-clause-same : goal.returns-in-Ok-clause-same
-returns-in-Ok-clause-same g c rs k =
+returns-in-Ok-clause-same g c goes rs k =
     let drop = c.recycle_to.ensures in
-    kept_recycled g.L.Disk.tells g.L.Disk.told g.L.Disk.may_leave g.L.Disk.faults rs c.args.self.now.log c.recycle_to.new.self c.args.self.now.listing k (ap (λ (m : Managed _). m.log.next) c.in-Ok.ensures.dropped) c.recycle_point-point.result c.recycle_to.result drop.records drop.live drop.refused
+    kept_recycled g.L.Disk.tells g.L.Disk.told g.L.Disk.may_leave g.L.Disk.faults goes rs c.args.self.now.log c.recycle_to.new.self c.args.self.now.listing k (ap (λ (m : Managed _). m.log.next) c.in-Ok.ensures.dropped) c.recycle_point-point.result c.recycle_to.result drop.records drop.live drop.refused
 
 pub returns-in-Err-clause-same : goal.returns-in-Err-clause-same
-returns-in-Err-clause-same g c rs k =
+returns-in-Err-clause-same g c goes rs k =
     let drop = c.recycle_to.ensures in
-    kept_recycled g.L.Disk.tells g.L.Disk.told g.L.Disk.may_leave g.L.Disk.faults rs c.args.self.now.log c.recycle_to.new.self c.args.self.now.listing k (ap (λ (m : Managed _). m.log.next) c.in-Err.ensures.same) c.recycle_point-point.result c.recycle_to.result drop.records drop.live drop.refused
+    kept_recycled g.L.Disk.tells g.L.Disk.told g.L.Disk.may_leave g.L.Disk.faults goes rs c.args.self.now.log c.recycle_to.new.self c.args.self.now.listing k (ap (λ (m : Managed _). m.log.next) c.in-Err.ensures.same) c.recycle_point-point.result c.recycle_to.result drop.records drop.live drop.refused
 
 pub returns-in-Ok-clause-rises : goal.returns-in-Ok-clause-rises
-returns-in-Ok-clause-rises g c rs k tells runs =
+returns-in-Ok-clause-rises g c goes rs k tells runs =
     let drop = c.recycle_to.ensures in
-    stays_durable g.L.Disk.tells g.L.Disk.told g.L.Disk.may_leave g.L.Disk.faults rs c.args.self.now.log c.recycle_to.new.self c.args.self.now.listing k (ap (λ (m : Managed _). m.log.next) c.in-Ok.ensures.dropped) c.recycle_point-point.result c.recycle_to.result drop.records drop.same tells runs
+    stays_durable g.L.Disk.tells g.L.Disk.told g.L.Disk.may_leave g.L.Disk.faults goes rs c.args.self.now.log c.recycle_to.new.self c.args.self.now.listing k (ap (λ (m : Managed _). m.log.next) c.in-Ok.ensures.dropped) c.recycle_point-point.result c.recycle_to.result drop.records drop.same tells runs
 
 pub returns-in-Err-clause-rises : goal.returns-in-Err-clause-rises
-returns-in-Err-clause-rises g c rs k tells runs =
+returns-in-Err-clause-rises g c goes rs k tells runs =
     let drop = c.recycle_to.ensures in
-    stays_durable g.L.Disk.tells g.L.Disk.told g.L.Disk.may_leave g.L.Disk.faults rs c.args.self.now.log c.recycle_to.new.self c.args.self.now.listing k (ap (λ (m : Managed _). m.log.next) c.in-Err.ensures.same) c.recycle_point-point.result c.recycle_to.result drop.records drop.same tells runs
+    stays_durable g.L.Disk.tells g.L.Disk.told g.L.Disk.may_leave g.L.Disk.faults goes rs c.args.self.now.log c.recycle_to.new.self c.args.self.now.listing k (ap (λ (m : Managed _). m.log.next) c.in-Err.ensures.same) c.recycle_point-point.result c.recycle_to.result drop.records drop.same tells runs
