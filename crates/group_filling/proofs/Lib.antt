@@ -1,3 +1,4 @@
 pub mod Chaining
 pub mod Sizes
 pub mod Spelled
+pub mod Pairs

@@ -8,13 +8,15 @@ use Rattle.page_ops.specs.Groups.{Each, needs_maintenance}
 use Rattle.wal_record.specs.Chains.{link_of, names}
 use Rattle.wal_record.specs.Rules.{is_lsn_or_none, is_page, is_u32}
 use Rattle.wal_record.specs.State.{is_child}
+use Rattle.wal_record.specs.declared.entry.Entry.{Entry}
 use Rattle.wal_record.specs.declared.record.Record.{Record}
 use Rattle.wal_record.specs.declared.record.Record.TheVariants as kinds
 
--- no transaction ends by it, the rights to all that it names are there, and the new right is to a page that it makes
-pub record IsFit (x : Claims) (made : Option PageClaim) (recs : List Record) : Type 0 where
+-- No transaction ends by it, the rights to all that it names are there, and the new right is to a page that it makes. A loser,
+-- which no session began, needs none.
+pub record IsFit (h : List Entry) (x : Claims) (made : Option PageClaim) (recs : List Record) : Type 0 where
   pub still : IsTrue (list_all is_still recs)
-  pub own : Each (λ r. IsOwn x.s (link_of r)) recs
+  pub own : Each (λ r. IsOwn h x.s (link_of r)) recs
   pub covered : IsTrue (list_all (is_covered x made) recs)
   pub maintained : list_any needs_maintenance recs ≡ true → IsSome x.m
   pub place : IsSome made → x.c ≡ None

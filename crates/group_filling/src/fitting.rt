@@ -1,7 +1,7 @@
 //! What is looked at before a group is entered.
 ghost use Rattle.std.specs.Prelude.{◌≡◌, ◌≤◌, [], ◌∷◌, length, IsTrue, IsSome, IfSome, Some, None, true, false};
-ghost use Rattle.std.specs.List.{list_any};
-ghost use Rattle.life_history.specs.Groups as history;
+ghost use Rattle.std.specs.List.{list_all, list_any};
+ghost use Rattle.life_history.specs.Groups as forms;
 ghost use Rattle.life_history.specs.Groups.{IsOwn};
 ghost use Rattle.page_ops.specs.Groups as groups;
 ghost use Rattle.log_index.specs.Ready as ready;
@@ -16,7 +16,7 @@ ghost use Rattle.group_filling.specs.Fields.{Joins};
 ghost use Rattle.group_filling.specs.Fitting.{AreInRange, IsFit};
 
 use books::{PageRight, SessionRight};
-use life_history::names;
+use life_history::{History, names};
 use page_ops::{Life, Rights};
 use store_model::{HIGHEST, Lsn, MOST_PAGES, PageNo, TxId};
 use wal_record::Record;
@@ -33,14 +33,14 @@ fn is_right_to<N: Life>(page: PageNo, right: &Option<PageRight<N>>) -> bool
 
 /// Whether one of the rights is to the page, or the new one is.
 fn has_page<N: Life>(rights: &Rights<N>, made: &Option<PageRight<N>>, page: PageNo) -> bool
-    ensures { result ≡ history.has_page rights.now made.now page }
+    ensures { result ≡ forms.has_page rights.now made.now page }
 {
     is_right_to(page, &rights.a) || is_right_to(page, &rights.b) || is_right_to(page, made)
 }
 
 /// Whether there are rights to all pages that the record names.
 fn is_covered<N: Life>(rights: &Rights<N>, made: &Option<PageRight<N>>, rec: &Record) -> bool
-    ensures { result ≡ history.is_covered rights.now made.now rec.now }
+    ensures { result ≡ forms.is_covered rights.now made.now rec.now }
 {
     match rec {
         Record::Format(_) => has_page(rights, made, 1),
@@ -57,33 +57,40 @@ fn is_covered<N: Life>(rights: &Rights<N>, made: &Option<PageRight<N>>, rec: &Re
     }
 }
 
-/// Whether the record names no transaction, or that of the session.
-fn is_own<N: Life>(s: &Option<SessionRight<N>>, rec: &Record) -> bool
-    ensures { IsTrue result → IsOwn s.now (link_of rec.now) }
+/// Whether the record names no transaction, or that of the session, or one that no session began.
+fn is_own<N: Life>(history: &History<'_, N>, s: &Option<SessionRight<N>>, rec: &Record) -> bool
+    ensures { IsTrue result → IsOwn history.now s.now (link_of rec.now) }
 {
     match rec {
-        Record::Write(w) => is_of(s, w.tx),
-        Record::Apply(a) => is_of(s, a.tx),
-        Record::Undo(u) => is_of(s, u.tx),
+        Record::Write(w) => is_of(history, s, w.tx),
+        Record::Apply(a) => is_of(history, s, a.tx),
+        Record::Undo(u) => is_of(history, s, u.tx),
         Record::Commit(_) => false,
         Record::End(_) => false,
         _ => true,
     }
 }
 
+/// Whether the transaction is that of the session, or one that no session began: a loser of the opening log.
+fn is_of<N: Life>(history: &History<'_, N>, s: &Option<SessionRight<N>>, tx: TxId) -> bool
+    ensures { IsTrue result → IsOwn history.now s.now (Some (record { tx = tx; prev = 0 })) }
+{
+    history.is_earlier(tx) || is_session_of(s, tx)
+}
+
 /// Whether the transaction is that of the session.
-fn is_of<N: Life>(s: &Option<SessionRight<N>>, tx: TxId) -> bool
-    ensures { IsTrue result → IsOwn s.now (Some (record { tx = tx; prev = 0 })) }
+fn is_session_of<N: Life>(s: &Option<SessionRight<N>>, tx: TxId) -> bool
+    ensures { IsTrue result → forms.is_by s.now (Some (record { tx = tx; prev = 0 })) ≡ true }
 {
     match s {
-        Some(s) => s.tx() == tx && tx != 0,
+        Some(s) => s.tx() != 0 && tx == s.tx(),
         None => false,
     }
 }
 
 /// Whether no transaction ends by the record.
 fn is_still(rec: &Record) -> bool
-    ensures { result ≡ history.is_still rec.now }
+    ensures { result ≡ forms.is_still rec.now }
 {
     !matches!(rec, Record::Commit(_) | Record::End(_))
 }
@@ -96,14 +103,19 @@ fn is_maintenance(rec: &Record) -> bool
 }
 
 /// Whether one record has the form.
-fn is_one_fit<N: Life>(rights: &Rights<N>, made: &Option<PageRight<N>>, rec: &Record) -> bool
-    ensures still { IsTrue result → IsTrue (history.is_still rec.now) }
-    ensures own { IsTrue result → IsOwn rights.now.s (link_of rec.now) }
-    ensures covered { IsTrue result → IsTrue (history.is_covered rights.now made.now rec.now) }
+fn is_one_fit<N: Life>(
+    history: &History<'_, N>,
+    rights: &Rights<N>,
+    made: &Option<PageRight<N>>,
+    rec: &Record,
+) -> bool
+    ensures still { IsTrue result → IsTrue (forms.is_still rec.now) }
+    ensures own { IsTrue result → IsOwn history.now rights.now.s (link_of rec.now) }
+    ensures covered { IsTrue result → IsTrue (forms.is_covered rights.now made.now rec.now) }
     ensures maintained { IsTrue result → groups.needs_maintenance rec.now ≡ true → IsSome rights.now.m }
 {
     is_still(rec)
-        && is_own(&rights.s, rec)
+        && is_own(history, &rights.s, rec)
         && is_covered(rights, made, rec)
         && (!is_maintenance(rec) || rights.m.is_some())
 }
@@ -123,21 +135,43 @@ fn is_named<N: Life>(made: &Option<PageRight<N>>, recs: &[Record]) -> bool
     }
 }
 
-/// Whether the group has the form that can be entered.
-pub fn is_fit<N: Life>(rights: &Rights<N>, made: &Option<PageRight<N>>, recs: &[Record]) -> bool
+/// Whether each of these records has it.
+fn are_fit<N: Life>(
+    history: &History<'_, N>,
+    rights: &Rights<N>,
+    made: &Option<PageRight<N>>,
+    recs: &[Record],
+) -> bool
     requires { length recs.now ≤ 2 }
-    ensures { IsTrue result → IsFit rights.now made.now recs.now }
+    ensures still { IsTrue result → IsTrue (list_all forms.is_still recs.now) }
+    ensures own { IsTrue result → Each (λ r. IsOwn history.now rights.now.s (link_of r)) recs.now }
+    ensures covered { IsTrue result → IsTrue (list_all (forms.is_covered rights.now made.now) recs.now) }
+    ensures maintained { IsTrue result → list_any groups.needs_maintenance recs.now ≡ true → IsSome rights.now.m }
+{
+    match recs {
+        [] => true,
+        [one] => is_one_fit(history, rights, made, one),
+        [one, two] => {
+            is_one_fit(history, rights, made, one) && is_one_fit(history, rights, made, two)
+        }
+        _ => unreachable!(),
+    }
+}
+
+/// Whether the group has the form that can be entered behind the history.
+pub fn is_fit<N: Life>(
+    history: &History<'_, N>,
+    rights: &Rights<N>,
+    made: &Option<PageRight<N>>,
+    recs: &[Record],
+) -> bool
+    requires { length recs.now ≤ 2 }
+    ensures { IsTrue result → IsFit history.now rights.now made.now recs.now }
 {
     if made.is_some() && rights.c.is_some() {
         return false;
     }
-    let each = match recs {
-        [] => true,
-        [one] => is_one_fit(rights, made, one),
-        [one, two] => is_one_fit(rights, made, one) && is_one_fit(rights, made, two),
-        _ => unreachable!(),
-    };
-    each && is_named(made, recs)
+    are_fit(history, rights, made, recs) && is_named(made, recs)
 }
 
 /// Whether the LSN is one that a record can name, or 0.

@@ -6,9 +6,12 @@ use Rattle.std.proofs.lemmas.Bool.{eqb-true}
 use Rattle.std.proofs.lemmas.List.Elements.{filter-append}
 use Rattle.std.proofs.lemmas.List.Folds.{list_any-append}
 use Rattle.store_model.proofs.Bools.{or_left, or_right, and_true}
-use Rattle.wal_record.specs.History.{Phase, Live, Acknowledged, is_live, Beginning}
+use Rattle.page_ops.specs.Seeing.{is_begun}
+use Rattle.wal_record.specs.History.{Phase, Live, Acknowledged, is_live, Beginning, beginnings}
+use Rattle.wal_record.specs.declared.entry.Entry.{Entry}
+use Rattle.wal_record.specs.declared.record.Record.{Record}
 use Rattle.log_laws.proofs.Central.{eqb_differ, eqb_self, differ}
-use Rattle.life_history.specs.Kept.{times, is_beginning, is_started, AreBegun}
+use Rattle.life_history.specs.Kept.{times, is_beginning, is_started, AreBegun, IsFirst}
 
 abbrev live_in : (ℕ → Phase) → List Beginning → ℕ
 live_in phases bs = length (filter (λ (b : Beginning). is_live (phases b.tx)) bs)
@@ -48,6 +51,33 @@ two_times s m t [] apart o k = absurd (cc o)
 two_times s m t (b ∷ bs) apart o k =
     twice_more b (filter (λ (x : Beginning). eqb x.tx t) bs) (eqb b.session s) (eqb b.session m) (eqb b.tx t) (list_any (is_beginning s t) bs) (list_any (is_beginning m t) bs)
     (λ p r. apart (sym (eqb-true b.session s p) ∙ eqb-true b.session m r)) o k (own_time s t bs) (own_time m t bs) (two_times s m t bs apart)
+
+no_time : (t : ℕ) (bs : List Beginning) → list_any (λ (b : Beginning). eqb b.tx t) bs ≡ false → times t bs ≡ 0
+no_time t [] none = refl
+no_time t (b ∷ bs) none = by (eqb b.tx t) none (no_time t bs)
+  where
+    by : (q : Bool) → (q || list_any (λ (x : Beginning). eqb x.tx t) bs) ≡ false → (list_any (λ (x : Beginning). eqb x.tx t) bs ≡ false → times t bs ≡ 0) → length (cond q (b ∷ filter (λ (x : Beginning). eqb x.tx t) bs) (filter (λ (x : Beginning). eqb x.tx t) bs)) ≡ 0
+    by true none more = absurd (cc none)
+    by false none more = more none
+
+pub not_begun : (h : List Entry) (t : ℕ) → is_begun h t ≡ false → times t (beginnings h) ≡ 0
+not_begun h t none = no_time t (beginnings h) none
+
+-- ---- from which number on
+
+pub first_on : (opens : List Record → Type 0) (h h' : List Entry) (first next : ℕ) → IsFirst opens h first next → beginnings h' ≡ beginnings h → IsFirst opens h' first next
+first_on opens h h' first next k same = record { least = k.least; opening = k.opening; begun = λ t low. ap (list_any (λ (b : Beginning). eqb b.tx t)) same ∙ k.begun t low }
+
+pub first_began : (opens : List Record → Type 0) (h h' : List Entry) (first next : ℕ) (b : Beginning) → IsFirst opens h first next → b.tx ≡ next → beginnings h' ≡ beginnings h ++ b ∷ [] → IsFirst opens h' first (next + 1)
+first_began opens h h' first next b k same now = record {
+  least = let least = k.least in omega (arith, least);
+  opening = k.opening;
+  begun = λ t low.
+      let least = k.least in
+      let test = λ (x : Beginning). eqb x.tx t in
+      let apart : eqb b.tx t ≡ false = eqb_differ b.tx t (λ is. absurd (omega (arith, least, low, same, is))) in
+      ap (list_any test) now ∙ list_any-append test (beginnings h) (b ∷ []) ∙ (λ i. k.begun t low i || (apart i || false));
+}
 
 -- ---- how many are live
 
@@ -200,6 +230,18 @@ module _ (bs : List Beginning) (phases : ℕ → Phase) (begun : ℕ → Option 
       same : (c : Bool) (x : ℕ) → eqb t x ≡ c → is_live (cond c next (phases x)) ≡ is_live (phases x)
       same true x e = over ∙ sym before ∙ ap (λ (y : ℕ). is_live (phases y)) (eqb-true t x e)
       same false x e = refl
+
+  -- nor is one that no session began counted
+  pub begun_apart : (t : ℕ) (next : Phase) → is_started next ≡ true → times t bs ≡ 0 → AreBegun bs (λ x. cond (eqb t x) next (phases x)) begun number live
+  begun_apart t next started none = record {
+    once = k.once;
+    below = k.below;
+    small = k.small;
+    started = λ x some. started_on (eqb t x) next (phases x) started (k.started x some);
+    owner = k.owner;
+    counted = k.counted ∙ sym (live_apart phases (λ x. cond (eqb t x) next (phases x)) t (λ x apart. ap (λ (c : Bool). cond c next (phases x)) (eqb_differ t x (λ e. apart (sym e)))) bs none);
+    most = k.most;
+  }
 
   -- a live one is counted
   pub some_live : (t : ℕ) → phases t ≡ Live → times t bs ≡ 1 → 1 ≤ live

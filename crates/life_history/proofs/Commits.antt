@@ -18,8 +18,8 @@ use Rattle.life_history.proofs.Moving.{is_counted, commit_kept, commit_agrees, c
 pub entry_fits : (h : List Entry) (count live : ℕ) (x : SessionClaim) → SessionAgrees h x → count ≡ length h → count + 2 * live < 2 ^ 63 → x.entries + 1 < 2 ^ 64
 entry_fits h count live x agrees is low = let within = session_within x.session h in let same = agrees.entries in omega (arith, within, same, is, low)
 
-module _ (opens : List Record → Type 0) (h : List Entry) (count session tx live total of_session : ℕ) (ps ss ms : List BookEntry)
-    (k : IsKept opens h (record { entries = count; session = session; tx = tx; live = live }) (record { pages = ps; sessions = ss; maint = ms }) total of_session) (x : SessionClaim)
+module _ (opens : List Record → Type 0) (h : List Entry) (count session tx first live total of_session : ℕ) (ps ss ms : List BookEntry)
+    (k : IsKept opens h (record { entries = count; session = session; tx = tx; first = first; live = live }) (record { pages = ps; sessions = ss; maint = ms }) total of_session) (x : SessionClaim)
     (there : entry_of x.session ss ≡ Some (session_entry x)) (some : 0 < x.tx) where
   -- ---- a commit
 
@@ -28,14 +28,14 @@ module _ (opens : List Record → Type 0) (h : List Entry) (count session tx liv
     commit_is = now ∙ ap (λ t. h ++ commit_entry lsn t prev ∷ []) same
 
     module _ (live_now : phase h x.tx ≡ Live) (consistent : IsConsistent opens (h ++ commit_entry lsn x.tx prev ∷ [])) (left : ℕ) (less : left ≡ live - 1) where
-      done : IsKept opens (h ++ commit_entry lsn x.tx prev ∷ []) (record { entries = count + 1; session = session; tx = tx; live = left })
+      done : IsKept opens (h ++ commit_entry lsn x.tx prev ∷ []) (record { entries = count + 1; session = session; tx = tx; first = first; live = left })
           (record { pages = ps; sessions = replaced (entry x.session (x.entries + 1) x.tx) ss; maint = ms }) (total + 1) (of_session + 1)
       done = let some_live = is_counted opens h _ _ total of_session k x there some live_now in commit_kept opens h _ _ total of_session k x there some lsn prev live_now consistent left (omega (arith, less, some_live))
 
       pub committed_kept : (total' of_session' : ℕ) (ps' ss' ms' : List BookEntry) → ss' ≡ replaced (entry x.session (x.entries + 1) number) ss → (ps' ≡ ps) × (ms' ≡ ms) → total' ≡ total + 1 → of_session' ≡ of_session + 1
-          → IsKept opens h' (record { entries = count + 1; session = session; tx = tx; live = left }) (record { pages = ps'; sessions = ss'; maint = ms' }) total' of_session'
+          → IsKept opens h' (record { entries = count + 1; session = session; tx = tx; first = first; live = left }) (record { pages = ps'; sessions = ss'; maint = ms' }) total' of_session'
       committed_kept total' of_session' ps' ss' ms' book others sum sums =
-          subst (λ (y : List Entry × List BookEntry × List BookEntry × List BookEntry × ℕ × ℕ). IsKept opens y.0 (record { entries = count + 1; session = session; tx = tx; live = left }) (record { pages = y.1; sessions = y.2; maint = y.3 }) y.4 y.5)
+          subst (λ (y : List Entry × List BookEntry × List BookEntry × List BookEntry × ℕ × ℕ). IsKept opens y.0 (record { entries = count + 1; session = session; tx = tx; first = first; live = left }) (record { pages = y.1; sessions = y.2; maint = y.3 }) y.4 y.5)
           (λ i. (sym commit_is i, sym others.0 i, sym (book ∙ ap (λ t. replaced (entry x.session (x.entries + 1) t) ss) same) i, sym others.1 i, sym sum i, sym sums i)) done
 
       pub committed_live : live_count h' + 1 ≡ live_count h
@@ -57,14 +57,14 @@ module _ (opens : List Record → Type 0) (h : List Entry) (count session tx liv
 
   module _ (lsn prev : ℕ) (h' : List Entry) (now : h' ≡ h ++ end_entry lsn x.tx prev ∷ []) where
     module _ (live_now : phase h x.tx ≡ Live) (consistent : IsConsistent opens (h ++ end_entry lsn x.tx prev ∷ [])) (left : ℕ) (less : left ≡ live - 1) where
-      over : IsKept opens (h ++ end_entry lsn x.tx prev ∷ []) (record { entries = count + 1; session = session; tx = tx; live = left })
+      over : IsKept opens (h ++ end_entry lsn x.tx prev ∷ []) (record { entries = count + 1; session = session; tx = tx; first = first; live = left })
           (record { pages = ps; sessions = replaced (entry x.session (x.entries + 1) 0) ss; maint = ms }) (total + 1) (of_session + 1)
       over = let some_live = is_counted opens h _ _ total of_session k x there some live_now in end_kept opens h _ _ total of_session k x there some lsn prev live_now consistent left (omega (arith, less, some_live))
 
       pub ended_kept : (total' of_session' : ℕ) (ps' ss' ms' : List BookEntry) → ss' ≡ replaced (entry x.session (x.entries + 1) 0) ss → (ps' ≡ ps) × (ms' ≡ ms) → total' ≡ total + 1 → of_session' ≡ of_session + 1
-          → IsKept opens h' (record { entries = count + 1; session = session; tx = tx; live = left }) (record { pages = ps'; sessions = ss'; maint = ms' }) total' of_session'
+          → IsKept opens h' (record { entries = count + 1; session = session; tx = tx; first = first; live = left }) (record { pages = ps'; sessions = ss'; maint = ms' }) total' of_session'
       ended_kept total' of_session' ps' ss' ms' book others sum sums =
-          subst (λ (y : List Entry × List BookEntry × List BookEntry × List BookEntry × ℕ × ℕ). IsKept opens y.0 (record { entries = count + 1; session = session; tx = tx; live = left }) (record { pages = y.1; sessions = y.2; maint = y.3 }) y.4 y.5)
+          subst (λ (y : List Entry × List BookEntry × List BookEntry × List BookEntry × ℕ × ℕ). IsKept opens y.0 (record { entries = count + 1; session = session; tx = tx; first = first; live = left }) (record { pages = y.1; sessions = y.2; maint = y.3 }) y.4 y.5)
           (λ i. (sym now i, sym others.0 i, sym book i, sym others.1 i, sym sum i, sym sums i)) over
 
       pub ended_live : live_count h' + 1 ≡ live_count h
@@ -88,9 +88,9 @@ module _ (opens : List Record → Type 0) (h : List Entry) (count session tx liv
 
     pub acknowledged_kept : phase h x.tx ≡ Committed → count + 2 * live + 1 < 2 ^ 63 → (total' of_session' : ℕ) (ps' ss' ms' : List BookEntry) → ss' ≡ replaced (entry x.session (x.entries + 1) 0) ss → (ps' ≡ ps) × (ms' ≡ ms)
         → total' ≡ total + 1 → of_session' ≡ of_session + 1
-        → IsKept opens h' (record { entries = count + 1; session = session; tx = tx; live = live }) (record { pages = ps'; sessions = ss'; maint = ms' }) total' of_session'
+        → IsKept opens h' (record { entries = count + 1; session = session; tx = tx; first = first; live = live }) (record { pages = ps'; sessions = ss'; maint = ms' }) total' of_session'
     acknowledged_kept committed room total' of_session' ps' ss' ms' book others sum sums =
-        subst (λ (y : List Entry × List BookEntry × List BookEntry × List BookEntry × ℕ × ℕ). IsKept opens y.0 (record { entries = count + 1; session = session; tx = tx; live = live }) (record { pages = y.1; sessions = y.2; maint = y.3 }) y.4 y.5)
+        subst (λ (y : List Entry × List BookEntry × List BookEntry × List BookEntry × ℕ × ℕ). IsKept opens y.0 (record { entries = count + 1; session = session; tx = tx; first = first; live = live }) (record { pages = y.1; sessions = y.2; maint = y.3 }) y.4 y.5)
         (λ i. (sym acked_is i, sym others.0 i, sym book i, sym others.1 i, sym sum i, sym sums i))
         (acked_kept opens h _ _ total of_session k x there some committed room)
 

@@ -68,17 +68,17 @@ pub from_first : (opens : List Record → Type 0) (entries sessions : LedgerName
     → Enters opens entries sessions (known a1 seen (session_alone x1)) (es x1) (known a2 now (session_alone x2)) → Enters opens entries sessions (known a0 seen (session_alone x0)) (es x0) (known a2 now (session_alone x2))
 from_first opens entries sessions a0 a1 a2 seen now x0 x1 x2 es account claim e = subst (λ (z : Account × SessionClaim). Enters opens entries sessions (known z.0 seen (session_alone z.1)) (es z.1) (known a2 now (session_alone x2))) (λ i. (account i, claim i)) e
 
-module _ (opens : List Record → Type 0) (h : List Entry) (count session tx live total of_session : ℕ) (ps ss ms : List BookEntry)
-    (k : IsKept opens h (record { entries = count; session = session; tx = tx; live = live }) (record { pages = ps; sessions = ss; maint = ms }) total of_session) (x : SessionClaim) where
+module _ (opens : List Record → Type 0) (h : List Entry) (count session tx first live total of_session : ℕ) (ps ss ms : List BookEntry)
+    (k : IsKept opens h (record { entries = count; session = session; tx = tx; first = first; live = live }) (record { pages = ps; sessions = ss; maint = ms }) total of_session) (x : SessionClaim) where
   -- ---- a beginning
 
   pub begin_kept : (h' : List Entry) (number total' of_session' : ℕ) (ps' ss' ms' : List BookEntry) → entry_of x.session ss ≡ Some (session_entry x) → ss' ≡ replaced (entry x.session (x.entries + 1) tx) ss → (ps' ≡ ps) × (ms' ≡ ms)
       → h' ≡ h ++ Began number tx ∷ [] → number ≡ x.session → total' ≡ total + 1 → of_session' ≡ of_session + 1 → x.tx ≡ 0 → live ≢ 64 → count < 2 ^ 62 → tx < 2 ^ 62
-      → IsKept opens h' (record { entries = count + 1; session = session; tx = tx + 1; live = live + 1 }) (record { pages = ps'; sessions = ss'; maint = ms' }) total' of_session'
+      → IsKept opens h' (record { entries = count + 1; session = session; tx = tx + 1; first = first; live = live + 1 }) (record { pages = ps'; sessions = ss'; maint = ms' }) total' of_session'
   begin_kept h' number total' of_session' ps' ss' ms' there book others now same sum sums none few short small =
       let most = k.begun.most in
       let done = kept_began opens h _ _ total of_session k x there none (omega (arith, most, few)) short small in
-      subst (λ (y : List Entry × List BookEntry × List BookEntry × List BookEntry × ℕ × ℕ). IsKept opens y.0 (record { entries = count + 1; session = session; tx = tx + 1; live = live + 1 }) (record { pages = y.1; sessions = y.2; maint = y.3 }) y.4 y.5)
+      subst (λ (y : List Entry × List BookEntry × List BookEntry × List BookEntry × ℕ × ℕ). IsKept opens y.0 (record { entries = count + 1; session = session; tx = tx + 1; first = first; live = live + 1 }) (record { pages = y.1; sessions = y.2; maint = y.3 }) y.4 y.5)
       (λ i. (sym (now ∙ ap (λ m. h ++ Began m tx ∷ []) same) i, sym others.0 i, sym book i, sym others.1 i, sym sum i, sym sums i)) done
 
   pub begin_live : (h' : List Entry) (number : ℕ) → entry_of x.session ss ≡ Some (session_entry x) → h' ≡ h ++ Began number tx ∷ [] → number ≡ x.session → x.tx ≡ 0 → live ≢ 64 → count < 2 ^ 62 → tx < 2 ^ 62
@@ -127,7 +127,7 @@ module _ (opens : List Record → Type 0) (h : List Entry) (count session tx liv
       now_book = replaced (entry x.session (x.entries + 1) x.tx) ss
 
       kept_one : count < 2 ^ 62 → IsConsistent opens (h ++ e ∷ [])
-          → IsKept opens (h ++ e ∷ []) (record { entries = count + 1; session = session; tx = tx; live = live }) (record { pages = ps; sessions = now_book; maint = ms }) (total + 1) (of_session + 1)
+          → IsKept opens (h ++ e ∷ []) (record { entries = count + 1; session = session; tx = tx; first = first; live = live }) (record { pages = ps; sessions = now_book; maint = ms }) (total + 1) (of_session + 1)
       kept_one short consistent = kept_then opens h (h ++ e ∷ []) _ _ (record { pages = ps; sessions = now_book; maint = ms }) total of_session x.session 1 1 k continues consistent short (omega arith)
           (record {
             pages = λ m y is opening stands. k.books.pages m y is opening stands ∙ ap (λ (l : List Record). head l m) (sym (same_log opening));
@@ -139,13 +139,13 @@ module _ (opens : List Record → Type 0) (h : List Entry) (count session tx liv
     module _ (es : List Entry) (one : IsOneOf x.session x.tx es) where
       pub own_kept : (h' : List Entry) (own : ℕ) (total' of_session' : ℕ) (ps' ss' ms' : List BookEntry) → ss' ≡ replaced (entry x.session (x.entries + 1) own) ss → own ≡ x.tx → (ps' ≡ ps) × (ms' ≡ ms)
           → h' ≡ h ++ es → total' ≡ total + 1 → of_session' ≡ of_session + 1 → count < 2 ^ 62 → IsConsistent opens (h ++ es)
-          → IsKept opens h' (record { entries = count + 1; session = session; tx = tx; live = live }) (record { pages = ps'; sessions = ss'; maint = ms' }) total' of_session'
+          → IsKept opens h' (record { entries = count + 1; session = session; tx = tx; first = first; live = live }) (record { pages = ps'; sessions = ss'; maint = ms' }) total' of_session'
       own_kept h' own total' of_session' ps' ss' ms' book same others now sum sums short consistent = by es one now consistent
         where
-          by : (es : List Entry) → IsOneOf x.session x.tx es → h' ≡ h ++ es → IsConsistent opens (h ++ es) → IsKept opens h' (record { entries = count + 1; session = session; tx = tx; live = live }) (record { pages = ps'; sessions = ss'; maint = ms' }) total' of_session'
+          by : (es : List Entry) → IsOneOf x.session x.tx es → h' ≡ h ++ es → IsConsistent opens (h ++ es) → IsKept opens h' (record { entries = count + 1; session = session; tx = tx; first = first; live = live }) (record { pages = ps'; sessions = ss'; maint = ms' }) total' of_session'
           by (e ∷ []) is now consistent =
               let book : ss' ≡ replaced (entry x.session (x.entries + 1) x.tx) ss = book ∙ ap (λ m. replaced (entry x.session (x.entries + 1) m) ss) same in
-              subst (λ (y : List Entry × List BookEntry × List BookEntry × List BookEntry × ℕ × ℕ). IsKept opens y.0 (record { entries = count + 1; session = session; tx = tx; live = live }) (record { pages = y.1; sessions = y.2; maint = y.3 }) y.4 y.5)
+              subst (λ (y : List Entry × List BookEntry × List BookEntry × List BookEntry × ℕ × ℕ). IsKept opens y.0 (record { entries = count + 1; session = session; tx = tx; first = first; live = live }) (record { pages = y.1; sessions = y.2; maint = y.3 }) y.4 y.5)
               (λ i. (sym now i, sym others.0 i, sym book i, sym others.1 i, sym sum i, sym sums i)) (kept_one e is.0 is.1 short consistent)
           by [] is now consistent = absurd is
           by (e ∷ f ∷ es) is now consistent = absurd is

@@ -1,6 +1,6 @@
 -- What a group of entries makes of the history, and of what is kept of it.
-use Rattle.std.proofs.Common.{◌≡◌, ◌≢◌, ℕ, suc, eqb, cond, ◌+◌, ◌≤◌, ◌<◌, ◌^◌, List, [], ◌∷◌, ◌++◌, length, Option, Some, None, Bool, true, false, refl, sym, ap, ◌∙◌, subst, arith, length-append, append-nil, append_assoc, inl, inr}
-use Rattle.std.specs.Prelude.{◌⊎◌, IfSome, IsSome, IsTrue, is_some, ◌||◌, ◌&&◌}
+use Rattle.std.proofs.Common.{◌≡◌, ◌≢◌, ℕ, zero, suc, eqb, cond, ◌+◌, ◌≤◌, ◌<◌, ◌^◌, List, [], ◌∷◌, ◌++◌, length, Option, Some, None, Bool, true, false, refl, sym, ap, ◌∙◌, subst, arith, length-append, append-nil, append_assoc, inl, inr}
+use Rattle.std.specs.Prelude.{◌⊎◌, IfSome, IsSome, IsTrue, not, ◌||◌, ◌&&◌}
 use Rattle.std.specs.List.{list_any, list_all}
 use Rattle.std.specs.Option.{option_map}
 use Rattle.std.proofs.lemmas.Bool.{eqb-true}
@@ -26,7 +26,7 @@ use Rattle.wal_record.specs.Rules.{is_number, is_page}
 use Rattle.page_ops.specs.Groups.{Each, is_to, needs_maintenance, record_entries, said_entries, group_entries, HasSpeaker}
 use Rattle.page_ops.specs.Seeing.{IsConsistent, is_begun, is_begun_link, of_sessions}
 use Rattle.page_ops.specs.declared.group.Said.{Said}
-use Rattle.life_history.specs.Groups.{head_behind, maintenance_behind, is_still, linked, own_entries, IsOwn, has_page, is_covered, raised_page, raised_maintenance, new_or, IsPageSet, IsMaintenanceSet, IsSessionSet, ArePagesSet}
+use Rattle.life_history.specs.Groups.{head_behind, maintenance_behind, is_by, is_still, linked, own_entries, IsOwn, has_page, is_covered, raised_page, raised_maintenance, new_or, IsPageSet, IsMaintenanceSet, IsSessionSet, ArePagesSet}
 use Rattle.life_history.specs.Kept.{Numbers, BooksOf, IsFresh, IsKept, IsSmall}
 use Rattle.life_history.proofs.Keeping.{of_sessions_push, some_is}
 use Rattle.life_history.proofs.Own.{Continues, continues_none, continues_then, continues_live, continues_tx, kept_then, owner, owned_by_none, begun_by, sessions_then, fresh_then, session_within}
@@ -52,64 +52,91 @@ still_phase lsn (kinds.Commit c) still t p = absurd (cc still)
 still_phase lsn (kinds.End e) still t p = absurd (cc still)
 still_phase lsn _ still t p = refl
 
-abbrev one_linked : Option Link → ℕ
-one_linked None = 0
-one_linked (Some l) = 1
+counted_by : (b : Bool) (n : ℕ) → cond b (suc n) n ≡ n + cond b 1 0
+counted_by true n = omega arith
+counted_by false n = omega arith
 
-linked_is : (o : Option Link) (n : ℕ) → cond (is_some o) (suc n) n ≡ one_linked o + n
-linked_is None n = omega arith
-linked_is (Some l) n = omega arith
+module _ (h : List Entry) (s : Option SessionClaim) where
+  -- a record belongs to the session exactly where it names its transaction, and else to none
+  pub record Belongs (o : Option Link) : Type 0 where
+    pub own : owns_link h (number_of s) o ≡ is_by s o
+    pub others : (m : ℕ) → m ≢ number_of s → owns_link h m o ≡ false
+    pub begun : is_begun_link h o ≡ is_by s o
+
+  lost : (l : Link) → is_begun h l.tx ≡ false → is_by s (Some l) ≡ false → Belongs (Some l)
+  lost l none other =
+      let free : (m : ℕ) → is_owner h m l.tx ≡ false = λ m. false_unless (is_owner h m l.tx) (λ owns. absurd (cc (sym none ∙ begun_by h m l.tx owns))) in
+      record { own = free (number_of s) ∙ sym other; others = λ m apart. free m; begun = none ∙ sym other }
+
+  belongs_by : (o : Option Link) → IsOwn h s o → OwnsIts h s → Belongs o
+  belongs_by None own owns = record { own = refl; others = λ m apart. refl; begun = refl }
+  belongs_by (Some l) own owns = by (is_by s (Some l)) refl
+    where
+      of : (x : Option SessionClaim) → OwnsIts h x → is_by x (Some l) ≡ true → x ≡ s → Belongs (Some l)
+      of None owns is here = absurd (cc is)
+      of (Some x) owns is here =
+          let both = both_true (not (eqb x.tx 0)) (eqb l.tx x.tx) is in
+          let same = eqb-true l.tx x.tx both.1 in
+          let o = owns (some_tx x.tx both.0) in
+          let number : number_of s ≡ x.session = ap number_of (sym here) in
+          let true_by : is_by s (Some l) ≡ true = ap (λ (y : Option SessionClaim). is_by y (Some l)) (sym here) ∙ is in
+          record {
+            own = (λ i. is_owner h (number i) (same i)) ∙ o.own ∙ sym true_by;
+            others = λ m apart. ap (is_owner h m) same ∙ o.others m (λ e. apart (e ∙ sym number));
+            begun = ap (is_begun h) same ∙ o.begun ∙ sym true_by;
+          }
+        where
+          some_tx : (n : ℕ) → not (eqb n 0) ≡ true → 0 < n
+          some_tx zero e = absurd (cc e)
+          some_tx (suc n) e = omega arith
+
+      by : (b : Bool) → is_by s (Some l) ≡ b → Belongs (Some l)
+      by true e = of s owns e refl
+      by false e = lost l (false_unless (is_begun h l.tx) (λ begun. absurd (cc (sym e ∙ own begun)))) e
 
 module _ (h : List Entry) (s : Option SessionClaim) (lsn : ℕ) (r : Record) (still : is_still r ≡ true) where
-  record_belongs : (o : Option Link) → IsOwn s o → OwnsIts h s → (session_count : ℕ) → cond (owns_link h (number_of s) o) (suc session_count) session_count ≡ session_count + one_linked o
-  record_belongs None own owns n = omega arith
-  record_belongs (Some l) own owns n = by s own owns
-    where
-      by : (s : Option SessionClaim) → IsOwn s (Some l) → OwnsIts h s → cond (is_owner h (number_of s) l.tx) (suc n) n ≡ n + 1
-      by None own owns = absurd own
-      by (Some x) own owns = ap (λ t. cond (is_owner h x.session t) (suc n) n) own.0 ∙ ap (λ b. cond b (suc n) n) (owns own.1).own ∙ omega arith
-
-  record_others : (o : Option Link) → IsOwn s o → OwnsIts h s → (m : ℕ) → m ≢ number_of s → owns_link h m o ≡ false
-  record_others None own owns m apart = refl
-  record_others (Some l) own owns m apart = by s own owns apart
-    where
-      by : (s : Option SessionClaim) → IsOwn s (Some l) → OwnsIts h s → m ≢ number_of s → is_owner h m l.tx ≡ false
-      by None own owns apart = absurd own
-      by (Some x) own owns apart = ap (is_owner h m) own.0 ∙ (owns own.1).others m apart
-
-  record_counts : (o : Option Link) → IsOwn s o → OwnsIts h s → (n : ℕ) → cond (is_begun_link h o) (suc n) n ≡ n + one_linked o
-  record_counts None own owns n = omega arith
-  record_counts (Some l) own owns n = by s own owns
-    where
-      by : (s : Option SessionClaim) → IsOwn s (Some l) → OwnsIts h s → cond (is_begun h l.tx) (suc n) n ≡ n + 1
-      by None own owns = absurd own
-      by (Some x) own owns = ap (λ t. cond (is_begun h t) (suc n) n) own.0 ∙ ap (λ b. cond b (suc n) n) (owns own.1).begun ∙ omega arith
-
-  record_continues : IsOwn s (link_of r) → OwnsIts h s → Continues h (h ++ entries.Rec lsn r ∷ []) (number_of s) (one_linked (link_of r)) 1
-  record_continues own owns = record {
-    longer = length-append h (entries.Rec lsn r ∷ []);
-    begins = beginnings_push h (entries.Rec lsn r) ∙ append-nil (beginnings h);
-    phases = λ t. phase_push h (entries.Rec lsn r) t ∙ still_phase lsn r still t (phase h t);
-    last = λ m. last_begun_push h (entries.Rec lsn r) m;
-    greatest = begun_push h (entries.Rec lsn r);
-    own = session_entries_push h (entries.Rec lsn r) (number_of s) ∙ record_belongs (link_of r) own owns (session_entries h (number_of s));
-    others = λ m apart. session_entries_push h (entries.Rec lsn r) m ∙ ap (λ (b : Bool). cond b (suc (session_entries h m)) (session_entries h m)) (record_others (link_of r) own owns m apart);
-    counted = of_sessions_push h (entries.Rec lsn r) ∙ record_counts (link_of r) own owns (of_sessions h);
-  }
+  record_continues : IsOwn h s (link_of r) → OwnsIts h s → Continues h (h ++ entries.Rec lsn r ∷ []) (number_of s) (cond (is_by s (link_of r)) 1 0) 1
+  record_continues own owns =
+      let b = belongs_by h s (link_of r) own owns in
+      record {
+        longer = length-append h (entries.Rec lsn r ∷ []);
+        begins = beginnings_push h (entries.Rec lsn r) ∙ append-nil (beginnings h);
+        phases = λ t. phase_push h (entries.Rec lsn r) t ∙ still_phase lsn r still t (phase h t);
+        last = λ m. last_begun_push h (entries.Rec lsn r) m;
+        greatest = begun_push h (entries.Rec lsn r);
+        own = session_entries_push h (entries.Rec lsn r) (number_of s) ∙ ap (λ (c : Bool). cond c (suc (session_entries h (number_of s))) (session_entries h (number_of s))) b.own ∙ counted_by (is_by s (link_of r)) (session_entries h (number_of s));
+        others = λ m apart. session_entries_push h (entries.Rec lsn r) m ∙ ap (λ (c : Bool). cond c (suc (session_entries h m)) (session_entries h m)) (b.others m apart);
+        counted = of_sessions_push h (entries.Rec lsn r) ∙ ap (λ (c : Bool). cond c (suc (of_sessions h)) (of_sessions h)) b.begun ∙ counted_by (is_by s (link_of r)) (of_sessions h);
+      }
 
 owns_on : (h h' : List Entry) (s : Option SessionClaim) → beginnings h' ≡ beginnings h → OwnsIts h s → OwnsIts h' s
 owns_on h h' None same owns = tt
 owns_on h h' (Some x) same owns = λ some. subst (λ bs. Owns bs x) (sym same) (owns some)
 
-records_continue : (h : List Entry) (s : Option SessionClaim) (lsn : ℕ) (recs : List Record) → list_all is_still recs ≡ true → Each (λ r. IsOwn s (link_of r)) recs → OwnsIts h s
-    → Continues h (h ++ record_entries lsn recs) (number_of s) (linked recs) (length recs)
+-- as long as nothing more is begun
+own_on : (h h' : List Entry) (s : Option SessionClaim) → beginnings h' ≡ beginnings h → (recs : List Record) → Each (λ r. IsOwn h s (link_of r)) recs → Each (λ r. IsOwn h' s (link_of r)) recs
+own_on h h' s same [] own = tt
+own_on h h' s same (r ∷ rs) own = (λ begun. own.0 (sym (begun_on (link_of r)) ∙ begun), own_on h h' s same rs own.1)
+  where
+    begun_on : (o : Option Link) → is_begun_link h' o ≡ is_begun_link h o
+    begun_on None = refl
+    begun_on (Some l) = ap (list_any (λ (b : Beginning). eqb b.tx l.tx)) same
+
+linked_is : (b : Bool) (n : ℕ) → cond b 1 0 + n ≡ cond b (suc n) n
+linked_is true n = omega arith
+linked_is false n = omega arith
+
+records_continue : (h : List Entry) (s : Option SessionClaim) (lsn : ℕ) (recs : List Record) → list_all is_still recs ≡ true → Each (λ r. IsOwn h s (link_of r)) recs → OwnsIts h s
+    → Continues h (h ++ record_entries lsn recs) (number_of s) (linked s recs) (length recs)
 records_continue h s lsn [] still own owns = subst (λ l. Continues h l (number_of s) 0 0) (sym (append-nil h)) (continues_none h (number_of s))
 records_continue h s lsn (r ∷ rs) still own owns =
     let both = both_true (is_still r) (list_all is_still rs) still in
+    let next = h ++ entries.Rec lsn r ∷ [] in
     let one = record_continues h s lsn r both.0 own.0 owns in
-    let rest = records_continue (h ++ entries.Rec lsn r ∷ []) s (suc lsn) rs both.1 own.1 (owns_on h (h ++ entries.Rec lsn r ∷ []) s one.begins owns) in
-    let all = continues_then h (h ++ entries.Rec lsn r ∷ []) ((h ++ entries.Rec lsn r ∷ []) ++ record_entries (suc lsn) rs) (number_of s) (one_linked (link_of r)) (linked rs) 1 (length rs) one rest in
-    subst (λ (y : List Entry × ℕ × ℕ). Continues h y.0 (number_of s) y.1 y.2) (λ i. (append_assoc h (entries.Rec lsn r ∷ []) (record_entries (suc lsn) rs) i, sym (linked_is (link_of r) (linked rs)) i, suc_is i)) all
+    let rest = records_continue next s (suc lsn) rs both.1 (own_on h next s one.begins rs own.1) (owns_on h next s one.begins owns) in
+    let mine = cond (is_by s (link_of r)) 1 0 in
+    let all = continues_then h next (next ++ record_entries (suc lsn) rs) (number_of s) mine (linked s rs) 1 (length rs) one rest in
+    subst (λ (y : List Entry × ℕ × ℕ). Continues h y.0 (number_of s) y.1 y.2) (λ i. (append_assoc h (entries.Rec lsn r ∷ []) (record_entries (suc lsn) rs) i, linked_is (is_by s (link_of r)) (linked s rs) i, suc_is i)) all
   where
     suc_is : 1 + length rs ≡ suc (length rs)
     suc_is = omega arith
@@ -137,12 +164,12 @@ group_longer lsn recs said = length-append (record_entries lsn recs) (said_entri
     by lsn [] = refl
     by lsn (r ∷ rs) = ap suc (by (suc lsn) rs)
 
-pub group_continues : (h : List Entry) (s : Option SessionClaim) (lsn : ℕ) (recs : List Record) (said : Option Said) → list_all is_still recs ≡ true → Each (λ r. IsOwn s (link_of r)) recs → HasSpeaker s said → OwnsIts h s
-    → Continues h (h ++ group_entries lsn recs said) (number_of s) (own_entries recs said) (length (group_entries lsn recs said))
+pub group_continues : (h : List Entry) (s : Option SessionClaim) (lsn : ℕ) (recs : List Record) (said : Option Said) → list_all is_still recs ≡ true → Each (λ r. IsOwn h s (link_of r)) recs → HasSpeaker s said → OwnsIts h s
+    → Continues h (h ++ group_entries lsn recs said) (number_of s) (own_entries s recs said) (length (group_entries lsn recs said))
 group_continues h s lsn recs said still own speaker owns =
     let between = h ++ record_entries lsn recs in
-    let all = continues_then h between (between ++ said_entries said) (number_of s) (linked recs) (length (said_entries said)) (length recs) (length (said_entries said)) (records_continue h s lsn recs still own owns) (said_continues between s said speaker) in
-    subst (λ (y : List Entry × ℕ). Continues h y.0 (number_of s) (own_entries recs said) y.1) (λ i. (append_assoc h (record_entries lsn recs) (said_entries said) i, sym (group_longer lsn recs said) i)) all
+    let all = continues_then h between (between ++ said_entries said) (number_of s) (linked s recs) (length (said_entries said)) (length recs) (length (said_entries said)) (records_continue h s lsn recs still own owns) (said_continues between s said speaker) in
+    subst (λ (y : List Entry × ℕ). Continues h y.0 (number_of s) (own_entries s recs said) y.1) (λ i. (append_assoc h (record_entries lsn recs) (said_entries said) i, sym (group_longer lsn recs said) i)) all
 
 -- ---- the log, and the book of maintenance
 
@@ -348,38 +375,41 @@ module _ (opens : List Record → Type 0) (h : List Entry) (n : Numbers) (b : Bo
   there_of own (Some x) ss' set = set.0
 
   module _ (lsn : ℕ) (recs : List Record) (said : Option Said) (x : Claims) (ss' : List BookEntry)
-      (still : list_all is_still recs ≡ true) (own : Each (λ r. IsOwn x.s (link_of r)) recs) (speaker : HasSpeaker x.s said) (session : IsSessionSet (own_entries recs said) x.s b.sessions ss') where
+      (still : list_all is_still recs ≡ true) (own : Each (λ r. IsOwn h x.s (link_of r)) recs) (speaker : HasSpeaker x.s said) (session : IsSessionSet (own_entries x.s recs said) x.s b.sessions ss') where
     abbrev goes : List Entry
     goes = h ++ group_entries lsn recs said
 
-    pub continues : Continues h goes (number_of x.s) (own_entries recs said) (length (group_entries lsn recs said))
-    continues = group_continues h x.s lsn recs said still own speaker (owns_its x.s (there_of (own_entries recs said) x.s ss' session))
+    pub continues : Continues h goes (number_of x.s) (own_entries x.s recs said) (length (group_entries lsn recs said))
+    continues = group_continues h x.s lsn recs said still own speaker (owns_its x.s (there_of (own_entries x.s recs said) x.s ss' session))
 
     -- without a right no entry belongs to a session
-    none_own : (recs : List Record) (said : Option Said) → Each (λ r. IsOwn None (link_of r)) recs → HasSpeaker None said → own_entries recs said ≡ 0
-    none_own [] None own speaker = refl
-    none_own [] (Some s) own speaker = absurd speaker
-    none_own (r ∷ rs) said own speaker = by (link_of r) refl own.0 (none_own rs said own.1 speaker)
-      where
-        by : (o : Option Link) → link_of r ≡ o → IsOwn None o → own_entries rs said ≡ 0 → own_entries (r ∷ rs) said ≡ 0
-        by None e is rest = ap (λ (p : Option Link). cond (is_some p) (suc (linked rs)) (linked rs) + length (said_entries said)) e ∙ rest
-        by (Some l) e is rest = absurd is
+    by_none : (o : Option Link) → is_by None o ≡ false
+    by_none None = refl
+    by_none (Some l) = refl
+
+    none_linked : (recs : List Record) → linked None recs ≡ 0
+    none_linked [] = refl
+    none_linked (r ∷ rs) = ap (λ (c : Bool). cond c (suc (linked None rs)) (linked None rs)) (by_none (link_of r)) ∙ none_linked rs
+
+    none_own : (said : Option Said) → HasSpeaker None said → own_entries None recs said ≡ 0
+    none_own None speaker = let none = none_linked recs in omega (arith, none)
+    none_own (Some s) speaker = absurd speaker
 
     sessions_after : ((m : ℕ) (e : BookEntry) → entry_of m ss' ≡ Some e → (e.first ≡ session_entries goes m) × (e.second ≡ session_transaction goes m)) × ((m : ℕ) → n.session ≤ m → IsFresh goes ss' m)
-    sessions_after = by x.s own speaker session continues
+    sessions_after = by x.s speaker session continues
       where
-        by : (s : Option SessionClaim) → Each (λ r. IsOwn s (link_of r)) recs → HasSpeaker s said → IsSessionSet (own_entries recs said) s b.sessions ss' → Continues h goes (number_of s) (own_entries recs said) (length (group_entries lsn recs said))
+        by : (s : Option SessionClaim) → HasSpeaker s said → IsSessionSet (own_entries s recs said) s b.sessions ss' → Continues h goes (number_of s) (own_entries s recs said) (length (group_entries lsn recs said))
             → ((m : ℕ) (e : BookEntry) → entry_of m ss' ≡ Some e → (e.first ≡ session_entries goes m) × (e.second ≡ session_transaction goes m)) × ((m : ℕ) → n.session ≤ m → IsFresh goes ss' m)
-        by (Some s) own speaker set c = subst (λ (ss : List BookEntry). ((m : ℕ) (e : BookEntry) → entry_of m ss ≡ Some e → (e.first ≡ session_entries goes m) × (e.second ≡ session_transaction goes m)) × ((m : ℕ) → n.session ≤ m → IsFresh goes ss m)) (sym set.1) (
-          sessions_then opens h n b total of_session k s set.0 goes (own_entries recs said) (length (group_entries lsn recs said)) c,
-          fresh_then opens h n b total of_session k s set.0 goes (own_entries recs said) (length (group_entries lsn recs said)) c,
+        by (Some s) speaker set c = subst (λ (ss : List BookEntry). ((m : ℕ) (e : BookEntry) → entry_of m ss ≡ Some e → (e.first ≡ session_entries goes m) × (e.second ≡ session_transaction goes m)) × ((m : ℕ) → n.session ≤ m → IsFresh goes ss m)) (sym set.1) (
+          sessions_then opens h n b total of_session k s set.0 goes (own_entries (Some s) recs said) (length (group_entries lsn recs said)) c,
+          fresh_then opens h n b total of_session k s set.0 goes (own_entries (Some s) recs said) (length (group_entries lsn recs said)) c,
         )
-        by None own speaker set c =
-            let zero = none_own recs said own speaker in
+        by None speaker set c =
+            let zero = none_own said speaker in
             let same : (m : ℕ) → session_entries goes m ≡ session_entries h m = λ m. dite (ℕ_discrete m 0)
             (λ here. ap (session_entries goes) here ∙ c.own ∙ ap (λ z. session_entries h 0 + z) zero ∙ plain (session_entries h 0) ∙ ap (session_entries h) (sym here))
             (λ apart. c.others m apart) in
-            let tx = continues_tx h goes 0 (own_entries recs said) (length (group_entries lsn recs said)) c in (
+            let tx = continues_tx h goes 0 (own_entries None recs said) (length (group_entries lsn recs said)) c in (
               (λ m e is. let was = k.books.sessions m e (sym (ap (entry_of m) set) ∙ is) in (was.0 ∙ sym (same m), was.1 ∙ sym (tx m))),
               (λ m high. let was = k.fresh m high in record { book = ap (entry_of m) set ∙ was.book; entries = same m ∙ was.entries; begun = c.last m ∙ was.begun }),
             )
@@ -387,14 +417,14 @@ module _ (opens : List Record → Type 0) (h : List Entry) (n : Numbers) (b : Bo
             plain : (m : ℕ) → m + 0 ≡ m
             plain m = omega arith
 
-    pub group_kept : (new : Option PageClaim) (ps' ms' : List BookEntry) (h' : List Entry) (total' of_session' count : ℕ) → h' ≡ goes → count ≡ length (group_entries lsn recs said) → total' ≡ total + length (group_entries lsn recs said) → of_session' ≡ of_session + own_entries recs said
+    pub group_kept : (new : Option PageClaim) (ps' ms' : List BookEntry) (h' : List Entry) (total' of_session' count : ℕ) → h' ≡ goes → count ≡ length (group_entries lsn recs said) → total' ≡ total + length (group_entries lsn recs said) → of_session' ≡ of_session + own_entries x.s recs said
         → length recs ≤ 2 → n.entries < 2 ^ 62 → ((opening : List Record) → opens opening → lsn ≡ length (life_log opening h) + 1) → Agree opens h x → IfSome new (PageAgrees opens h) → list_all (is_covered x new) recs ≡ true
         → (list_any needs_maintenance recs ≡ true → IsSome x.m) → ArePagesSet lsn recs x new b.pages ps' → IsMaintenanceSet lsn recs x.m b.maint ms' → ((m : ℕ) (e : BookEntry) → entry_of m b.maint ≡ Some e → m ≡ 0)
         → IsConsistent opens goes → IsKept opens h' (record n { entries = n.entries + count }) (record { pages = ps'; sessions = ss'; maint = ms' }) total' of_session'
     group_kept new ps' ms' h' total' of_session' count now counts sum sums few short place agrees fresh covered maintained pages maint one consistent =
         let longer = group_longer lsn recs said in
         let most : length (group_entries lsn recs said) ≤ 3 = at_most (length recs) said few longer in
-        let done = kept_then opens h goes n b (record { pages = ps'; sessions = ss'; maint = ms' }) total of_session (number_of x.s) (own_entries recs said) (length (group_entries lsn recs said)) k continues consistent short most
+        let done = kept_then opens h goes n b (record { pages = ps'; sessions = ss'; maint = ms' }) total of_session (number_of x.s) (own_entries x.s recs said) (length (group_entries lsn recs said)) k continues consistent short most
         (record {
           pages = pages_after opens h lsn recs said place x new b.pages ps' agrees fresh covered pages k.books.pages;
           sessions = sessions_after.0;
@@ -408,7 +438,7 @@ module _ (opens : List Record → Type 0) (h : List Entry) (n : Numbers) (b : Bo
         at_most m (Some s) few is = omega (arith, few, is)
 
     pub group_live : (live_count goes ≡ live_count h) × (live_count h ≤ 64)
-    group_live = (continues_live h goes (number_of x.s) (own_entries recs said) (length (group_entries lsn recs said)) continues, subst (λ m. m ≤ 64) k.begun.counted k.begun.most)
+    group_live = (continues_live h goes (number_of x.s) (own_entries x.s recs said) (length (group_entries lsn recs said)) continues, subst (λ m. m ≤ 64) k.begun.counted k.begun.most)
 
 -- there is room for the entries of a session
 pub session_room : (h : List Entry) (s : Option SessionClaim) → IfSome s (SessionAgrees h) → length h < 2 ^ 62 → IfSome s (λ x. x.entries + 3 < 2 ^ 64)

@@ -49,6 +49,7 @@ kept_pages opens h n ps ps' ss ms total of_session right first second k there no
       entries = k.entries;
       number = k.number;
       least = k.least;
+      first = k.first;
       room = k.room;
       begun = k.begun;
       fresh = k.fresh;
@@ -66,6 +67,7 @@ kept_sessions opens h n ps ss ss' ms total of_session right first second k there
       entries = k.entries;
       number = k.number;
       least = k.least;
+      first = k.first;
       room = k.room;
       begun = k.begun;
       fresh = λ s above. fresh_same ss ss' right first second there now h s (k.fresh s above);
@@ -83,6 +85,7 @@ kept_maint opens h n ps ss ms ms' total of_session right first second k there no
       entries = k.entries;
       number = k.number;
       least = k.least;
+      first = k.first;
       room = k.room;
       begun = k.begun;
       fresh = k.fresh;
@@ -105,11 +108,11 @@ pub entry_of-apart : (m : ℕ) (new : BookEntry) (es : List BookEntry) → m ≢
 entry_of-apart m new [] apart = grind (arith, nat_tests, apart)
 entry_of-apart m new (e ∷ es) apart = grind (arith, nat_tests, apart, entry_of-apart m new es apart)
 
-pub kept_opened : (opens : List Record → Type 0) (h : List Entry) (count session tx live total of_session : ℕ) (ps ss ss' ms : List BookEntry)
-    → IsKept opens h (record { entries = count; session = session; tx = tx; live = live }) (record { pages = ps; sessions = ss; maint = ms }) total of_session
+pub kept_opened : (opens : List Record → Type 0) (h : List Entry) (count session tx first live total of_session : ℕ) (ps ss ss' ms : List BookEntry)
+    → IsKept opens h (record { entries = count; session = session; tx = tx; first = first; live = live }) (record { pages = ps; sessions = ss; maint = ms }) total of_session
     → ss' ≡ ss ++ entry session 0 0 ∷ []
-    → IsKept opens h (record { entries = count; session = session + 1; tx = tx; live = live }) (record { pages = ps; sessions = ss'; maint = ms }) total of_session
-kept_opened opens h count session tx live total of_session ps ss ss' ms k now =
+    → IsKept opens h (record { entries = count; session = session + 1; tx = tx; first = first; live = live }) (record { pages = ps; sessions = ss'; maint = ms }) total of_session
+kept_opened opens h count session tx first live total of_session ps ss ss' ms k now =
     let new = entry session 0 0 in
     let own = k.fresh session (omega arith) in
     let other : (m : ℕ) → m ≢ session → entry_of m ss' ≡ entry_of m ss = λ m apart. ap (λ l. entry_of m l) now ∙ entry_of-apart m new ss apart in
@@ -118,6 +121,7 @@ kept_opened opens h count session tx live total of_session ps ss ss' ms k now =
       entries = k.entries;
       number = k.number;
       least = k.least;
+      first = k.first;
       room = k.room;
       begun = k.begun;
       fresh = λ m above. let was = k.fresh m (omega (arith, above)) in record { book = other m (λ same. absurd (omega (arith, above, same))) ∙ was.book; entries = was.entries; begun = was.begun };
@@ -181,7 +185,7 @@ none_begun next = record {
 }
 
 pub kept_new : (opens : List Record → Type 0) (b : BooksOf) (ss : List BookEntry) (next : ℕ) → AreKept opens [] b → b.sessions ≡ [] → ss ≡ b.sessions ++ entry 0 0 0 ∷ [] → 1 ≤ next → ((opening : List Record) → opens opening → Begins opening next)
-    → IsKept opens [] (record { entries = 0; session = 1; tx = next; live = 0 }) (record b { sessions = ss }) 0 0
+    → IsKept opens [] (record { entries = 0; session = 1; tx = next; first = next; live = 0 }) (record b { sessions = ss }) 0 0
 kept_new opens b ss next books none spare least opened =
     let is : ss ≡ [] ++ entry 0 0 0 ∷ [] = spare ∙ ap (λ (es : List BookEntry). es ++ entry 0 0 0 ∷ []) none in
     let same : (opening : List Record) → life_log opening [] ≡ opening = λ opening. append-nil opening in
@@ -196,6 +200,7 @@ kept_new opens b ss next books none spare least opened =
       entries = refl;
       number = λ opening stands. let n = (opened opening stands).number in let z = nothing_begun in omega (arith, n, z);
       least = least;
+      first = record { least = omega arith; opening = λ opening stands. (opened opening stands).number; begun = λ t low. refl };
       room = omega arith;
       begun = none_begun next;
       fresh = λ s above. record { book = ap (entry_of s) is ∙ entry_of-apart s (entry 0 0 0) [] (λ same. absurd (omega (arith, above, same))); entries = (no_session s).0; begun = (no_session s).1 };

@@ -4,6 +4,7 @@ pub mod Entering
 pub mod Entries
 pub mod Grouped
 pub mod Keeping
+pub mod Losers
 pub mod Moving
 pub mod Own
 pub mod Repairing

@@ -16,7 +16,7 @@ use Rattle.log_laws.proofs.Central.{eqb_differ, eqb_self}
 use Rattle.page_ops.specs.Claims.{SessionAgrees}
 use Rattle.page_ops.specs.Seeing.{IsConsistent, is_of_session, of_sessions}
 use Rattle.life_history.specs.Kept.{Numbers, BooksOf, AreBegun, IsKept, commit_entry, end_entry}
-use Rattle.life_history.proofs.Beginnings.{one_owner, begun_over, begun_on, some_live}
+use Rattle.life_history.proofs.Beginnings.{one_owner, begun_over, begun_on, first_on, some_live}
 use Rattle.life_history.proofs.Keeping.{of_sessions_push}
 use Rattle.life_history.proofs.Own.{agreeing, begun_by, begun_once, consistent_entry, owner, owned_by_none, unless_live}
 use Rattle.life_history.proofs.Sessions.{OthersStay, tx_same, sessions_after, fresh_after}
@@ -89,6 +89,7 @@ module _ (opens : List Record → Type 0) (h : List Entry) (n : Numbers) (b : Bo
       entries = let was = k.entries in omega (arith, was, length-append h (e ∷ []));
       number = λ opening stands. k.number opening stands ∙ ap (λ (x : ℕ). suc (max (greatest opening) x)) (sym (begun_push h e ∙ m.greatest (greatest_begun h)));
       least = k.least;
+      first = first_on opens h done n.first n.tx k.first (beginnings_push h e ∙ ap (λ bs. beginnings h ++ bs) m.begins ∙ append-nil (beginnings h));
       room = room;
       begun =
           subst (λ (x : List Beginning × (ℕ → Phase) × (ℕ → Option ℕ)). AreBegun x.0 x.1 x.2 n.tx left)

@@ -23,7 +23,7 @@ use Rattle.log_laws.proofs.Serial.{owner_new}
 use Rattle.page_ops.specs.Claims.{SessionAgrees}
 use Rattle.page_ops.specs.Seeing.{IsConsistent, is_begun, is_of_session, of_sessions}
 use Rattle.life_history.specs.Kept.{Numbers, BooksOf, AreKept, IsFresh, AreBegun, IsKept, is_beginning, times, is_calm, is_of}
-use Rattle.life_history.proofs.Beginnings.{own_time, one_owner, not_next, begun_began}
+use Rattle.life_history.proofs.Beginnings.{own_time, one_owner, not_next, begun_began, first_began, first_on}
 use Rattle.life_history.proofs.Sessions.{OthersStay, tx_same, sessions_after, fresh_after}
 use Rattle.life_history.proofs.Keeping.{of_sessions_push, no_session}
 
@@ -170,6 +170,7 @@ kept_then opens h h' n b b' total of_session session own more k c consistent low
   entries = let was = k.entries in let now = c.longer in omega (arith, was, now);
   number = λ opening stands. k.number opening stands ∙ ap (λ (m : ℕ). suc (max (greatest opening) m)) (sym c.greatest);
   least = k.least;
+  first = first_on opens h h' n.first n.tx k.first c.begins;
   room = let most = k.begun.most in omega (arith, low, few, most);
   begun = subst (λ (x : List Beginning × (ℕ → Phase) × (ℕ → Option ℕ)). AreBegun x.0 x.1 x.2 n.tx n.live) (λ i. (sym c.begins i, (λ t. sym (c.phases t) i), (λ m. sym (c.last m) i))) k.begun;
   fresh = fresh;
@@ -313,6 +314,7 @@ module _ (opens : List Record → Type 0) (h : List Entry) (n : Numbers) (b : Bo
           entries = omega (arith, k.entries, length-append h (beginning ∷ []));
           number = λ opening stands. let b = begun_push h beginning in let is = k.number opening stands in omega (arith, b, is);
           least = omega arith;
+          first = first_began opens h began n.first n.tx (record { session = s.session; tx = n.tx }) k.first refl (beginnings_push h beginning);
           room = omega (arith, short, few);
           begun =
               subst (λ (x : List Beginning × (ℕ → Phase) × (ℕ → Option ℕ)). AreBegun x.0 x.1 x.2 (n.tx + 1) (n.live + 1))

@@ -1,5 +1,5 @@
 -- An entry that a page was repaired belongs to no session, and changes no book.
-use Rattle.std.proofs.Common.{◌≡◌, ◌≢◌, ℕ, suc, cond, ◌+◌, ◌≤◌, ◌<◌, ◌^◌, List, [], ◌∷◌, ◌++◌, length, Bool, refl, sym, ap, ◌∙◌, subst, arith, length-append, append-nil}
+use Rattle.std.proofs.Common.{◌≡◌, ℕ, ◌+◌, ◌≤◌, ◌<◌, ◌^◌, List, [], ◌∷◌, ◌++◌, length, refl, sym, ap, ◌∙◌, subst, arith, length-append, append-nil}
 use Rattle.front.proofs.Keeping.{prefix_trans}
 use Rattle.front.specs.Seen.{PassSeen}
 use Rattle.books.specs.declared.entry.BookEntry.{BookEntry}
@@ -16,7 +16,7 @@ use Rattle.page_ops.specs.Claims.{no_claims}
 use Rattle.page_ops.specs.Names.{LedgerName}
 use Rattle.page_ops.specs.Seeing.{Account, known, Keeps, Enters, IsConsistent, of_sessions}
 use Rattle.life_history.specs.Groups.{counted_group}
-use Rattle.life_history.specs.Kept.{Numbers, BooksOf, IsFresh, IsKept}
+use Rattle.life_history.specs.Kept.{Numbers, BooksOf, IsKept}
 use Rattle.life_history.proofs.Keeping.{of_sessions_push}
 use Rattle.life_history.proofs.Own.{Continues, consistent_entry, continues_live, continues_tx, kept_then}
 
@@ -92,11 +92,11 @@ repair_entered opens entries sessions a0 a1 a2 s0 s1 s2 h h' page e account log 
       };
     }
 
-pub repaired_kept : (opens : List Record → Type 0) (h h' : List Entry) (count session tx live total of_session total' of_session' page : ℕ) (ps ps' ss ss' ms ms' : List BookEntry)
-    → IsKept opens h (record { entries = count; session = session; tx = tx; live = live }) (record { pages = ps; sessions = ss; maint = ms }) total of_session → h' ≡ h ++ Repaired page ∷ [] → count < 2 ^ 62
+pub repaired_kept : (opens : List Record → Type 0) (h h' : List Entry) (count session tx first live total of_session total' of_session' page : ℕ) (ps ps' ss ss' ms ms' : List BookEntry)
+    → IsKept opens h (record { entries = count; session = session; tx = tx; first = first; live = live }) (record { pages = ps; sessions = ss; maint = ms }) total of_session → h' ≡ h ++ Repaired page ∷ [] → count < 2 ^ 62
     → ((opening : List Record) → opens opening → 0 < written_lsn (life_log opening h) page) → ps' ≡ ps → ss' ≡ ss → ms' ≡ ms → total' ≡ total + 1 → of_session' ≡ of_session
-    → IsKept opens h' (record { entries = count + 1; session = session; tx = tx; live = live }) (record { pages = ps'; sessions = ss'; maint = ms' }) total' of_session'
-repaired_kept opens h h' count session tx live total of_session total' of_session' page ps ps' ss ss' ms ms' k now few image pages sessions maint sum same =
+    → IsKept opens h' (record { entries = count + 1; session = session; tx = tx; first = first; live = live }) (record { pages = ps'; sessions = ss'; maint = ms' }) total' of_session'
+repaired_kept opens h h' count session tx first live total of_session total' of_session' page ps ps' ss ss' ms ms' k now few image pages sessions maint sum same =
     let sums : of_session' ≡ of_session + 0 = omega (arith, same) in
-    subst (λ (y : List BookEntry × List BookEntry × List BookEntry × ℕ × ℕ). IsKept opens h' (record { entries = count + 1; session = session; tx = tx; live = live }) (record { pages = y.0; sessions = y.1; maint = y.2 }) y.3 y.4)
+    subst (λ (y : List BookEntry × List BookEntry × List BookEntry × ℕ × ℕ). IsKept opens h' (record { entries = count + 1; session = session; tx = tx; first = first; live = live }) (record { pages = y.0; sessions = y.1; maint = y.2 }) y.3 y.4)
     (λ i. (sym pages i, sym sessions i, sym maint i, sym sum i, sym sums i)) (repair_kept opens h h' _ _ total of_session k page now few image)

@@ -50,6 +50,7 @@ kept_page opens h n ps ps' ss ms total of_session page k none fresh now = record
   entries = k.entries;
   number = k.number;
   least = k.least;
+  first = k.first;
   room = k.room;
   begun = k.begun;
   fresh = k.fresh;

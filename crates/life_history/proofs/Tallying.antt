@@ -1,8 +1,8 @@
 -- How many writes were undone, and pages repaired, entry by entry.
-use Rattle.std.proofs.Common.{◌≡◌, ℕ, suc, cond, ◌+◌, ◌≤◌, List, [], ◌∷◌, ◌++◌, length, Option, Some, None, Bool, true, false, refl, sym, ap, ◌∙◌, subst, arith, append_assoc, append-nil, length-append}
+use Rattle.std.proofs.Common.{◌≡◌, ℕ, suc, cond, ◌+◌, ◌≤◌, List, [], ◌∷◌, ◌++◌, length, Option, Some, None, Bool, true, false, refl, sym, ap, ◌∙◌, subst, arith, length-append}
 use Rattle.std.specs.Prelude.{filter}
 use Rattle.std.proofs.lemmas.List.Elements.{filter-append}
-use Rattle.page_ops.specs.Groups.{record_entries, said_entries, group_entries}
+use Rattle.page_ops.specs.Groups.{group_entries}
 use Rattle.page_ops.specs.Outcomes.{is_undo, is_repaired}
 use Rattle.page_ops.specs.declared.group.Said.{Said}
 use Rattle.wal_record.specs.History.{log_of}

@@ -1,16 +1,17 @@
 -- What the entries of a group make of the books: of those of its pages, of its session, and of maintenance.
-use Rattle.std.specs.Prelude.{◌≡◌, ℕ, suc, ◌+◌, ◌<◌, List, [], ◌∷◌, length, Option, Some, None, is_some, Bool, true, false, ◌||◌, if◌then◌else◌}
+use Rattle.std.specs.Prelude.{◌≡◌, ℕ, suc, ◌+◌, ◌==◌, List, [], ◌∷◌, length, Option, Some, None, Bool, true, false, not, ◌&&◌, ◌||◌, if◌then◌else◌}
 use Rattle.std.specs.List.{list_all}
 use Rattle.std.specs.Option.{option_map}
 use Rattle.books.specs.Booking.{entry_of, replaced}
 use Rattle.books.specs.Rights.{PageClaim, page_entry, SessionClaim, session_entry, MaintClaim, maint_entry}
 use Rattle.books.specs.declared.entry.BookEntry.{BookEntry}
 use Rattle.wal_record.specs.Chains.{names, Link, link_of}
+use Rattle.wal_record.specs.declared.entry.Entry.{Entry}
 use Rattle.wal_record.specs.declared.record.Record.{Record}
 use Rattle.wal_record.specs.declared.record.Record.TheVariants as kinds
 use Rattle.page_ops.specs.Claims.{Claims}
 use Rattle.page_ops.specs.Groups.{is_to, needs_maintenance, said_entries}
-use Rattle.page_ops.specs.Seeing.{Account}
+use Rattle.page_ops.specs.Seeing.{Account, is_begun_link}
 use Rattle.page_ops.specs.declared.group.Said.{Said}
 
 -- ---- what its records move
@@ -31,22 +32,26 @@ is_still (kinds.Commit c) = false
 is_still (kinds.End e) = false
 is_still r = true
 
--- how many of these records name a transaction
-abbrev pub linked : List Record → ℕ
-linked [] = 0
-linked (r ∷ rs) = if is_some (link_of r) then suc (linked rs) else linked rs
+-- the record names the transaction of the right's session
+abbrev pub is_by : Option SessionClaim → Option Link → Bool
+is_by s None = false
+is_by None (Some l) = false
+is_by (Some s) (Some l) = not (s.tx == 0) && l.tx == s.tx
 
--- how many entries of the group belong to its session
-abbrev pub own_entries : List Record → Option Said → ℕ
-own_entries recs said = linked recs + length (said_entries said)
+-- how many of these records do
+abbrev pub linked : Option SessionClaim → List Record → ℕ
+linked s [] = 0
+linked s (r ∷ rs) = if is_by s (link_of r) then suc (linked s rs) else linked s rs
+
+-- How many entries of the group belong to its session. The records of a loser, which no session began, belong to none.
+abbrev pub own_entries : Option SessionClaim → List Record → Option Said → ℕ
+own_entries s recs said = linked s recs + length (said_entries said)
 
 -- ---- the rights that it needs
 
--- where the record names a transaction, that is the one of the right's session
-abbrev pub IsOwn : Option SessionClaim → Option Link → Type 0
-IsOwn s None = Unit {0}
-IsOwn None (Some l) = ⊥
-IsOwn (Some s) (Some l) = (l.tx ≡ s.tx) × (0 < s.tx)
+-- where the record names a transaction that a session began, that is the one of the right's session
+abbrev pub IsOwn : List Entry → Option SessionClaim → Option Link → Type 0
+IsOwn h s link = is_begun_link h link ≡ true → is_by s link ≡ true
 
 -- the pages that a record names
 abbrev pub named_pages : Record → List ℕ
@@ -89,7 +94,7 @@ raised x new lsn recs said = record {
   a = option_map (raised_page lsn recs) x.a;
   b = option_map (raised_page lsn recs) x.b;
   c = new_or (option_map (raised_page lsn recs) new) (option_map (raised_page lsn recs) x.c);
-  s = option_map (raised_session (own_entries recs said)) x.s;
+  s = option_map (raised_session (own_entries x.s recs said)) x.s;
   m = option_map (raised_maintenance lsn recs) x.m;
 }
 

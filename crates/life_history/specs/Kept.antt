@@ -13,13 +13,15 @@ use Rattle.wal_record.specs.declared.entry.Entry.{Entry}
 use Rattle.wal_record.specs.declared.entry.Entry.TheVariants as entries
 use Rattle.page_ops.specs.Names.{LedgerName}
 use Rattle.page_ops.specs.Outcomes.{is_undo, is_repaired}
-use Rattle.page_ops.specs.Seeing.{Account, Counted, IsConsistent, of_sessions}
+use Rattle.page_ops.specs.Seeing.{Account, Counted, IsConsistent, is_begun, of_sessions}
 
--- the numbers that it counts: its entries, the next session, the next transaction, and how many transactions are live
+-- the numbers that it counts: its entries, the next session, the next transaction and the first one that a session began or
+-- may begin, and how many transactions are live
 pub record Numbers : Type 0 where
   pub entries : ℕ
   pub session : ℕ
   pub tx : ℕ
+  pub first : ℕ
   pub live : ℕ
 
 -- its three books
@@ -67,12 +69,19 @@ pub record AreBegun (bs : List Beginning) (phases : ℕ → Phase) (begun : ℕ 
   pub counted : live ≡ length (filter (λ (b : Beginning). is_live (phases b.tx)) bs)
   pub most : live ≤ 64
 
+-- The transactions that sessions begin have this number or a higher one, up to the next; those of the opening log are below.
+pub record IsFirst (opens : List Record → Type 0) (h : List Entry) (first next : ℕ) : Type 0 where
+  pub least : first ≤ next
+  pub opening : (opening : List Record) → opens opening → first ≡ suc (greatest opening)
+  pub begun : (t : ℕ) → t < first → is_begun h t ≡ false
+
 -- the history is consistent, the numbers and books are its own, and the ledgers' totals count its entries
 pub record IsKept (opens : List Record → Type 0) (h : List Entry) (n : Numbers) (b : BooksOf) (total of_session : ℕ) : Type 0 where
   pub consistent : IsConsistent opens h
   pub entries : n.entries ≡ length h
   pub number : (opening : List Record) → opens opening → n.tx ≡ suc (max (greatest opening) (greatest_begun h))
   pub least : 1 ≤ n.tx
+  pub first : IsFirst opens h n.first n.tx
   -- a commit of each live transaction enters two entries
   pub room : n.entries + 2 * n.live < 2 ^ 63
   pub begun : AreBegun (beginnings h) (phase h) (last_begun h) n.tx n.live

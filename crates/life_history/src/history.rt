@@ -1,15 +1,15 @@
 //! The history, and what it keeps beside the entries.
-ghost use Rattle.std.specs.Prelude.{◌≡◌, ◌⊎◌, ◌+◌, ◌*◌, ◌<◌, ◌≤◌, ◌^◌, List, [], ◌∷◌, ◌++◌, length, filter, true, Some, None, IfSome, IsSome, OnOk, OnErr, IfOk, IfErr, IsTrue};
+ghost use Rattle.std.specs.Prelude.{◌≡◌, ◌⊎◌, ◌+◌, ◌*◌, ◌<◌, ◌≤◌, ◌^◌, List, [], ◌∷◌, ◌++◌, length, filter, true, false, Some, None, IfSome, IsSome, OnOk, OnErr, IfOk, IfErr, IsTrue, nat_le};
 ghost use Rattle.std.specs.List.{list_all, list_any};
 ghost use mathlib.Core.List.{IsPrefix};
 ghost use Rattle.page_ops.specs.Causes.{with_one};
 ghost use Rattle.page_ops.specs.Claims.{Agree, MaintAgrees, PageAgrees, SessionAgrees, no_claims, session_alone};
 ghost use Rattle.page_ops.specs.Groups.{Each, HasSpeaker, group_entries, needs_maintenance};
 ghost use Rattle.page_ops.specs.Outcomes.{IsCrowd, begun, is_repaired, is_undo};
-ghost use Rattle.page_ops.specs.Seeing.{Enters, HasTotals, IsConsistent, Looks, known, of_sessions};
+ghost use Rattle.page_ops.specs.Seeing.{Enters, HasTotals, IsConsistent, Looks, is_begun, known, of_sessions};
 ghost use Rattle.store_model.specs.declared.fault.Fault.TheVariants as faults;
 ghost use Rattle.wal_record.specs.Books.{page_book};
-ghost use Rattle.wal_record.specs.Chains.{link_of, names};
+ghost use Rattle.wal_record.specs.Chains.{greatest, link_of, names};
 ghost use Rattle.wal_record.specs.History.{Committed, Live, life_log, live_count, log_of, phase};
 ghost use Rattle.wal_record.specs.Rules.{is_number, is_page};
 ghost use Rattle.wal_record.specs.Sound.{IsSound};
@@ -43,6 +43,8 @@ pub struct History<'a, N: Life> {
     count: u64,
     next_session: u32,
     next_tx: TxId,
+    // The first transaction that a session of the life may have begun.
+    first_tx: TxId,
     live: u32,
     next_page: PageNo,
     undone: u64,
@@ -59,7 +61,7 @@ impl<'a, N: Life> Model for History<'a, N> {
 
     ghost view = { λ h. h.stand.front };
 
-    ghost invariant = { λ h. IsSome h.stand.spare × IsKept N.opens h.stand.front (record { entries = h.count; session = h.next_session; tx = h.next_tx; live = h.live }) (record { pages = h.stand.books.pages; sessions = h.stand.books.sessions; maint = h.stand.books.maint }) h.stand.entries.total h.stand.session_entries.total × IsSmall h.next_page (record { pages = h.stand.books.pages; sessions = h.stand.books.sessions; maint = h.stand.books.maint }) × IsTallied h.stand.front h.undone h.repaired };
+    ghost invariant = { λ h. IsSome h.stand.spare × IsKept N.opens h.stand.front (record { entries = h.count; session = h.next_session; tx = h.next_tx; first = h.first_tx; live = h.live }) (record { pages = h.stand.books.pages; sessions = h.stand.books.sessions; maint = h.stand.books.maint }) h.stand.entries.total h.stand.session_entries.total × IsSmall h.next_page (record { pages = h.stand.books.pages; sessions = h.stand.books.sessions; maint = h.stand.books.maint }) × IsTallied h.stand.front h.undone h.repaired };
 }
 
 impl<'a, N: Life> History<'a, N> {
@@ -88,6 +90,7 @@ impl<'a, N: Life> History<'a, N> {
             count: 0,
             next_session: 1,
             next_tx,
+            first_tx: next_tx,
             live: 0,
             next_page,
             undone: 0,
@@ -439,7 +442,8 @@ impl<'a, N: Life> History<'a, N> {
     }
 
     /// Enters a group: records from this LSN on by which no transaction ends, and the answer of a request. `new` is the
-    /// right to the page that they make, where they make one. All rights are raised.
+    /// right to the page that they make, where they make one. All rights are raised. A record of a transaction that no session
+    /// began, a loser's, belongs to none.
     #[tactic(auto, using(crate::proofs::Tallying::undone_within))]
     pub fn enter_group(
         &mut self,
@@ -452,7 +456,7 @@ impl<'a, N: Life> History<'a, N> {
     )
         requires few { length recs.now ≤ 2 }
         requires still { IsTrue (list_all is_still recs.now) }
-        requires own { Each (λ r. IsOwn rights.old.s (link_of r)) recs.now }
+        requires own { Each (λ r. IsOwn self.old rights.old.s (link_of r)) recs.now }
         requires speaker { HasSpeaker rights.old.s said.now }
         requires covered { IsTrue (list_all (is_covered rights.old new) recs.now) }
         requires maintained { list_any needs_maintenance recs.now ≡ true → IsSome rights.old.m }
@@ -467,8 +471,8 @@ impl<'a, N: Life> History<'a, N> {
         ensures history { self.new ≡ self.old ++ group_entries lsn recs.now said.now }
         ensures live { (live_count self.new ≡ live_count self.old) × (live_count self.old ≤ 64) }
         ensures rights { rights.new ≡ raised rights.old new lsn recs.now said.now }
-        ensures counts { counts.new ≡ counted_group counts.old (length (group_entries lsn recs.now said.now)) (own_entries recs.now said.now) }
-        ensures counted { of_sessions self.new ≡ of_sessions self.old + own_entries recs.now said.now }
+        ensures counts { counts.new ≡ counted_group counts.old (length (group_entries lsn recs.now said.now)) (own_entries rights.old.s recs.now said.now) }
+        ensures counted { of_sessions self.new ≡ of_sessions self.old + own_entries rights.old.s recs.now said.now }
     {
         self.undone += undone_of(recs);
         self.count += self.stand.enter_group(lsn, recs, said, new, rights, counts);
@@ -521,6 +525,28 @@ impl<'a, N: Life> History<'a, N> {
         self.stand.enter_record::<Brand>(lsn, prev, s, 0, counts);
         self.count += 1;
         self.live -= 1;
+    }
+
+    /// Enters the end of a transaction that no session began, a loser's, as the record with this LSN.
+    pub fn enter_loser_end(&mut self, lsn: Lsn, tx: TxId, prev: Lsn, counts: &mut Counts<N>)
+        requires loser { is_begun self.old tx ≡ false }
+        requires few { length self.old < 2 ^ 62 }
+        requires consistent { IsConsistent N.opens (self.old ++ end_entry lsn tx prev ∷ []) }
+        ensures history { self.new ≡ self.old ++ end_entry lsn tx prev ∷ [] }
+        ensures live { (live_count self.new ≡ live_count self.old) × (live_count self.old ≤ 64) }
+        ensures counts { counts.new ≡ counted_group counts.old 1 0 }
+        ensures counted { of_sessions self.new ≡ of_sessions self.old }
+    {
+        self.stand.enter_loser_end(lsn, tx, prev, counts);
+        self.count += 1;
+    }
+
+    /// Whether the transaction may be one of the opening log. No session of the life has begun it then.
+    pub fn is_earlier(&self, tx: TxId) -> bool
+        ensures begun { IsTrue result → is_begun self.now tx ≡ false }
+        ensures opening { (opening : List Record) → N.opens opening → result ≡ nat_le tx (greatest opening) }
+    {
+        tx < self.first_tx
     }
 
     /// Enters that the commit of the session's transaction is acknowledged. The session has then no transaction.

@@ -1,5 +1,5 @@
 //! What the records of a group make of the rights to pages and to maintenance, and of their books.
-ghost use Rattle.std.specs.Prelude.{◌≡◌, ◌+◌, ◌<◌, ◌≤◌, ◌^◌, ℕ, length, filter, is_some, true, IfSome, IsTrue};
+ghost use Rattle.std.specs.Prelude.{◌≡◌, ◌+◌, ◌<◌, ◌≤◌, ◌^◌, ℕ, length, filter, true, Some, IfSome, IsTrue};
 ghost use Rattle.std.specs.List.{list_any};
 ghost use Rattle.std.specs.Option.{option_map};
 ghost use Rattle.page_ops.specs.Groups.{group_entries, needs_maintenance};
@@ -8,11 +8,12 @@ ghost use Rattle.page_ops.specs.Outcomes.{is_undo};
 ghost use Rattle.wal_record.specs.Rules.{is_page};
 ghost use Rattle.wal_record.specs.Chains.{link_of};
 ghost use Rattle.wal_record.specs.Chains as chains;
+ghost use Rattle.life_history.specs.Groups as groups;
 ghost use Rattle.life_history.specs.Groups.{ArePagesSet, IsMaintenanceSet, IsPageSet, head_behind, maintenance_behind, new_or, own_entries, raised_maintenance, raised_page};
 
-use books::{Book, BookTable, MaintBook, MaintRight, PageBook, PageRight};
+use books::{Book, BookTable, MaintBook, MaintRight, PageBook, PageRight, SessionRight};
 use page_ops::{Life, Rights, Said};
-use store_model::{Lsn, PageNo};
+use store_model::{Lsn, PageNo, TxId};
 use wal_record::Record;
 
 /// Whether the record names the page.
@@ -39,14 +40,28 @@ fn is_maintenance(rec: &Record) -> bool
     matches!(rec, Record::BackupDone(_) | Record::RunDone(_))
 }
 
-/// Whether the record names a transaction.
-fn is_linked(rec: &Record) -> bool
-    ensures { result ≡ is_some (link_of rec.now) }
+/// Whether the record names the transaction of the right's session.
+fn is_by<N: Life>(s: &Option<SessionRight<N>>, rec: &Record) -> bool
+    ensures { result ≡ groups.is_by s.now (link_of rec.now) }
 {
-    matches!(
-        rec,
-        Record::Write(_) | Record::Apply(_) | Record::Undo(_) | Record::Commit(_) | Record::End(_)
-    )
+    match rec {
+        Record::Write(write) => has_tx(s, write.tx),
+        Record::Apply(apply) => has_tx(s, apply.tx),
+        Record::Undo(undo) => has_tx(s, undo.tx),
+        Record::Commit(commit) => has_tx(s, commit.tx),
+        Record::End(end) => has_tx(s, end.tx),
+        _ => false,
+    }
+}
+
+/// Whether this is the transaction of the right's session.
+fn has_tx<N: Life>(s: &Option<SessionRight<N>>, tx: TxId) -> bool
+    ensures { result ≡ groups.is_by s.now (Some (record { tx = tx; prev = 0 })) }
+{
+    match s {
+        Some(s) => s.tx() != 0 && tx == s.tx(),
+        None => false,
+    }
 }
 
 /// The head of a page behind records from this LSN on, where it was this before.
@@ -93,17 +108,21 @@ fn maintenance_after(before: Lsn, lsn: Lsn, recs: &[Record]) -> Lsn
     }
 }
 
-/// How many entries of a group belong to its session.
-pub(crate) fn own_of(recs: &[Record], said: &Option<Said>) -> u64
+/// How many entries of a group belong to its session, to which this is the right.
+pub(crate) fn own_of<N: Life>(
+    s: &Option<SessionRight<N>>,
+    recs: &[Record],
+    said: &Option<Said>,
+) -> u64
     requires few { length recs.now ≤ 2 }
-    ensures value { result ≡ own_entries recs.now said.now }
+    ensures value { result ≡ own_entries s.now recs.now said.now }
     ensures few { result ≤ 3 }
 {
     let mut own = u64::from(said.is_some());
     match recs {
         [] => {}
-        [one] => own += u64::from(is_linked(one)),
-        [one, two] => own += u64::from(is_linked(one)) + u64::from(is_linked(two)),
+        [one] => own += u64::from(is_by(s, one)),
+        [one, two] => own += u64::from(is_by(s, one)) + u64::from(is_by(s, two)),
         _ => unreachable!(),
     }
     own

@@ -9,6 +9,7 @@ ghost use Rattle.wal_record.specs.Chains.{names};
 ghost use Rattle.wal_record.specs.Rules.{is_page};
 ghost use Rattle.wal_record.specs.declared.entry.Entry.TheVariants.{Repaired};
 ghost use Rattle.life_history.specs.Groups.{ArePagesSet, IsMaintenanceSet, IsSessionSet, counted_group, own_entries, raised, raised_session};
+ghost use Rattle.life_history.specs.Kept.{end_entry};
 
 use crate::counts::Counts;
 use crate::raising::{entries_of, own_of, raise_maintenance, raise_pages};
@@ -51,6 +52,21 @@ pub(crate) fn add_group<N: Life, A: Added<Entry>>(
     front.advance::<A>(board, count);
 }
 
+/// The front goes on by the End of a transaction, which A has.
+fn add_end<N: Life, A: Added<Entry>>(
+    board: &Board<Entry, N>,
+    front: &mut Front<Entry, N>,
+    _lsn: Lsn,
+    _tx: TxId,
+    _prev: Lsn,
+)
+    requires entry { A.entries ≡ end_entry _lsn _tx _prev ∷ [] }
+    requires fits { length front.old + 1 < 2 ^ 64 }
+    ensures { front.new ≡ front.old ++ end_entry _lsn _tx _prev ∷ [] }
+{
+    front.advance::<A>(board, 1);
+}
+
 /// The front goes on by the entry that this page was repaired, which A has.
 fn add_repaired<N: Life, A: Added<Entry>>(
     board: &Board<Entry, N>,
@@ -76,6 +92,20 @@ impl<'a, N: Life> Stand<'a, N> {
         ensures counts { counts.new ≡ counted_group counts.old 1 0 }
     {
         add_repaired::<N, Brand>(&self.ground.board, &mut self.front, page);
+        self.entries.add(&mut counts.entries, 1);
+    }
+
+    /// Enters the End of a loser, and counts the entry, which belongs to no session.
+    pub(crate) fn enter_loser_end(&mut self, lsn: Lsn, tx: TxId, prev: Lsn, counts: &mut Counts<N>)
+        requires fits { length self.old.front + 1 < 2 ^ 64 }
+        ensures books { self.new.books ≡ self.old.books }
+        ensures spare { self.new.spare ≡ self.old.spare }
+        ensures front { self.new.front ≡ self.old.front ++ end_entry lsn tx prev ∷ [] }
+        ensures total { self.new.entries.total ≡ self.old.entries.total + 1 }
+        ensures sessions_total { self.new.session_entries.total ≡ self.old.session_entries.total }
+        ensures counts { counts.new ≡ counted_group counts.old 1 0 }
+    {
+        add_end::<N, Brand>(&self.ground.board, &mut self.front, lsn, tx, prev);
         self.entries.add(&mut counts.entries, 1);
     }
 
@@ -193,7 +223,7 @@ impl<'a, N: Life> Stand<'a, N> {
         requires place { IsSome new → rights.old.c ≡ None }
         requires named { IfSome new (λ p. IsTrue (is_page p.page) × (list_any (names p.page) recs.now ≡ true)) }
         ensures pages { ArePagesSet lsn recs.now rights.old new self.old.books.pages self.new.books.pages }
-        ensures session { IsSessionSet (own_entries recs.now said.now) rights.old.s self.old.books.sessions self.new.books.sessions }
+        ensures session { IsSessionSet (own_entries rights.old.s recs.now said.now) rights.old.s self.old.books.sessions self.new.books.sessions }
         ensures maintenance { IsMaintenanceSet lsn recs.now rights.old.m self.old.books.maint self.new.books.maint }
         ensures rights { rights.new ≡ raised rights.old new lsn recs.now said.now }
         ensures spare { self.new.spare ≡ self.old.spare }
@@ -201,8 +231,8 @@ impl<'a, N: Life> Stand<'a, N> {
         ensures number { result ≡ length (group_entries lsn recs.now said.now) }
         ensures few { result ≤ 3 }
         ensures total { self.new.entries.total ≡ self.old.entries.total + length (group_entries lsn recs.now said.now) }
-        ensures sessions_total { self.new.session_entries.total ≡ self.old.session_entries.total + own_entries recs.now said.now }
-        ensures counts { counts.new ≡ counted_group counts.old (length (group_entries lsn recs.now said.now)) (own_entries recs.now said.now) }
+        ensures sessions_total { self.new.session_entries.total ≡ self.old.session_entries.total + own_entries rights.old.s recs.now said.now }
+        ensures counts { counts.new ≡ counted_group counts.old (length (group_entries lsn recs.now said.now)) (own_entries rights.old.s recs.now said.now) }
     {
         let ground = self.ground;
         raise_pages(
@@ -215,7 +245,7 @@ impl<'a, N: Life> Stand<'a, N> {
         );
         let (maint, table) = (&mut self.books.maint, &ground.tables.maint);
         raise_maintenance(maint, table, &mut rights.m, lsn, recs);
-        let own = own_of(recs, said);
+        let own = own_of(&rights.s, recs, said);
         self.raise_session(&mut rights.s, own);
         let count = entries_of(recs, said);
         add_group::<N, Brand>(&ground.board, &mut self.front, lsn, recs, said, count);

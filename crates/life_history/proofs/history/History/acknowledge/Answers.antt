@@ -14,7 +14,7 @@ pub invariant_of-self : goal.invariant_of-self
 invariant_of-self g c =
     let enter = c.enter.ensures in (
       enter.spare,
-      acknowledged_kept _ _ _ _ _ _ _ _ _ _ _ c.self.invariant.1 _ enter.before c.requires.active _ _ refl refl _ enter.front
+      acknowledged_kept _ _ _ _ _ _ _ _ _ _ _ _ c.self.invariant.1 _ enter.before c.requires.active _ _ refl refl _ enter.front
           (subst (λ h. phase h c.args.s.now.tx ≡ Committed) (sym c.self.view_is) c.requires.committed)
           (let k = c.self.invariant.1 in let n = k.entries in let live = k.begun.counted in omega (arith, n, live, ap (λ l. length l) c.self.view_is, ap live_count c.self.view_is, c.requires.room))
           _ _ _ _ _ enter.book enter.others enter.total enter.sessions_total,
@@ -24,19 +24,19 @@ invariant_of-self g c =
 
 pub returns-clause-consistent : goal.returns-clause-consistent
 returns-clause-consistent g c =
-    acknowledged_consistent _ _ _ _ _ _ _ _ _ _ _ c.self.invariant.1 _ c.enter.ensures.before c.requires.active _ _ refl refl _ c.enter.ensures.front
+    acknowledged_consistent _ _ _ _ _ _ _ _ _ _ _ _ c.self.invariant.1 _ c.enter.ensures.before c.requires.active _ _ refl refl _ c.enter.ensures.front
     (subst (λ h. phase h c.args.s.now.tx ≡ Committed) (sym c.self.view_is) c.requires.committed)
 
 pub returns-clause-agrees : goal.returns-clause-agrees
-returns-clause-agrees g c = acknowledged_agrees _ _ _ _ _ _ _ _ _ _ _ c.self.invariant.1 _ c.enter.ensures.before c.requires.active _ _ refl refl _ c.enter.ensures.front _ c.enter.ensures.right
+returns-clause-agrees g c = acknowledged_agrees _ _ _ _ _ _ _ _ _ _ _ _ c.self.invariant.1 _ c.enter.ensures.before c.requires.active _ _ refl refl _ c.enter.ensures.front _ c.enter.ensures.right
 
 pub returns-clause-counted : goal.returns-clause-counted
 returns-clause-counted g c =
-    acknowledged_counted _ _ _ _ _ _ _ _ _ _ _ c.self.invariant.1 _ c.enter.ensures.before c.requires.active _ _ refl refl _ c.enter.ensures.front ∙ ap (λ h. of_sessions h + 1) c.self.view_is
+    acknowledged_counted _ _ _ _ _ _ _ _ _ _ _ _ c.self.invariant.1 _ c.enter.ensures.before c.requires.active _ _ refl refl _ c.enter.ensures.front ∙ ap (λ h. of_sessions h + 1) c.self.view_is
 
 pub returns-clause-live : goal.returns-clause-live
 returns-clause-live g c =
-    acknowledged_live _ _ _ _ _ _ _ _ _ _ _ c.self.invariant.1 _ c.enter.ensures.before c.requires.active _ _ refl refl _ c.enter.ensures.front
+    acknowledged_live _ _ _ _ _ _ _ _ _ _ _ _ c.self.invariant.1 _ c.enter.ensures.before c.requires.active _ _ refl refl _ c.enter.ensures.front
     (subst (λ h. phase h c.args.s.now.tx ≡ Committed) (sym c.self.view_is) c.requires.committed)
     (let k = c.self.invariant.1 in let n = k.entries in let live = k.begun.counted in omega (arith, n, live, ap (λ l. length l) c.self.view_is, ap live_count c.self.view_is, c.requires.room))
     ∙ ap live_count c.self.view_is

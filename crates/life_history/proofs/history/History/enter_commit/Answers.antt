@@ -20,7 +20,7 @@ pub invariant_of-self : goal.invariant_of-self
 invariant_of-self g c =
     let enter = c.enter_record.ensures in (
       enter.spare,
-      committed_kept _ _ _ _ _ _ _ _ _ _ _ c.self.invariant.1 _ enter.before c.requires.active _ _ _ c.tx-tx.ensures _ (enter.front ∙ ap (λ t. c.self.inside.stand.front ++ commit_entry c.args.lsn t c.args.prev ∷ []) (sym c.tx-tx.ensures))
+      committed_kept _ _ _ _ _ _ _ _ _ _ _ _ c.self.invariant.1 _ enter.before c.requires.active _ _ _ c.tx-tx.ensures _ (enter.front ∙ ap (λ t. c.self.inside.stand.front ++ commit_entry c.args.lsn t c.args.prev ∷ []) (sym c.tx-tx.ensures))
           (subst (λ h. phase h c.args.s.now.tx ≡ Live) (sym c.self.view_is) c.requires.live)
           (subst (λ h. IsConsistent _ (h ++ commit_entry c.args.lsn c.args.s.now.tx c.args.prev ∷ [])) (sym c.self.view_is) c.requires.consistent)
           _ refl _ _ _ _ _ enter.book enter.others enter.total enter.sessions_total,
@@ -30,7 +30,7 @@ invariant_of-self g c =
 
 pub returns-clause-live : goal.returns-clause-live
 returns-clause-live g c =
-    committed_live _ _ _ _ _ _ _ _ _ _ _ c.self.invariant.1 _ c.enter_record.ensures.before c.requires.active _ _ _ c.tx-tx.ensures _ (c.enter_record.ensures.front ∙ ap (λ t. c.self.inside.stand.front ++ commit_entry c.args.lsn t c.args.prev ∷ []) (sym c.tx-tx.ensures))
+    committed_live _ _ _ _ _ _ _ _ _ _ _ _ c.self.invariant.1 _ c.enter_record.ensures.before c.requires.active _ _ _ c.tx-tx.ensures _ (c.enter_record.ensures.front ∙ ap (λ t. c.self.inside.stand.front ++ commit_entry c.args.lsn t c.args.prev ∷ []) (sym c.tx-tx.ensures))
     (subst (λ h. phase h c.args.s.now.tx ≡ Live) (sym c.self.view_is) c.requires.live)
     (subst (λ h. IsConsistent _ (h ++ commit_entry c.args.lsn c.args.s.now.tx c.args.prev ∷ [])) (sym c.self.view_is) c.requires.consistent)
     _ refl ∙ ap live_count c.self.view_is
@@ -39,7 +39,7 @@ pub returns-clause-room : goal.returns-clause-room
 returns-clause-room g c =
     let k = c.self.invariant.1 in
     let live =
-    committed_live _ _ _ _ _ _ _ _ _ _ _ k _ c.enter_record.ensures.before c.requires.active _ _ _ c.tx-tx.ensures _ (c.enter_record.ensures.front ∙ ap (λ t. c.self.inside.stand.front ++ commit_entry c.args.lsn t c.args.prev ∷ []) (sym c.tx-tx.ensures))
+    committed_live _ _ _ _ _ _ _ _ _ _ _ _ k _ c.enter_record.ensures.before c.requires.active _ _ _ c.tx-tx.ensures _ (c.enter_record.ensures.front ∙ ap (λ t. c.self.inside.stand.front ++ commit_entry c.args.lsn t c.args.prev ∷ []) (sym c.tx-tx.ensures))
     (subst (λ h. phase h c.args.s.now.tx ≡ Live) (sym c.self.view_is) c.requires.live)
     (subst (λ h. IsConsistent _ (h ++ commit_entry c.args.lsn c.args.s.now.tx c.args.prev ∷ [])) (sym c.self.view_is) c.requires.consistent)
     _ refl in
@@ -50,8 +50,8 @@ returns-clause-room g c =
     omega (arith, live, counted, room, same, longer, length-append c.self.inside.stand.front (commit_entry c.args.lsn c.args.s.now.tx c.args.prev ∷ []))
 
 pub returns-clause-agrees : goal.returns-clause-agrees
-returns-clause-agrees g c = committed_agrees _ _ _ _ _ _ _ _ _ _ _ c.self.invariant.1 _ c.enter_record.ensures.before c.requires.active _ _ _ c.tx-tx.ensures _ (c.enter_record.ensures.front ∙ ap (λ t. c.self.inside.stand.front ++ commit_entry c.args.lsn t c.args.prev ∷ []) (sym c.tx-tx.ensures)) _ c.enter_record.ensures.right
+returns-clause-agrees g c = committed_agrees _ _ _ _ _ _ _ _ _ _ _ _ c.self.invariant.1 _ c.enter_record.ensures.before c.requires.active _ _ _ c.tx-tx.ensures _ (c.enter_record.ensures.front ∙ ap (λ t. c.self.inside.stand.front ++ commit_entry c.args.lsn t c.args.prev ∷ []) (sym c.tx-tx.ensures)) _ c.enter_record.ensures.right
 
 pub returns-clause-counted : goal.returns-clause-counted
 returns-clause-counted g c =
-    committed_counted _ _ _ _ _ _ _ _ _ _ _ c.self.invariant.1 _ c.enter_record.ensures.before c.requires.active _ _ _ c.tx-tx.ensures _ (c.enter_record.ensures.front ∙ ap (λ t. c.self.inside.stand.front ++ commit_entry c.args.lsn t c.args.prev ∷ []) (sym c.tx-tx.ensures)) ∙ ap (λ h. of_sessions h + 1) c.self.view_is
+    committed_counted _ _ _ _ _ _ _ _ _ _ _ _ c.self.invariant.1 _ c.enter_record.ensures.before c.requires.active _ _ _ c.tx-tx.ensures _ (c.enter_record.ensures.front ∙ ap (λ t. c.self.inside.stand.front ++ commit_entry c.args.lsn t c.args.prev ∷ []) (sym c.tx-tx.ensures)) ∙ ap (λ h. of_sessions h + 1) c.self.view_is

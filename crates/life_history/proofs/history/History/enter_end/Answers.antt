@@ -19,7 +19,7 @@ pub invariant_of-self : goal.invariant_of-self
 invariant_of-self g c =
     let enter = c.enter_record.ensures in (
       enter.spare,
-      ended_kept _ _ _ _ _ _ _ _ _ _ _ c.self.invariant.1 _ enter.before c.requires.active _ _ _ enter.front
+      ended_kept _ _ _ _ _ _ _ _ _ _ _ _ c.self.invariant.1 _ enter.before c.requires.active _ _ _ enter.front
           (subst (λ h. phase h c.args.s.now.tx ≡ Live) (sym c.self.view_is) c.requires.live)
           (subst (λ h. IsConsistent _ (h ++ end_entry c.args.lsn c.args.s.now.tx c.args.prev ∷ [])) (sym c.self.view_is) c.requires.consistent)
           _ refl _ _ _ _ _ enter.book enter.others enter.total enter.sessions_total,
@@ -29,11 +29,11 @@ invariant_of-self g c =
 
 pub returns-clause-live : goal.returns-clause-live
 returns-clause-live g c =
-    ended_live _ _ _ _ _ _ _ _ _ _ _ c.self.invariant.1 _ c.enter_record.ensures.before c.requires.active _ _ _ c.enter_record.ensures.front
+    ended_live _ _ _ _ _ _ _ _ _ _ _ _ c.self.invariant.1 _ c.enter_record.ensures.before c.requires.active _ _ _ c.enter_record.ensures.front
     (subst (λ h. phase h c.args.s.now.tx ≡ Live) (sym c.self.view_is) c.requires.live)
     (subst (λ h. IsConsistent _ (h ++ end_entry c.args.lsn c.args.s.now.tx c.args.prev ∷ [])) (sym c.self.view_is) c.requires.consistent)
     _ refl ∙ ap live_count c.self.view_is
 
 pub returns-clause-counted : goal.returns-clause-counted
 returns-clause-counted g c =
-    ended_counted _ _ _ _ _ _ _ _ _ _ _ c.self.invariant.1 _ c.enter_record.ensures.before c.requires.active _ _ _ c.enter_record.ensures.front ∙ ap (λ h. of_sessions h + 1) c.self.view_is
+    ended_counted _ _ _ _ _ _ _ _ _ _ _ _ c.self.invariant.1 _ c.enter_record.ensures.before c.requires.active _ _ _ c.enter_record.ensures.front ∙ ap (λ h. of_sessions h + 1) c.self.view_is

@@ -1,8 +1,7 @@
-use Rattle.std.proofs.Common.{List, ◌≡◌, ◌≤◌, sym, ap, ◌∙◌, arith, subst, refl, length}
+use Rattle.std.proofs.Common.{List, ◌≤◌, sym, ap, ◌∙◌, arith, subst, refl, length}
 use Rattle.std.specs.Prelude.{◌<◌, IsSome}
 use Rattle.wal_record.specs.History.{life_log, live_count}
 use Rattle.wal_record.specs.Upkeep.{written_lsn}
-use Rattle.wal_record.specs.declared.record.Record.{Record}
 use Rattle.wal_record.specs.declared.entry.Entry.{Entry}
 use Rattle.life_history.proofs.Repairing.{repair_entered, repair_live, repaired_kept}
 use Rattle.life_history.proofs.Small.{small_same}
@@ -15,7 +14,7 @@ invariant_of-self g c =
     let here = c.self.view_is ∙ c.look.ensures.same in
     let now = c.meet.ensures.list ∙ enter.front in (
       subst (λ o. IsSome o) (sym enter.spare) c.self.invariant.0,
-      repaired_kept _ _ _ _ _ _ _ _ _ _ _ c.args.page _ _ _ _ _ _ c.self.invariant.1 now (omega (arith, c.self.invariant.1.entries, ap (λ l. length l) here, c.requires.few))
+      repaired_kept _ _ _ _ _ _ _ _ _ _ _ _ c.args.page _ _ _ _ _ _ c.self.invariant.1 now (omega (arith, c.self.invariant.1.entries, ap (λ l. length l) here, c.requires.few))
           (λ opening stands. subst (λ (l : List Entry). 0 < written_lsn (life_log opening l) c.args.page) (sym here) (c.requires.image opening stands))
           (ap (λ b. b.pages) enter.books) (ap (λ b. b.sessions) enter.books) (ap (λ b. b.maint) enter.books) enter.total enter.sessions_total,
       small_same _ _ _ _ _ _ _ (ap (λ b. b.pages) enter.books) (ap (λ b. b.maint) enter.books) c.self.invariant.2,
