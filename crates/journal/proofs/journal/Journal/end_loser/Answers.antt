@@ -1,4 +1,4 @@
-use Rattle.std.proofs.Common.{◌<◌, ◌+◌, ◌++◌, ◌∷◌, [], refl, sym, arith}
+use Rattle.std.proofs.Common.{◌<◌, ◌+◌, ◌^◌, ◌++◌, ◌∷◌, [], refl, sym, arith}
 use Rattle.life_history.specs.Kept.{end_entry}
 use Rattle.journal.proofs.Grouping.{next_of}
 use Rattle.journal.proofs.Living.{kept_loser_end}
