@@ -25,7 +25,7 @@ use Rattle.wal_record.specs.declared.record.Record.TheVariants as kinds
 use Rattle.wal_record.specs.declared.entry.Entry.{Entry}
 use Rattle.wal_record.specs.History.{Live, phase}
 use Rattle.journal.specs.Locks.{AreAcknowledged}
-use Rattle.journal.specs.Groups.{IsNewRight, EndsSession, EntersFilled, EntersNow}
+use Rattle.journal.specs.Groups.{IsNewRight, EndsLoser, EndsSession, EntersFilled, EntersNow}
 use Rattle.page_ops.specs.Groups.{AreFilled}
 use Rattle.wal_record.specs.State.{is_child}
 use Rattle.journal.proofs.Locking.{live_of}
@@ -119,16 +119,16 @@ new_of lsn recs (Some p) old = refl
 
 -- a group behind which all rights are raised
 pub enters_filled : (recs : List Record) (said : Option Said) (made : Option PageClaim) (x x' : Claims) (a a' : Account) (h h' : List Entry) (lsn : ℕ) → h' ≡ h ++ group_entries lsn recs said → x' ≡ raised x made lsn recs said
-    → a' ≡ counted_group a (length (group_entries lsn recs said)) (own_entries recs said) → of_sessions h' ≡ of_sessions h + own_entries recs said → EntersFilled recs said made x x' a a' h h' lsn
+    → a' ≡ counted_group a (length (group_entries lsn recs said)) (own_entries x.s recs said) → of_sessions h' ≡ of_sessions h + own_entries x.s recs said → EntersFilled recs said made x x' a a' h h' lsn
 enters_filled recs said made x x' a a' h h' lsn history rights counted belongs = record {
-  own = own_entries recs said;
+  own = own_entries x.s recs said;
   history = history;
   counted = counted;
   belongs = belongs;
   holders = record {
     a = ap (λ (x : Claims). page_of x.a) rights ∙ pages_of lsn recs x.a;
     b = ap (λ (x : Claims). page_of x.b) rights ∙ pages_of lsn recs x.b;
-    s = ap (λ (x : Claims). option_map (λ (s : SessionClaim). s.session) x.s) rights ∙ sessions_of (own_entries recs said) x.s;
+    s = ap (λ (x : Claims). option_map (λ (s : SessionClaim). s.session) x.s) rights ∙ sessions_of (own_entries x.s recs said) x.s;
     m = ap (λ (x : Claims). option_map (λ (m : MaintClaim). m.number) x.m) rights ∙ numbers_of lsn recs x.m;
   };
   place = ap (λ (x : Claims). page_of x.c) rights ∙ new_of lsn recs made x.c;
@@ -143,6 +143,17 @@ ends_filled end s s' x a a' h h' lsn was e = record {
   counted = e.counted;
   belongs = e.belongs;
   holders = record { a = refl; b = refl; s = ap (λ (s : SessionClaim). Some s.session) e.right ∙ sym (ap (option_map (λ (s : SessionClaim). s.session)) was); m = refl };
+  place = refl;
+}
+
+-- that of a loser: every right stays as it is
+pub loser_filled : (end : End) (x : Claims) (a a' : Account) (h h' : List Entry) (lsn : ℕ) → EndsLoser end a a' h h' lsn → EntersFilled (kinds.End end ∷ []) None None x x a a' h h' lsn
+loser_filled end x a a' h h' lsn e = record {
+  own = 0;
+  history = e.history;
+  counted = e.counted;
+  belongs = let same = e.belongs in omega (arith, same);
+  holders = record { a = refl; b = refl; s = refl; m = refl };
   place = refl;
 }
 

@@ -30,7 +30,7 @@ use Rattle.life_history.proofs.Grouped.{log_group}
 use Rattle.page_ops.specs.Groups.{group_entries}
 use Rattle.listed_log.specs.Listed.{HoldsEnd, IsLogWith}
 use Rattle.journal.specs.Ends.{EndsCall, GoesOn}
-use Rattle.journal.specs.Kept.{IsOfLife, EndsByFault, IsKept}
+use Rattle.journal.specs.Kept.{HasPlaces, IsOfLife, EndsByFault, IsKept}
 use Rattle.page_ops.specs.Seeing.{Account}
 use Rattle.store_model.specs.declared.fault.Fault.TheVariants as answers
 use Rattle.journal.specs.Locks.{AreHeld}
@@ -167,27 +167,46 @@ module _ {D : Type 0} (opens : List Record → Type 0) (tells : Type 0) (told : 
       by true e = (λ now. absurd (((free l).0 now).0 (sym (eqb-true tx l.tx e))), λ among. absurd among)
       by false e = (λ now. (k.locks l).0 ((free l).0 now).1, λ among. (free l).1 (λ same. absurd (differ tx l.tx e (sym same)), (k.locks l).1 among))
 
-  -- a record by which a live transaction is over, with the room for its commit or without
-  pub life_over : (t' : RangeLocks) (lsn tx : ℕ) (r : Record) → LetsGo tx (entries.Rec lsn r) → h' ≡ h ++ entries.Rec lsn r ∷ [] → table.Releases t t' tx → live_count h' + 1 ≡ live_count h → m.spare ≤ m'.spare + 1 → m'.log.places ≡ m.log.places → m'.log.ended ≡ m.log.ended
+  longer : (lsn : ℕ) (r : Record) → h' ≡ h ++ entries.Rec lsn r ∷ [] → (opening : List Record) → length (life_log opening h') ≡ length (life_log opening h) + 1
+  longer lsn r now opening = ap (λ (l : List Record). length l) (ap (life_log opening) now ∙ log_more opening h lsn r) ∙ length-append (life_log opening h) (r ∷ [])
+
+  -- by a record a live transaction is over, with the room for its commit or without
+  pub places_over : (lsn : ℕ) (r : Record) → h' ≡ h ++ entries.Rec lsn r ∷ [] → live_count h' + 1 ≡ live_count h → m.spare ≤ m'.spare + 1 → HasPlaces opens h' m'.spare
+  places_over lsn r now live spare = record {
+    commits = let c = k.places.commits in omega (arith, c, spare, live);
+    numbers = λ opening stands. let n = k.places.numbers opening stands in omega (arith, n, live, longer lsn r now opening);
+  }
+
+  -- as many are live behind it
+  pub places_same : (lsn : ℕ) (r : Record) → h' ≡ h ++ entries.Rec lsn r ∷ [] → (live_count h' ≡ live_count h) × (live_count h ≤ 64) → m'.spare ≡ m.spare → IsNext opens h lsn → HasPlaces opens h' m'.spare
+  places_same lsn r now live spare next = record {
+    commits = let c = k.places.commits in let same = live.0 in omega (arith, c, spare, same);
+    numbers = λ opening stands.
+        let at = (next opening stands).0 in
+        let low = (next opening stands).1 in
+        let same = live.0 in
+        let most = live.1 in
+        omega (arith, at, low, same, most, longer lsn r now opening);
+  }
+
+  -- a record by which a transaction is over
+  pub life_over : (t' : RangeLocks) (lsn tx : ℕ) (r : Record) → LetsGo tx (entries.Rec lsn r) → h' ≡ h ++ entries.Rec lsn r ∷ [] → table.Releases t t' tx → HasPlaces opens h' m'.spare → m'.log.places ≡ m.log.places → m'.log.ended ≡ m.log.ended
       → ((opening : List Record) → opens opening → IsLogWith tells told may_leave (life_log opening h ++ r ∷ []) m' s') → IsOfLife opens tells told may_leave h' m' s' t' mark
-  life_over t' lsn tx r goes now free live spare places ended records =
+  life_over t' lsn tx r goes now free room places ended records =
       let log : (opening : List Record) → life_log opening h' ≡ life_log opening h ++ r ∷ [] = λ opening. ap (life_log opening) now ∙ log_more opening h lsn r in
       record {
         records = λ opening stands. subst (λ (l : List Record). IsLogWith tells told may_leave l m' s') (sym (log opening)) (records opening stands);
         locks = subst (λ (l : List Entry). AreHeld l t') (sym now) (released t' (entries.Rec lsn r) tx goes free);
         telling = k.telling;
-        places = record {
-          commits = let c = k.places.commits in omega (arith, c, spare, live);
-          numbers = λ opening stands.
-              let n = k.places.numbers opening stands in
-              omega (arith, n, live, ap (λ (l : List Record). length l) (log opening), length-append (life_log opening h) (r ∷ []));
-        };
+        places = room;
         durable = λ opening stands tell runs. subst (λ ps. mark ≤ durable_lsn ps) (sym places) (k.durable opening stands tell (sym ended ∙ runs));
       }
 
   pub life_commit : (t' : RangeLocks) (lsn tx prev : ℕ) → h' ≡ h ++ commit_entry lsn tx prev ∷ [] → table.Releases t t' tx → live_count h' + 1 ≡ live_count h → m'.spare + 1 ≡ m.spare → m'.log.places ≡ m.log.places → m'.log.ended ≡ m.log.ended
       → ((opening : List Record) → opens opening → IsLogWith tells told may_leave (life_log opening h ++ kinds.Commit (record { tx = tx; prev = prev }) ∷ []) m' s') → IsOfLife opens tells told may_leave h' m' s' t' mark
-  life_commit t' lsn tx prev now free live spare places ended records = life_over t' lsn tx (kinds.Commit (record { tx = tx; prev = prev })) (λ u ls. refl) now free live (omega (arith, spare)) places ended records
+  life_commit t' lsn tx prev now free live spare places ended records =
+      let r : Record = kinds.Commit (record { tx = tx; prev = prev }) in
+      life_over t' lsn tx r (λ u ls. refl) now free (places_over lsn r now live (omega (arith, spare))) places ended records
 
 -- ---- a flush
 
@@ -260,13 +279,25 @@ module _ {D : Type 0} (opens : List Record → Type 0) (tells : Type 0) (told : 
     };
   }
 
-  -- the End of a live transaction
-  pub kept_end : (lsn : ℕ) (end : End) → h' ≡ h ++ entries.Rec lsn (kinds.End end) ∷ [] → table.Releases t t' end.tx → live_count h' + 1 ≡ live_count h → m'.spare ≡ m.spare → m'.log.places ≡ m.log.places → m'.log.ended ≡ m.log.ended
+  -- the End of a transaction
+  over_kept : (lsn : ℕ) (end : End) → h' ≡ h ++ entries.Rec lsn (kinds.End end) ∷ [] → table.Releases t t' end.tx → HasPlaces opens h' m'.spare → m'.log.places ≡ m.log.places → m'.log.ended ≡ m.log.ended
       → ((opening : List Record) → opens opening → IsLogWith tells told may_leave (life_log opening h ++ kinds.End end ∷ []) m' s') → IsKept opens tells told may_leave h' m' s' t' mark faults'
-  kept_end lsn end now free live spare places ended records = record {
-    life = life_over opens tells told may_leave h h' m m' s s' t mark k.life t' lsn end.tx (kinds.End end) (λ u ls. refl) now free live (omega (arith, spare)) places ended records;
+  over_kept lsn end now free room places ended records = record {
+    life = life_over opens tells told may_leave h h' m m' s s' t mark k.life t' lsn end.tx (kinds.End end) (λ u ls. refl) now free room places ended records;
     ends = subst (λ (e : Option ℕ). EndsByFault e h' faults') (sym ended) (ends_entry m.log.ended h h' faults faults' (entries.Rec lsn (kinds.End end)) k.ends now same (end_stays lsn end));
   }
+
+  -- of a live one
+  pub kept_end : (lsn : ℕ) (end : End) → h' ≡ h ++ entries.Rec lsn (kinds.End end) ∷ [] → table.Releases t t' end.tx → live_count h' + 1 ≡ live_count h → m'.spare ≡ m.spare → m'.log.places ≡ m.log.places → m'.log.ended ≡ m.log.ended
+      → ((opening : List Record) → opens opening → IsLogWith tells told may_leave (life_log opening h ++ kinds.End end ∷ []) m' s') → IsKept opens tells told may_leave h' m' s' t' mark faults'
+  kept_end lsn end now free live spare places ended records =
+      over_kept lsn end now free (places_over opens tells told may_leave h h' m m' s s' t mark k.life lsn (kinds.End end) now live (omega (arith, spare))) places ended records
+
+  -- of a loser
+  pub kept_loser_end : (lsn : ℕ) (end : End) → h' ≡ h ++ entries.Rec lsn (kinds.End end) ∷ [] → table.Releases t t' end.tx → (live_count h' ≡ live_count h) × (live_count h ≤ 64) → IsNext opens h lsn → m'.spare ≡ m.spare
+      → m'.log.places ≡ m.log.places → m'.log.ended ≡ m.log.ended → ((opening : List Record) → opens opening → IsLogWith tells told may_leave (life_log opening h ++ kinds.End end ∷ []) m' s') → IsKept opens tells told may_leave h' m' s' t' mark faults'
+  kept_loser_end lsn end now free live next spare places ended records =
+      over_kept lsn end now free (places_same opens tells told may_leave h h' m m' s s' t mark k.life lsn (kinds.End end) now live spare next) places ended records
 
   -- the log went on by nothing, or its disk is as before
   pub kept_refused : h' ≡ h → m'.spare ≡ m.spare → m'.log.places ≡ m.log.places → m'.log.ended ≡ m.log.ended → ((opening : List Record) → opens opening → IsLogWith tells told may_leave (life_log opening h) m' s') → IsKept opens tells told may_leave h' m' s' t mark faults'

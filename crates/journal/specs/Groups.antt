@@ -51,6 +51,12 @@ pub record EndsSession (end : End) (s s' : SessionClaim) (a a' : Account) (h h' 
   pub counted : a' ≡ counted_more a 1
   pub belongs : of_sessions h' ≡ of_sessions h + 1
 
+-- a loser has ended by this record, which is no session's
+pub record EndsLoser (end : End) (a a' : Account) (h h' : List Entry) (lsn : ℕ) : Type 0 where
+  pub history : h' ≡ h ++ entries.Rec lsn (kinds.End end) ∷ []
+  pub counted : a' ≡ counted_group a 1 0
+  pub belongs : of_sessions h' ≡ of_sessions h
+
 -- the right to a new page is there exactly where the group makes one, and is to that page
 abbrev pub IsNewRight : Option ℕ → ℕ → Option PageClaim → Type 0
 IsNewRight None child made = made ≡ None

@@ -11,7 +11,7 @@ ghost use Rattle.page_ops.specs.Groups as groups;
 ghost use Rattle.page_ops.specs.Groups.{Each, HasRights, HasSpeaker, IsGroup};
 ghost use Rattle.wal_record.specs.Checkpoints.{is_checkpoint};
 ghost use Rattle.page_ops.specs.Outcomes.{CommitsOr, EntersGroup, IsAnswer, IsConflict, IsCrowd, IsFilledIn, IsFull, IsGrant, KeepsGroup, KeepsRights, OnEntered, begun, locked, refused};
-ghost use Rattle.page_ops.specs.Seeing.{Enters, IsConsistent, IsMoment, Looks, known};
+ghost use Rattle.page_ops.specs.Seeing.{Enters, IsConsistent, IsMoment, Looks, is_begun, known};
 ghost use Rattle.store_model.specs.declared.reply.Outcome.TheVariants as outcomes;
 ghost use Rattle.wal_record.specs.Books.{page_book};
 ghost use Rattle.wal_record.specs.Chains.{pages};
@@ -27,7 +27,7 @@ ghost use Rattle.wal_record.specs.declared.record.Record.{Record};
 ghost use Rattle.wal_record.specs.declared.record.Record.TheVariants as kinds;
 ghost use Rattle.journal.specs.Declined.{IsDeclined, IsTaken};
 ghost use Rattle.journal.specs.Kept.{IsTold};
-ghost use Rattle.journal.specs.Groups.{EndsSession, EntersFilled, EntersNow, GroupFollows, IsNext, IsNextPage};
+ghost use Rattle.journal.specs.Groups.{EndsLoser, EndsSession, EntersFilled, EntersNow, GroupFollows, IsNext, IsNextPage};
 
 use crate::ends::{check_open, make_room, note_fault, tell_durable};
 use crate::filling::{append_all, child_of, end_of, in_range, number_of};
@@ -474,7 +474,32 @@ impl<'a, L: Disk, N: Life> Journal<'a, L, N> {
         Ok(lsn)
     }
 
-    /// Enters an End alone.
+    /// Enters the End of a loser, which stands alone. It belongs to no session.
+    fn end_loser(&mut self, alloc: Global, end: End, counts: &mut Counts<N>) -> Result<Lsn, Memory>
+        requires spelled { Each AreInRange (kinds.End end ∷ []) → All HasSpelling (kinds.End end ∷ []) × (length (bytes_of (kinds.End end ∷ [])) ≤ 4194304) }
+        requires loser { is_begun self.old end.tx ≡ false }
+        requires follows { (lsn : ℕ) → IsNext N.opens self.old lsn → GroupFollows N.opens self.old lsn (kinds.End end ∷ []) None }
+        ensures none { OnErr result ((self.new ≡ self.old) × (counts.new ≡ counts.old)) }
+        ensures ended { IfOk result (EndsLoser end counts.old counts.new self.old self.new) }
+    {
+        let (last, loser, prev) = (self.log.last(), end.tx, end.prev);
+        let before = self.history.length();
+        if last == 0 || last >= MOST || before >= MOST {
+            return Err(Memory);
+        }
+        let recs = [Record::End(end)];
+        if !have_numbers(&recs) {
+            return Err(Memory);
+        }
+        let lsn = append_all(&mut self.log, alloc, &recs)?;
+        self.history.enter_loser_end(lsn, loser, prev, counts);
+        self.losers.ended(loser, before + 1);
+        // A loser has no locks in the table, as far as the opening log is known.
+        self.locks.release_all(loser);
+        Ok(lsn)
+    }
+
+    /// Enters an End alone: of a loser, or of the session's transaction.
     fn enter_end(
         &mut self,
         alloc: Global,
@@ -491,6 +516,9 @@ impl<'a, L: Disk, N: Life> Journal<'a, L, N> {
     {
         if new.is_some() {
             return Err(Memory);
+        }
+        if self.history.is_earlier(end.tx) {
+            return self.end_loser(alloc, end, counts);
         }
         let Some(mut s) = rights.s.take() else {
             return Err(Memory);
@@ -529,7 +557,7 @@ impl<'a, L: Disk, N: Life> Journal<'a, L, N> {
         if last == 0 || last >= MOST || before >= MOST {
             return Err(Memory);
         }
-        if !is_fit(rights, new, recs) || !have_numbers(recs) {
+        if !is_fit(&self.history, rights, new, recs) || !have_numbers(recs) {
             return Err(Memory);
         }
         prepare_group(&mut self.restored, recs)?;

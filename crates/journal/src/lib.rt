@@ -22,8 +22,9 @@
 //!    the least of these, and enters nothing. A loser's locks are on the keys of its open writes, and are read off the listing.
 //! 3. [`Journal::enter`] enters a group in any life, told or not: an answer alone, a record of any kind but Checkpoint,
 //!    with its answer or without, or two records that may stand together, such as the split of a page and the write that
-//!    it was made for. An End stands alone; by it the session's transaction is over, and its locks are let go. It fills the group in by the listing (`group_filling`), adds it to the log in one block and to
-//!    the history in one step, and raises the rights; the right to a page that the group makes comes into its place. Where
+//!    it was made for. An End stands alone; by it the session's transaction is over, and its locks are let go. Whoever asks may also
+//!    undo a write of a loser, or end it: these records belong to no session. It fills the group in by the listing
+//!    (`group_filling`), adds it to the log in one block and to the history in one step, and raises the rights; the right to a page that the group makes comes into its place. Where
 //!    a group asks for room in the store and there is none, its request is entered as declined, and the answer is `Full`; a
 //!    group without a request isn't entered.
 //! 4. [`Journal::commit`] takes no memory. It enters the Commit, gives the locks back, makes the log durable up to it, and
@@ -41,8 +42,7 @@
 //!    isn't its last open one any more, and the End of a loser that has one. [`losers_of`] gives the losers with which a life
 //!    begins; [`Journal::least_loser`] and [`Journal::losers`] tell those that are left.
 //!
-//! A group that isn't built yet is refused as one that wants memory, which the traits allow. Not built: checkpoints, and the
-//! Undo and the End of a loser where nobody came first.
+//! A group that isn't built yet is refused as one that wants memory, which the traits allow. Not built: checkpoints.
 #![tactic(auto)]
 
 mod ends;

@@ -70,7 +70,7 @@ pub returns-clause-entered : goal.returns-clause-entered
 returns-clause-entered g c =
     let lsn = c.in_ok-lsn.lsn in
     let own = c.enter_group.ensures in
-    let mine = own_entries c.args.recs.now c.args.said.now in
+    let mine = own_entries c.args.rights.now.s c.args.recs.now c.args.said.now in
     enters_filled c.args.recs.now c.args.said.now c.args.new.now c.args.rights.now c.enter_group.new.rights c.args.counts.now c.enter_group.new.counts c.args.self.now c.enter_group.new.self lsn
     (own.history ∙ ap (λ (h : List Entry). h ++ group_entries lsn c.args.recs.now c.args.said.now) c.self.view_is)
     (subst (λ (o : Option PageClaim). c.enter_group.new.rights ≡ raised c.args.rights.now o lsn c.args.recs.now c.args.said.now) c.take.ensures.value own.rights) own.counts

@@ -1,0 +1,29 @@
+use Rattle.std.proofs.Common.{◌<◌, ◌+◌, ◌^◌, ◌++◌, ◌∷◌, [], refl, sym, arith}
+use Rattle.life_history.specs.Kept.{end_entry}
+use Rattle.journal.proofs.Grouping.{next_of}
+use Rattle.journal.proofs.Living.{kept_loser_end}
+use Rattle.journal.proofs.Losing.{losers_end}
+use Rattle.journal.proofs.Overs.{over_consistent, over_records}
+use Rattle.journal.proofs.Restoring.{restored_entry}
+use Rattle.journal.proofs.journal.Journal.end_loser.Goals as goal
+
+pub enter_loser_end-requires-clause-consistent : goal.enter_loser_end-requires-clause-consistent
+enter_loser_end-requires-clause-consistent g c =
+    over_consistent g.N.Life.opens g.L.Disk.tells g.L.Disk.told g.L.Disk.may_leave c.self.inside.history c.args.self.now c.self.view_is c.self.inside.log.log c.append_all.new.log.log c.self.inside.log.listing c.append_all.new.log.listing c.last-last.result c.in_ok-lsn.lsn c.self.invariant.1.life.records c.last-last.ensures.next (omega (arith, c.if-last-ge-MOST.false)) c.in_ok-lsn.ensures.lsn c.args.end c.requires.follows c.args.end.tx refl
+
+pub invariant_of-self-2 : goal.invariant_of-self-2
+invariant_of-self-2 g c =
+    let done = c.append_all.ensures in
+    let lsn = c.in_ok-lsn.lsn in
+    let k = c.self.invariant.1 in
+    let low : c.last-last.result < 2 ^ 62 = omega (arith, c.if-last-ge-MOST.false) in
+    let now = c.enter_loser_end.ensures.history in (
+      c.self.invariant.0,
+      kept_loser_end _ _ _ _ c.self.inside.history c.enter_loser_end.new.self c.self.inside.log.log c.append_all.new.log.log c.self.inside.log.listing c.append_all.new.log.listing c.self.inside.locks c.release_all.new.self _ c.self.inside.faults.total c.self.inside.faults.total k refl lsn c.args.end now
+          c.release_all.ensures.released c.enter_loser_end.ensures.live
+          (next_of g.N.Life.opens g.L.Disk.tells g.L.Disk.told g.L.Disk.may_leave c.self.inside.history c.self.inside.log.log c.self.inside.log.listing _ _ k.life.records c.last-last.ensures.next low c.in_ok-lsn.ensures.lsn)
+          done.spare done.disk.0 done.disk.1
+          (over_records g.N.Life.opens g.L.Disk.tells g.L.Disk.told g.L.Disk.may_leave c.self.inside.history c.args.self.now c.self.view_is c.self.inside.log.log c.append_all.new.log.log c.self.inside.log.listing c.append_all.new.log.listing c.last-last.result lsn k.life.records c.last-last.ensures.next low c.in_ok-lsn.ensures.lsn c.args.end c.requires.follows c.in_ok-lsn.ensures.more),
+      restored_entry c.self.inside.history _ c.self.inside.restored (end_entry lsn c.args.end.tx c.args.end.prev) c.self.invariant.2 now (λ s. refl),
+      losers_end g.N.Life.opens c.self.inside.history c.enter_loser_end.new.self c.self.inside.losers c.ended.new.self c.self.invariant.3 lsn (c.length-before.result + 1) c.args.end.tx c.args.end.prev now c.ended.ensures (omega (arith, c.length-before.ensures)),
+    )
