@@ -14,3 +14,5 @@ mod locks;
 mod restores;
 #[cfg(test)]
 mod runs;
+#[cfg(test)]
+mod undos;
