@@ -1,4 +1,5 @@
 pub mod Commits
+pub mod Flushing
 pub mod Committing
 pub mod Declining
 pub mod Ending

@@ -152,7 +152,8 @@ pub(crate) fn recycle_log<L: Disk, N: Life>(
     requires runs { log.old.log.log.ended ≡ None }
     ensures needed { (goes : ℕ → Bool) (rs : List Record) → IsLogWith L.tells L.told L.may_leave goes rs log.old.log log.old.listing → IfOk result (λ lsn. (lsn ≡ first_kept log.old.log.log) ⊎ (lsn ≤ recycle_point rs)) }
     ensures same { (goes : ℕ → Bool) (rs : List Record) → IsLogWith L.tells L.told L.may_leave goes rs log.old.log log.old.listing → IsLogWith L.tells L.told L.may_leave goes rs log.new.log log.new.listing }
-    ensures rises { (goes : ℕ → Bool) (rs : List Record) → IsLogWith L.tells L.told L.may_leave goes rs log.old.log log.old.listing → L.tells → log.old.log.log.ended ≡ None → durable_lsn log.old.log.log.places ≤ durable_lsn log.new.log.log.places }
+    ensures rises { (goes : ℕ → Bool) (rs : List Record) → IsLogWith L.tells L.told L.may_leave goes rs log.old.log log.old.listing
+        → L.tells → log.old.log.log.ended ≡ None → durable_lsn log.old.log.log.places ≤ durable_lsn log.new.log.log.places }
     ensures spare { log.new.log.spare ≡ log.old.log.spare }
     ensures unread { IfErr result (λ fault. fault ≡ answers.LogFault) }
     ensures ends { EndsCall log.new.log.log.ended faults.old.total faults.new.total counts.old counts.new result }

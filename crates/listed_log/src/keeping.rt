@@ -44,7 +44,8 @@ impl<L: Disk> ListedLog<L> {
         ensures needed { (goes : ℕ → Bool) (rs : List Record) → IsLogWith L.tells L.told L.may_leave goes rs self.old.log self.old.listing → IfOk result (λ lsn. (lsn ≡ first_kept self.old.log.log) ⊎ (lsn ≤ recycle_point rs)) }
         ensures same { (goes : ℕ → Bool) (rs : List Record) → IsLogWith L.tells L.told L.may_leave goes rs self.old.log self.old.listing → IsLogWith L.tells L.told L.may_leave goes rs self.new.log self.new.listing }
         // What is stable stays so.
-        ensures rises { (goes : ℕ → Bool) (rs : List Record) → IsLogWith L.tells L.told L.may_leave goes rs self.old.log self.old.listing → L.tells → self.old.log.log.ended ≡ None → durable_lsn self.old.log.log.places ≤ durable_lsn self.new.log.log.places }
+        ensures rises { (goes : ℕ → Bool) (rs : List Record) → IsLogWith L.tells L.told L.may_leave goes rs self.old.log self.old.listing
+            → L.tells → self.old.log.log.ended ≡ None → durable_lsn self.old.log.log.places ≤ durable_lsn self.new.log.log.places }
         ensures spare { self.new.log.spare ≡ self.old.log.spare }
         ensures next { self.new.log.log.next ≡ self.old.log.log.next }
         ensures listing { self.new.listing ≡ self.old.listing }

@@ -1,5 +1,6 @@
 mod Reading
 mod OpenBlocks
 mod Standing
+pub mod Going
 pub mod Listed
 pub mod Payloads

@@ -5,9 +5,12 @@ use Rattle.wal_record.specs.declared.record.Checkpoint.{Checkpoint}
 use Rattle.wal_record.specs.declared.record.Record.{Record}
 use Rattle.wal_record.specs.declared.record.Record.TheVariants as kinds
 use Rattle.wal_record.proofs.Along.{AllAlong_less}
-use Rattle.log_index.specs.Listing.{IsListingOf}
+use Rattle.listing_laws.specs.Summary.{last_in}
+use Rattle.log_index.specs.Listing.{IsListingOf, noted}
+use Rattle.log_index.specs.Table.{noted_step}
 use Rattle.log_index.specs.declared.listing.Listing.{Listing}
-use Rattle.log_analysis.specs.Taken.{IsListed, ListsMore}
+use Rattle.log_analysis.specs.Taken.{GoesOnWith, IsListed, ListsMore}
+use Rattle.log_analysis.proofs.Going.{knows_checkpoint, knows_more}
 
 -- no record
 pub lists_none : (checkpoint first : ℕ) (s : Listing) → ListsMore checkpoint first [] s s
@@ -43,10 +46,10 @@ both checkpoint first own more old now new a b log lawful is short listed =
 
 -- the whole log
 pub from_checkpoint : (checkpoint : ℕ) (before own : List Record) (old new : Listing) → AreLawful (before ++ own) → length (before ++ own) < 2 ^ 63 → length before < checkpoint → checkpoint ≤ length (before ++ own)
-    → ListsMore checkpoint (length before + 1) own old new → IsListingOf (before ++ own) new
+    → ListsMore checkpoint (length before + 1) own old new → GoesOnWith (before ++ own) new
 from_checkpoint checkpoint before own old new lawful short lt le more = more before lawful refl short (λ none. absurd (omega (arith, lt, none))) le
 
-pub from_start : (own : List Record) (old new : Listing) → AreLawful own → length own < 2 ^ 63 → IsListingOf [] old → ListsMore 0 1 own old new → IsListingOf own new
+pub from_start : (own : List Record) (old new : Listing) → AreLawful own → length own < 2 ^ 63 → GoesOnWith [] old → ListsMore 0 1 own old new → GoesOnWith own new
 from_start own old new lawful short none more = more [] lawful (omega arith) short (λ _. none) (omega arith)
 
 module _ (checkpoint lsn : ℕ) (r : Record) (old new : Listing) where
@@ -55,12 +58,16 @@ module _ (checkpoint lsn : ℕ) (r : Record) (old new : Listing) where
   passed_over lt log lawful is short listed le = absurd (omega (arith, lt, is, le, length-append log (r ∷ [])))
 
   -- one behind it
-  pub noted : checkpoint < lsn → ((log : List Record) → IsListingOf log old → AreLawful (log ++ r ∷ []) → lsn ≡ length log + 1 → length log < 2 ^ 63 → IsListingOf (log ++ r ∷ []) new) → ListsMore checkpoint lsn (r ∷ []) old new
-  noted lt more log lawful is short listed le = more log (listed (omega (arith, lt, is))) lawful is (omega (arith, short, length-append log (r ∷ [])))
+  pub noted_behind : checkpoint < lsn → ((log : List Record) → IsListingOf log old → AreLawful (log ++ r ∷ []) → lsn ≡ length log + 1 → length log < 2 ^ 63 → IsListingOf (log ++ r ∷ []) new) → ((q : ℕ) → noted new q ≡ noted_step lsn q (noted old q) r)
+      → ListsMore checkpoint lsn (r ∷ []) old new
+  noted_behind lt more step log lawful is short listed le =
+      let now = listed (omega (arith, lt, is)) in
+      (more log now.0 lawful is (omega (arith, short, length-append log (r ∷ []))), knows_more log r lsn old new now.1 step is)
 
 -- the Checkpoint itself
 pub begun : (checkpoint lsn : ℕ) (r : Record) (c : Checkpoint) (old new : Listing) → r ≡ kinds.Checkpoint c
-    → ((before : List Record) → AreLawful (before ++ kinds.Checkpoint c ∷ []) → lsn ≡ length before + 1 → IsListingOf (before ++ kinds.Checkpoint c ∷ []) new) → ListsMore checkpoint lsn (r ∷ []) old new
-begun checkpoint lsn r c old new is_c made log lawful is short listed le =
+    → ((before : List Record) → AreLawful (before ++ kinds.Checkpoint c ∷ []) → lsn ≡ length before + 1 → IsListingOf (before ++ kinds.Checkpoint c ∷ []) new) → ((q : ℕ) → noted new q ≡ last_in q c.transactions) → ListsMore checkpoint lsn (r ∷ []) old new
+begun checkpoint lsn r c old new is_c made told log lawful is short listed le =
     let whole : log ++ r ∷ [] ≡ log ++ kinds.Checkpoint c ∷ [] = ap (λ (x : Record). log ++ x ∷ []) is_c in
-    subst (λ (l : List Record). IsListingOf l new) (sym whole) (made log (subst AreLawful whole lawful) is)
+    let now = subst AreLawful whole lawful in
+    subst (λ (l : List Record). GoesOnWith l new) (sym whole) (made log now is, knows_checkpoint log c new now told)

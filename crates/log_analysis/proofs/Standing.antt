@@ -3,7 +3,6 @@ use Rattle.std.proofs.Common.{◌≡◌, inl, inr, ℕ, zero, suc, ◌+◌, ◌<
 use Rattle.std.specs.List.{All}
 use Rattle.std.specs.Prelude.{Err, Ok, max}
 use Rattle.log_blocks.specs.Log.{Block, IsRun, first_lsn, next_lsn}
-use Rattle.log_index.specs.Listing.{IsListingOf}
 use Rattle.log_index.specs.declared.listing.Listing.{Listing}
 use Rattle.log_manager.specs.Managed.{IsNoBadLog}
 use Rattle.log_manager.specs.Payload.{Breaks, IsFirstFault, IsPayloadOf, bytes_of}
@@ -21,11 +20,20 @@ use Rattle.wal_record.specs.Spelling.{spelling}
 use Rattle.wal_record.specs.declared.record.Record.{Record}
 use Rattle.log_analysis.specs.Analysed.{LacksNamed, begins_at}
 use Rattle.log_manager.specs.Devices.{HoldEnd}
-use Rattle.log_analysis.specs.Taken.{HasNoCheckpoint, IsNotTakenIn, ListsMore}
+use Rattle.log_analysis.specs.Taken.{GoesOnWith, HasNoCheckpoint, IsNotTakenIn, ListsMore}
 use Rattle.log_analysis.specs.declared.taking.Named.{Named}
 use Rattle.log_manager.proofs.Blocks.{HasBlock, all_blocks, spelled_front}
 use Rattle.log_analysis.proofs.Listed.{from_checkpoint, from_start}
 use Rattle.log_analysis.proofs.Reading.{AreReadFrom, held_count, names_last, run_at}
+
+-- no block holds no record
+pub no_blocks : (rs : List Record) (bs : List Block) → HoldEnd rs bs → length bs ≡ 0 → rs ≡ []
+no_blocks rs (b ∷ bs) hold none = absurd (omega (arith, none))
+no_blocks rs [] hold none = hold.is ∙ ap (λ (l : List Record). l ++ hold.kept) (empty hold.dropped (let e = hold.first in omega (arith, e))) ∙ hold.records.records
+  where
+    empty : (xs : List Record) → length xs ≡ 0 → xs ≡ []
+    empty [] e = refl
+    empty (x ∷ xs) e = absurd (omega (arith, e))
 
 -- ---- payloads that are records
 
@@ -132,7 +140,7 @@ module _ (rs : List Record) (bs : List Block) (hold : HoldEnd rs bs) (run : IsRu
 
   -- all blocks from the Checkpoint's on have been read
   module _ (lawful : AreLawful rs) (short : length rs < 2 ^ 63) (from n : ℕ) (old new : Listing) (le : length bs ≤ n) (s : AreReadFrom bs from n (checkpoint_in 0 bs) old new)
-      (begins : next_lsn (first_lsn bs) (take from bs) ≤ begins_at bs) (some : 0 < length bs) (none : IsListingOf [] old) where
+      (begins : next_lsn (first_lsn bs) (take from bs) ≤ begins_at bs) (some : 0 < length bs) (none : GoesOnWith [] old) where
     ends : (front : List Record) × (rs ≡ front ++ s.own) × (next_lsn (first_lsn bs) (take from bs) ≡ length front + 1)
     ends =
         let whole : bs ≡ take from bs ++ s.read = sym (all_blocks bs n le) ∙ s.is in
@@ -145,10 +153,10 @@ module _ (rs : List Record) (bs : List Block) (hold : HoldEnd rs bs) (run : IsRu
           omega (arith, held_count (first_lsn bs) (last_checkpoint hold.dropped) (take from bs) h.0 h.3, hold.first, length-append hold.dropped h.0),
         )
 
-    pub all_listed : IsListingOf rs new
-    all_listed = subst (λ (l : List Record). IsListingOf l new) (sym ends.1) (by (checkpoint_in 0 bs) ends.0 refl ends.1 ends.2)
+    pub all_listed : GoesOnWith rs new
+    all_listed = subst (λ (l : List Record). GoesOnWith l new) (sym ends.1) (by (checkpoint_in 0 bs) ends.0 refl ends.1 ends.2)
       where
-        by : (c : ℕ) (front : List Record) → checkpoint_in 0 bs ≡ c → rs ≡ front ++ s.own → next_lsn (first_lsn bs) (take from bs) ≡ length front + 1 → IsListingOf (front ++ s.own) new
+        by : (c : ℕ) (front : List Record) → checkpoint_in 0 bs ≡ c → rs ≡ front ++ s.own → next_lsn (first_lsn bs) (take from bs) ≡ length front + 1 → GoesOnWith (front ++ s.own) new
         by zero [] is whole first =
             from_start s.own old new (subst AreLawful whole lawful) (omega (arith, short, ap length whole)) none
             (subst (λ (c : ℕ). ListsMore c 1 s.own old new) is (subst (λ (m : ℕ). ListsMore (checkpoint_in 0 bs) m s.own old new) (first ∙ omega arith) s.more))

@@ -2,9 +2,8 @@
 use Rattle.std.specs.Prelude.{ℕ, ◌+◌, ◌<◌, ◌≤◌, ◌^◌, List, [], ◌++◌, length}
 use Rattle.wal_record.specs.Sound.{AreLawful}
 use Rattle.wal_record.specs.declared.record.Record.{Record}
-use Rattle.log_index.specs.Listing.{IsListingOf}
 use Rattle.log_index.specs.declared.listing.Listing.{Listing}
-use Rattle.log_analysis.specs.Taken.{ListsMore}
+use Rattle.log_analysis.specs.Taken.{GoesOnWith, ListsMore}
 
 -- records, and then others behind them
 pub record NextLaw (checkpoint first : ℕ) (own more : List Record) (old now new : Listing) : Type 0 where
@@ -14,6 +13,6 @@ pub record NextLaw (checkpoint first : ℕ) (own more : List Record) (old now ne
 pub record WholeLaw (checkpoint : ℕ) (before own : List Record) (old new : Listing) : Type 0 where
   -- the Checkpoint is one of them
   pub from_checkpoint : AreLawful (before ++ own) → length (before ++ own) < 2 ^ 63 → length before < checkpoint → checkpoint ≤ length (before ++ own)
-      → ListsMore checkpoint (length before + 1) own old new → IsListingOf (before ++ own) new
+      → ListsMore checkpoint (length before + 1) own old new → GoesOnWith (before ++ own) new
   -- there is none, and they are all
-  pub from_start : AreLawful own → length own < 2 ^ 63 → IsListingOf [] old → ListsMore 0 1 own old new → IsListingOf own new
+  pub from_start : AreLawful own → length own < 2 ^ 63 → GoesOnWith [] old → ListsMore 0 1 own old new → GoesOnWith own new

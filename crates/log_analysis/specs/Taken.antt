@@ -9,14 +9,19 @@ use Rattle.wal_record.specs.Sound.{AreLawful}
 use Rattle.wal_record.specs.Spelling.{spelling}
 use Rattle.wal_record.specs.declared.record.Record.{Record}
 use Rattle.log_blocks.specs.declared.layout.TheConstants.{CHECKPOINT_AT}
+use Rattle.log_index.specs.GoingOn.{KnowsLast, may_go_on}
 use Rattle.log_index.specs.Listing.{IsListingOf}
 use Rattle.log_index.specs.declared.listing.Listing.{Listing}
 use Rattle.log_manager.specs.Payload.{IsFaultBehind, IsFirstFault, IsPayloadOf, bytes_of}
 use Rattle.log_analysis.specs.declared.taking.Named.{Named}
 
--- the listing is that of these records, if they reach to the Checkpoint with this LSN; 0 stands for none
+-- the listing is that of these records, and knows the last record of each transaction that may go on behind them
+abbrev pub GoesOnWith : List Record → Listing → Type 0
+GoesOnWith log s = IsListingOf log s × KnowsLast (may_go_on log) log s
+
+-- so it is, if the records reach to the Checkpoint with this LSN; 0 stands for none
 abbrev pub IsListed : ℕ → List Record → Listing → Type 0
-IsListed checkpoint log s = checkpoint ≤ length log → IsListingOf log s
+IsListed checkpoint log s = checkpoint ≤ length log → GoesOnWith log s
 
 -- Records that stand behind those of a log, the first of them with this LSN, make the listing of the longer log.
 abbrev pub ListsMore : ℕ → ℕ → List Record → Listing → Listing → Type 0

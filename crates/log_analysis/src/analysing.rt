@@ -5,11 +5,11 @@ ghost use Rattle.media.specs.Crash.{LeavesOnly};
 ghost use Rattle.log_blocks.specs.Log.{Block};
 ghost use Rattle.log_blocks.specs.LogState.{IsDurable, firsts};
 ghost use Rattle.log_blocks.specs.Opening.{IsLogFault};
-ghost use Rattle.log_index.specs.Listing.{IsListingOf};
 ghost use Rattle.log_manager.specs.Managed.{HasLsn, IsNoBadLog, ReadRefused};
 ghost use Rattle.wal_record.specs.Sound.{AreLawful};
 ghost use Rattle.wal_record.specs.declared.record.Record.{Record};
 ghost use Rattle.log_analysis.specs.Analysed.{IsNotAnalysed};
+ghost use Rattle.log_analysis.specs.Taken.{GoesOnWith};
 ghost use Rattle.log_manager.specs.Devices.{HoldEnd};
 
 use crate::taking::{Named, no_checkpoint, take_block};
@@ -24,9 +24,10 @@ use store_model::{Fault, Lsn};
 pub fn analyse<L: Disk>(alloc: Global, log: &mut BlockLog<L>) -> Result<Listing, Fault>
     requires live { log.old.ended ≡ None }
     requires fresh { log.old.pending ≡ [] }
-    // Of each log for which the disk stands; none of its blocks is named as bad.
+    // Of each log for which the disk stands, with the last record of each transaction that may go on; none of its blocks is
+    // named as bad.
     ensures listed { L.tells → (bs : List Block) (rs : List Record) → IsDurable L.told L.may_leave log.old bs → HoldEnd rs bs → AreLawful rs → length rs < 2 ^ 63
-        → IfOk result (IsListingOf rs) × IfErr result IsNoBadLog }
+        → IfOk result (GoesOnWith rs) × IfErr result IsNoBadLog }
     // Where the disk stands for none.
     ensures bad { L.tells → (bs : List Block) → IsDurable L.told L.may_leave log.old bs → IfErr result (IsNotAnalysed bs) }
     // No byte changes.

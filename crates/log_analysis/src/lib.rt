@@ -9,7 +9,8 @@
 //! behind it go on with it.
 //!
 //! [`analyse`] reads a log that has just been opened: the payload of the block that has the last Checkpoint, those behind
-//! it, and none before it. Of each log for which the disk stands, the listing is that of the whole log. Where the disk
+//! it, and none before it. Of each log for which the disk stands, the listing is that of the whole log, and knows the last
+//! record of each transaction that may go on behind it: whoever neither began later nor is a loser gets none. Where the disk
 //! stands for none, `specs/Analysed` says which block and byte is named: the first fault of a payload that is read, or the
 //! last header, where the record that it names isn't kept or is no Checkpoint.
 //!

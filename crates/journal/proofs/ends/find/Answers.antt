@@ -5,3 +5,9 @@ use Rattle.journal.proofs.ends.find.Goals as goal
 
 pub returns-in-Some-clause-found : goal.returns-in-Some-clause-found
 returns-in-Some-clause-found g c goes rs k tells = (run_of rs c.args.lsn c.in-Some.run' (sym c.in-Some.is ∙ c.run_at.ensures rs (subst (IsListingOf rs) (sym c.listing.ensures) k.listing) k.lawful), tt)
+
+pub returns-in-Ok-clause-found : goal.returns-in-Ok-clause-found
+returns-in-Ok-clause-found g c goes rs k tells = c.in-Ok.ensures.found tells goes rs k
+
+pub returns-after-matches-clause-found : goal.returns-after-matches-clause-found
+returns-after-matches-clause-found g c goes rs k tells = c.in-Err.ensures.found tells goes rs k

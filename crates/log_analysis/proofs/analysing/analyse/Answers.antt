@@ -4,12 +4,19 @@ use Rattle.media.proofs.Blaming.{then_more}
 use Rattle.log_blocks.specs.LogState.{firsts}
 use Rattle.log_manager.proofs.Finding.{length-firsts}
 use Rattle.log_analysis.specs.Analysed.{IsNotAnalysed}
-use Rattle.log_analysis.specs.Taken.{IsNotTakenIn}
+use Rattle.log_analysis.specs.Taken.{GoesOnWith, IsNotTakenIn}
 use Rattle.log_analysis.specs.declared.taking.Named.{Named}
+use Rattle.log_analysis.proofs.Going.{knows_none}
 use Rattle.log_analysis.proofs.OpenBlocks.{begins_now, block_now, checkpoint_now, count_now, counted_now, first_now, lacks_now, named_now, needed_now, not_analysed, payload_now}
 use Rattle.log_analysis.proofs.Reading.{comes_to, lawful_block, none_read, one_more}
-use Rattle.log_analysis.proofs.Standing.{all_listed, has_named, never_bad}
+use Rattle.log_analysis.proofs.Standing.{all_listed, has_named, never_bad, no_blocks}
 use Rattle.log_analysis.proofs.analysing.analyse.Goals as goal
+
+pub returns-then-blocks-eq0-clause-listed : goal.returns-then-blocks-eq0-clause-listed
+returns-then-blocks-eq0-clause-listed g c = λ t bs rs d hold lawful short.
+    let log = c.args.log.now in
+    let none = no_blocks rs bs hold (omega (arith, count_now g.L.Disk.told g.L.Disk.may_leave log log bs d c.requires.fresh refl, c.blocks-2.ensures.value, c.if-blocks-eq0.true)) in
+    (subst (λ l. GoesOnWith l c.new-listing.result) (sym none) (c.new-listing.ensures.listing, knows_none _ c.new-listing.result c.new-listing.ensures.noted), tt)
 
 pub returns-in_default-clause-listed : goal.returns-in_default-clause-listed
 returns-in_default-clause-listed g c = λ t bs rs d hold lawful short.
@@ -35,7 +42,7 @@ loop-block-init g c = record {
   durable = λ t bs d. d;
   faults = omega arith;
   fuse = (search rules);
-  so_far = λ t bs d. (c.new-listing.result, c.new-listing.ensures.listing, none_read bs c.in-Some.from c.checkpoint.result c.new-listing.result);
+  so_far = λ t bs d. (c.new-listing.result, (c.new-listing.ensures.listing, knows_none _ c.new-listing.result c.new-listing.ensures.noted), none_read bs c.in-Some.from c.checkpoint.result c.new-listing.result);
 }
 
 pub loop-block-preserved : goal.loop-block-preserved

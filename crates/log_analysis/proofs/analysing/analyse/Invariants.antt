@@ -2,8 +2,8 @@ use Rattle.std.proofs.Common.{◌≡◌, ◌≤◌, [], None, Option, List, ℕ}
 use Rattle.media.specs.Counted.{Blames}
 use Rattle.log_blocks.specs.Log.{Block}
 use Rattle.log_blocks.specs.LogState.{IsDurable}
-use Rattle.log_index.specs.Listing.{IsListingOf}
 use Rattle.log_index.specs.declared.listing.Listing.{Listing}
+use Rattle.log_analysis.specs.Taken.{GoesOnWith}
 use Rattle.log_analysis.proofs.Reading.{AreReadFrom}
 use Rattle.log_analysis.proofs.analysing.analyse.Given as goal
 
@@ -14,5 +14,5 @@ invariant-loop-block g l = record {
   durable : g.L.Disk.tells → (bs : List Block) → IsDurable g.L.Disk.told g.L.Disk.may_leave l.fn.log bs → IsDurable g.L.Disk.told g.L.Disk.may_leave l.log bs;
   faults : g.L.Disk.faults l.fn.log.device ≤ g.L.Disk.faults l.log.device;
   fuse : Blames g.L.Disk.passes g.L.Disk.refused g.L.Disk.own l.fn.log.device l.log.device ⊥;
-  so_far : g.L.Disk.tells → (bs : List Block) → IsDurable g.L.Disk.told g.L.Disk.may_leave l.fn.log bs → (start : Listing) × IsListingOf [] start × AreReadFrom bs l.from l.block l.named.checkpoint start l.listing;
+  so_far : g.L.Disk.tells → (bs : List Block) → IsDurable g.L.Disk.told g.L.Disk.may_leave l.fn.log bs → (start : Listing) × GoesOnWith [] start × AreReadFrom bs l.from l.block l.named.checkpoint start l.listing;
 }

@@ -2,7 +2,7 @@ use Rattle.std.proofs.Common.{◌≡◌, ◌<◌, ◌+◌, ◌++◌, ◌∷◌, 
 use Rattle.life_history.specs.Kept.{end_entry}
 use Rattle.page_ops.specs.Claims.{SessionAgrees}
 use Rattle.wal_record.specs.declared.entry.Entry.{Entry}
-use Rattle.journal.proofs.Living.{kept_end}
+use Rattle.journal.proofs.Living.{kept_end, kept_refused}
 use Rattle.journal.proofs.Locking.{live_of}
 use Rattle.journal.proofs.Losing.{losers_end}
 use Rattle.journal.proofs.Overs.{goes_on, over_consistent, over_records}
@@ -19,6 +19,16 @@ pub enter_end-requires-clause-consistent : goal.enter_end-requires-clause-consis
 enter_end-requires-clause-consistent g c =
     let same : c.args.end.tx ≡ c.args.s.now.tx = omega (arith, c.if-tx-over.false, c.tx.ensures) in
     over_consistent g.N.Life.opens g.L.Disk.tells g.L.Disk.told g.L.Disk.may_leave c.self.inside.history c.args.self.now c.self.view_is c.self.inside.log.log c.append_all.new.log.log c.self.inside.log.listing c.append_all.new.log.listing c.last-last.result c.in_ok-lsn.lsn c.self.invariant.1.life.records c.last-last.ensures.next (omega (arith, c.if-last-ge-MOST.false)) c.in_ok-lsn.ensures.lsn c.args.end c.requires.follows c.args.s.now.tx same
+
+pub invariant_of-self : goal.invariant_of-self
+invariant_of-self g c =
+    let done = c.append_all.ensures in (
+      c.self.invariant.0,
+      kept_refused g.N.Life.opens g.L.Disk.tells g.L.Disk.told g.L.Disk.may_leave c.self.inside.history c.self.inside.history c.self.inside.log.log c.append_all.new.log.log c.self.inside.log.listing c.append_all.new.log.listing c.self.inside.locks c.self.inside.locks c.self.inside.marked c.self.inside.faults.total c.self.inside.faults.total c.self.invariant.1 refl refl done.spare done.disk.0 done.disk.1
+          (λ opening stands. c.in_err-lsn.ensures.same _ _ (c.self.invariant.1.life.records opening stands)),
+      c.self.invariant.2,
+      c.self.invariant.3,
+    )
 
 pub invariant_of-self-2 : goal.invariant_of-self-2
 invariant_of-self-2 g c =

@@ -1,8 +1,41 @@
+use Rattle.std.proofs.Common.{refl, sym, ◌∙◌, inl}
 use Rattle.std.proofs.lemmas.Result.{err_from_is_err_and}
+use Rattle.log_blocks.specs.LogState.{durable_lsn}
+use Rattle.journal.proofs.Commits.{flush_ended, on_ok}
 use Rattle.journal.proofs.Ending.{told_stops, stopped_ends}
+use Rattle.journal.proofs.Flushing.{ends_flushed, kept_flush}
+use Rattle.journal.proofs.Living.{ends_failed}
+use Rattle.journal.proofs.Losing.{losers_same}
+use Rattle.journal.proofs.Restoring.{restored_same}
 use Rattle.journal.proofs.journal.Journal.flush.Goals as goal
 
 pub returns-in_err-check_open-clause-ends : goal.returns-in_err-check_open-clause-ends
 returns-in_err-check_open-clause-ends g c =
     let p = err_from_is_err_and c.from_residual.result c.from_residual.ensures.1 in
     rw (p.1, p.2) (stopped_ends _ g.N.Life.log_faults _ _ _ _ _ _ c.look.ensures.counts (told_stops g.N.Life.log_faults _ _ _ c.in_err-check_open.ensures.ended))
+
+pub invariant_of-self-then-is_err : goal.invariant_of-self-then-is_err
+invariant_of-self-then-is_err g c =
+    let k = c.self.invariant.1 in
+    let flush = c.flush_to.ensures in
+    let runs = c.in_ok-check_open.ensures.open.0 in
+    let over = flush_ended g.L.Disk.faults c.self.inside.log.log.log c.flush_to.new.self.log.log c.flush_to.result (sym c.is_err.ensures.value ∙ c.if-is_err.true) flush.refused runs in (
+      c.self.invariant.0,
+      kept_flush g.N.Life.opens g.L.Disk.tells g.L.Disk.told g.L.Disk.may_leave c.self.inside.history c.look.new.self c.self.inside.log.log c.flush_to.new.self.log c.self.inside.log.listing c.flush_to.new.self.listing c.self.inside.locks c.self.inside.marked c.self.inside.marked (durable_lsn c.flush_to.new.self.log.log.places)
+          c.self.inside.faults.total c.note_fault.new.faults.total k c.look.ensures.same runs flush.same flush.spare flush.rises refl (inl refl) (ends_failed c.flush_to.new.self.log.log.ended c.self.inside.history c.check_open.new.faults.total c.note_fault.new.faults.total over c.note_fault.ensures.total),
+      restored_same c.self.inside.history _ c.self.inside.restored c.self.invariant.2 c.look.ensures.same,
+      losers_same g.N.Life.opens c.self.inside.history _ c.self.inside.losers c.self.inside.losers c.self.invariant.3 c.look.ensures.same,
+    )
+
+pub invariant_of-self-2 : goal.invariant_of-self-2
+invariant_of-self-2 g c =
+    let k = c.self.invariant.1 in
+    let flush = c.flush_to.ensures in
+    let runs = c.in_ok-check_open.ensures.open.0 in
+    let live = on_ok c.flush_to.result (sym c.is_err.ensures.value ∙ c.if-is_err.false) flush.live in (
+      c.tell_durable.ensures.same,
+      kept_flush g.N.Life.opens g.L.Disk.tells g.L.Disk.told g.L.Disk.may_leave c.self.inside.history c.look.new.self c.self.inside.log.log c.flush_to.new.self.log c.self.inside.log.listing c.flush_to.new.self.listing c.self.inside.locks c.self.inside.marked c.tell_durable.new.marked c.durable.result
+          c.self.inside.faults.total c.check_open.new.faults.total k c.look.ensures.same runs flush.same flush.spare flush.rises c.durable.ensures c.tell_durable.ensures.number (ends_flushed c.self.inside.log.log.log.ended c.flush_to.new.self.log.log.ended c.self.inside.history c.self.inside.faults.total c.check_open.new.faults.total k.ends runs live.1 c.check_open.ensures.total),
+      restored_same c.self.inside.history _ c.self.inside.restored c.self.invariant.2 c.look.ensures.same,
+      losers_same g.N.Life.opens c.self.inside.history _ c.self.inside.losers c.self.inside.losers c.self.invariant.3 c.look.ensures.same,
+    )

@@ -1,5 +1,19 @@
 use Rattle.journal.proofs.Ending.{told_stops, stopped_ends}
+use Rattle.journal.proofs.Living.{kept_call}
+use Rattle.journal.proofs.Losing.{losers_same}
+use Rattle.journal.proofs.Restoring.{restored_same}
 use Rattle.journal.proofs.journal.Journal.forget.Goals as goal
+
+pub invariant_of-self : goal.invariant_of-self
+invariant_of-self g c =
+    let k = c.self.invariant.1 in
+    let done = c.recycle_log.ensures in (
+      c.self.invariant.0,
+      kept_call g.N.Life.opens g.L.Disk.tells g.L.Disk.told g.L.Disk.may_leave c.self.inside.history c.look.new.self c.self.inside.log.log c.recycle_log.new.log.log c.self.inside.log.listing c.recycle_log.new.log.listing c.self.inside.locks c.self.inside.marked c.self.inside.faults.total
+          c.check_open.new.faults.total c.recycle_log.new.faults.total k c.look.ensures.same c.check_open.ensures.total c.in-Ok.ensures.open.0 done.same done.spare done.rises c.check_open.new.counts c.recycle_log.new.counts c.recycle_log.result done.ends,
+      restored_same c.self.inside.history _ c.self.inside.restored c.self.invariant.2 c.look.ensures.same,
+      losers_same g.N.Life.opens c.self.inside.history _ c.self.inside.losers c.self.inside.losers c.self.invariant.3 c.look.ensures.same,
+    )
 
 pub returns-in-Err-clause-ends : goal.returns-in-Err-clause-ends
 returns-in-Err-clause-ends g c = stopped_ends _ g.N.Life.log_faults _ _ _ _ _ _ c.look.ensures.counts (told_stops g.N.Life.log_faults _ _ _ c.in-Err.ensures.ended)
