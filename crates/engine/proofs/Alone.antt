@@ -48,13 +48,13 @@ live_then opens seen h s speaks longer consistent agrees opening stands =
 
 -- ---- the answer
 
-plain_none : (s : SessionClaim) (request : Request) (f : Fault) → FailsToEnter NoOther f → AreLast s request (Err f) true []
+pub plain_none : (s : SessionClaim) (request : Request) (f : Fault) → FailsToEnter NoOther f → AreLast s request (Err f) true []
 plain_none s request faults.Memory may = refl
 plain_none s request (faults.Ended at) may = refl
 plain_none s request _ may = absurd may
 
 module _ (opens : List Record → Type 0) (ledger sessions : LedgerName) (s : SessionClaim) (request : Request) (a a' : Account) (t t' : PassSeen Entry) (x x' : Claims) (d : Desk) where
-  completes : (result : Result Answered Fault) (last : List Entry) → AreLast s request result true last → Enters opens ledger sessions (known a t x) last (known a' t' x') → Completes opens ledger sessions s request result (standing d a t) (standing d a' t')
+  pub completes : (result : Result Answered Fault) (last : List Entry) → AreLast s request result true last → Enters opens ledger sessions (known a t x) last (known a' t' x') → Completes opens ledger sessions s request result (standing d a t) (standing d a' t')
   completes result last by e = record { behind = []; last = last; gains = reclaimed opens ledger sessions last a a' t t' x x' no_claims no_claims (gains_of opens ledger sessions last (known a t x) (known a' t' x') e); kept_up = refl; by = by; faults = faults_self d.faults }
 
 module _ (opens : List Record → Type 0) (ledger sessions : LedgerName) (request : Request) (leaf : Hand) (a a' : Account) (t t' : PassSeen Entry) (reply : Reply) where

@@ -33,6 +33,7 @@ use Rattle.engine.specs.Completes.{Completes, CompletesFor, IsSaidFor, OwnsLock}
 use Rattle.engine.specs.Requests.{lock_of}
 use Rattle.engine.specs.Saying.{MaySay, said_entries}
 use Rattle.engine.specs.Sittings.{IsOwned}
+use Rattle.engine.proofs.Alone.{plain_none}
 use Rattle.engine.proofs.Serving.{Upkept, begins_upkept, entered_last, nothing_last, upkept_looked, upkept_of, upkept_then}
 use Rattle.engine.proofs.LockAsked.{root_made}
 use Rattle.engine.proofs.Owned.{owned_later, owned_locked, owned_said}
@@ -71,11 +72,6 @@ none_told opens log_faults made own own' old new h s request (faults.Conflict ho
 none_told opens log_faults made own own' old new h s request (faults.Full pages pending at) why = absurd why
 none_told opens log_faults made own own' old new h s request (faults.OpRefused at) why = absurd why
 none_told opens log_faults made own own' old new h s request _ why = refl
-
-plain_none : (s : SessionClaim) (request : Request) (f : Fault) → FailsToEnter NoOther f → AreLast s request (Err f) true []
-plain_none s request faults.Memory may = refl
-plain_none s request (faults.Ended at) may = refl
-plain_none s request _ may = absurd may
 
 module _ (opens : List Record → Type 0) (ledger sessions log_faults made : LedgerName) (request : Request) (lock : Held) (h0 : List Entry) (owner0 : Option SessionClaim) (owns : OwnsLock opens h0 lock owner0) (d0 d1 : Desk) (a0 a1 : Account) (s0 s1 : PassSeen Entry)
     (found : Upholds opens ledger sessions is_upkeep (known a0 s0 no_claims) (known a1 s1 no_claims)) (kept : KeepsFaults d0.faults d1.faults) where

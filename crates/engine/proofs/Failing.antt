@@ -1,6 +1,5 @@
 -- Why a request is refused, behind calls that met no end.
-use Rattle.std.proofs.Common.{List, Result, Ok, Err, sym, ◌∙◌}
-use Rattle.std.specs.Prelude.{IfErr}
+use Rattle.std.proofs.Common.{List, sym, ◌∙◌}
 use Rattle.store_model.specs.declared.fault.Fault.{Fault}
 use Rattle.store_model.specs.declared.fault.Fault.TheVariants as faults
 use Rattle.wal_record.specs.declared.record.Record.{Record}
@@ -19,10 +18,6 @@ module _ (may : Fault → Type 0) (opens : List Record → Type 0) (log_faults m
   ask_fault own own' old new h (faults.Full pages pending at) why = absurd why
   ask_fault own own' old new h (faults.OpRefused at) why = absurd why
   ask_fault own own' old new h _ why = why
-
-  pub ask_fails : {T : Type 0} (own own' : Faults) (old new : Account) (h : List Entry) (r : Result T Fault) → IfErr r (FailsToBring opens log_faults made own own' old new h) → IfErr r (FailsToAsk may opens log_faults made own own' old new h)
-  ask_fails own own' old new h (Ok x) why = tt
-  ask_fails own own' old new h (Err f) why = ask_fault own own' old new h f why
 
   -- the cause of a later call
   module _ (first old new : Account) (h : List Entry) (none : MeetsNoEnd first old) (keeps : Keeps first old) where

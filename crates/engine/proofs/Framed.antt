@@ -32,11 +32,6 @@ pub not_full : (opens : List Record → Type 0) (log_faults made : LedgerName) (
 not_full opens log_faults made own own' old new h (faults.Full p q at) why = absurd why
 not_full opens log_faults made own own' old new h _ why = tt
 
--- so is an answer that is told alone
-pub none_full : (opens : List Record → Type 0) (h : List Entry) (f : Fault) → FailsToEnter NoOther f → LacksRoom opens h f
-none_full opens h (faults.Full p q at) why = absurd why
-none_full opens h _ why = tt
-
 tells_by : (may : Fault → Type 0) (opens : List Record → Type 0) (log_faults made : LedgerName) (own : Faults) (old new : Account) (h : List Entry) (f : Fault) → FailsToEnter NoOther f → EndsBy opens log_faults made old new h f → FailsToAsk may opens log_faults made own own old new h f
 tells_by may opens log_faults made own old new h faults.Memory why ends = ends
 tells_by may opens log_faults made own old new h (faults.Ended at) why ends = ends
@@ -45,10 +40,6 @@ tells_by may opens log_faults made own old new h _ why ends = absurd why
 pub tell_fails : {T : Type 0} (may : Fault → Type 0) (opens : List Record → Type 0) (log_faults made : LedgerName) (own : Faults) (old new : Account) (h : List Entry) (r : Result T Fault) → IfErr r (FailsToEnter NoOther) → Ends opens log_faults made old new h r → IfErr r (FailsToAsk may opens log_faults made own own old new h)
 tell_fails may opens log_faults made own old new h (Ok x) why ends = tt
 tell_fails may opens log_faults made own old new h (Err f) why ends = tells_by may opens log_faults made own old new h f why ends
-
-pub none_fulls : {T : Type 0} (opens : List Record → Type 0) (h : List Entry) (r : Result T Fault) → IfErr r (FailsToEnter NoOther) → IfErr r (LacksRoom opens h)
-none_fulls opens h (Ok x) why = tt
-none_fulls opens h (Err f) why = none_full opens h f why
 
 -- ---- the calls
 

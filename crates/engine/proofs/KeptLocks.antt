@@ -5,12 +5,12 @@ use mathlib.Core.List.{IsPrefix}
 use Rattle.books.specs.Rights.{SessionClaim}
 use Rattle.front.proofs.Keeping.{prefix_trans}
 use Rattle.store_model.proofs.Bools.{and_true}
+use Rattle.store_model.specs.Operator.{meaning}
 use Rattle.store_model.specs.Range.{Interval, has_key, point}
 use Rattle.store_model.specs.declared.fault.Memory.{Memory}
 use Rattle.store_model.specs.declared.pair.Pair.{Pair}
 use Rattle.store_model.specs.declared.reply.Reply.{Reply}
 use Rattle.store_model.specs.declared.reply.Reply.TheVariants as replies
-use Rattle.store_model.specs.declared.request.Request.{Request}
 use Rattle.store_model.specs.declared.request.Request.TheVariants as requests
 use Rattle.wal_record.specs.Images.{IsLeafOf}
 use Rattle.wal_record.specs.Locks.{Held, covers_write}
@@ -25,7 +25,6 @@ use Rattle.page_ops.specs.Hands.{Hand, IsInHand}
 use Rattle.page_ops.specs.Seeing.{IsConsistent}
 use Rattle.foster_tree.specs.Nows.{IsNow}
 use Rattle.foster_tree.specs.Scans.{Collects}
-use Rattle.leaf_writes.specs.Changes.{request_of}
 use Rattle.leaf_writes.specs.MayChange.{IsWriter, MayChange}
 use Rattle.leaf_writes.specs.declared.change.How.TheVariants as hows
 use Rattle.engine.specs.Completes.{OwnsLock}
@@ -68,6 +67,14 @@ module _ (opens : List Record → Type 0) (h : List Entry) (key : List ℕ) wher
       subst (λ (k : List ℕ). MayChange opens h hand.state (record { tx = t; key = k; new = new; how = hows.Write old }) (Some s)) (sym same)
       ((sym tx, writer s may.0 may.1), value ∙ ap (λ (x : Hand). live (leaf_rows x.state.rows) key) view, some)
 
+  -- an operator that gives the value
+  pub may_apply : (o : Option SessionClaim) (hand inside : Hand) (key' : List ℕ) (t operator : ℕ) (argument : List ℕ) (old new : Option (List ℕ)) → MayWrite opens h key o → t ≡ (claim_or_none o).tx → key' ≡ key → inside ≡ hand → old ≡ live (leaf_rows inside.state.rows) key → new ≡ meaning operator old argument
+      → is_some new ≡ true → MayChange opens h hand.state (record { tx = t; key = key'; new = new; how = hows.Apply old operator argument }) o
+  may_apply None hand inside key' t operator argument old new may tx same view value made some = absurd may
+  may_apply (Some s) hand inside key' t operator argument old new may tx same view value made some =
+      subst (λ (k : List ℕ). MayChange opens h hand.state (record { tx = t; key = k; new = new; how = hows.Apply old operator argument }) (Some s)) (sym same)
+      ((sym tx, writer s may.0 may.1), value ∙ ap (λ (x : Hand). live (leaf_rows x.state.rows) key) view, made, some)
+
   -- a del of one that has none
   pub may_tell : (o : Option SessionClaim) (hand inside : Hand) (key' : List ℕ) (old : Option (List ℕ)) → MayWrite opens h key o → key' ≡ key → inside ≡ hand → IsInHand opens inside → IsPrefix hand.pass.log h → IsLeafOf key hand.state → old ≡ live (leaf_rows inside.state.rows) key → old ≡ None
       → MaySay opens h hand o (requests.Del key') (replies.Was None)
@@ -99,10 +106,7 @@ may_say_scan opens h0 h1 seen range pairs o o' hand inside (Ok reply) owns same 
 
 -- ---- of a del that finds nothing
 
-pub as_del : (P : Request → Type 0) (key key' : List ℕ) (new : Option (List ℕ)) → key' ≡ key → new ≡ None → P (requests.Del key') → P (request_of key new)
-as_del P key key' new same none p = subst (λ (q : List ℕ × Option (List ℕ)). P (request_of q.0 q.1)) (λ i. (same i, sym none i)) p
-
-either_none : (o : Option (List ℕ)) → is_some o ≡ false → o ≡ None
+pub either_none : (o : Option (List ℕ)) → is_some o ≡ false → o ≡ None
 either_none None is = refl
 either_none (Some v) is = absurd (cc is)
 

@@ -6,13 +6,15 @@ pub mod LockAsked
 pub mod Told
 pub mod Said
 pub mod Owned
+pub mod Alone
 pub mod Turns
 pub mod Whole
 pub mod Behind
 pub mod Tidied
 pub mod Framed
-pub mod Alone
 pub mod KeptLocks
+pub mod Refusing
+pub mod Declined
 pub mod Changed
 pub mod Written
 pub mod Committed

@@ -1,5 +1,5 @@
 -- A lock asked for, and losers in the way of it.
-use Rattle.std.proofs.Common.{◌≡◌, ℕ, ◌+◌, ◌<◌, true, List, [], ◌∷◌, ◌++◌, Result, Ok, Err, refl, sym, ap, subst, ◌∙◌, arith}
+use Rattle.std.proofs.Common.{◌≡◌, ℕ, ◌+◌, ◌<◌, List, [], ◌∷◌, ◌++◌, Err, refl, sym, ap, subst, ◌∙◌, arith}
 use Rattle.books.specs.Rights.{SessionClaim}
 use Rattle.front.specs.Seen.{PassSeen}
 use Rattle.store_model.specs.Range.{Interval}
@@ -8,7 +8,6 @@ use Rattle.store_model.specs.declared.fault.Fault.TheVariants as faults
 use Rattle.store_model.specs.declared.range.Mode.{Mode}
 use Rattle.wal_record.specs.History.{life_log}
 use Rattle.wal_record.specs.Legal.{held}
-use Rattle.wal_record.specs.OpenWrites.{is_loser}
 use Rattle.wal_record.specs.declared.record.Record.{Record}
 use Rattle.wal_record.specs.declared.entry.Entry.{Entry}
 use Rattle.wal_record.specs.declared.entry.Entry.TheVariants as entries
@@ -18,7 +17,6 @@ use Rattle.page_ops.specs.Desks.{IsMade}
 use Rattle.page_ops.specs.Names.{LedgerName}
 use Rattle.page_ops.specs.Outcomes.{IsGrant, locked}
 use Rattle.page_ops.specs.Seeing.{Account, Enters, IsConsistent, Known, known}
-use Rattle.page_ops.specs.declared.outcome.Grant.{Grant}
 use Rattle.page_ops.specs.declared.outcome.Grant.TheVariants as grants
 use Rattle.engine.specs.Answers.{HasLocked, lock_answer}
 use Rattle.engine.specs.Beside.{IsInWay}
@@ -34,9 +32,6 @@ pub right_same : (s s' : SessionClaim) (n : ℕ) → n ≡ 0 → s' ≡ record {
 right_same s s' n none is =
     let e : s.entries + n ≡ s.entries = omega (arith, none) in
     is ∙ (λ i. record { session = s.session; entries = e i; tx = s.tx })
-
-pub none_locked : (tx : ℕ) (range : Interval) (mode : Mode) (r : Result Grant Fault) (t : ℕ) → r ≡ Ok (grants.Loser t) → locked tx range mode r ≡ []
-none_locked tx range mode r t is = ap (locked tx range mode) is
 
 pub locked_err : (tx : ℕ) (range : Interval) (mode : Mode) (f : Fault) → locked tx range mode (Err f) ≡ lock_answer tx (held range mode) (Err f)
 locked_err tx range mode (faults.Conflict holder other at) = refl
@@ -56,6 +51,3 @@ has_locked opens ledger sessions old a t s s' range mode active same e = record 
 -- the least loser that holds a conflicting lock is in the way
 pub is_in_way : (opens : List Record → Type 0) (h : List Entry) (tx : ℕ) (range : Interval) (mode : Mode) (t : ℕ) → IsGrant opens h tx (held range mode) (grants.Loser t) → (opening : List Record) → opens opening → IsInWay opening h (held range mode) t
 is_in_way opens h tx range mode t g opening stands = let l = g.1 opening stands in record { loser = l.loser; holds = l.holds }
-
-pub is_a_loser : (opens : List Record → Type 0) (h : List Entry) (tx : ℕ) (range : Interval) (mode : Mode) (t : ℕ) → IsGrant opens h tx (held range mode) (grants.Loser t) → (opening : List Record) → opens opening → is_loser opening t ≡ true
-is_a_loser opens h tx range mode t g opening stands = (g.1 opening stands).loser

@@ -1,6 +1,6 @@
 -- An answer handed to the journal alone, as the body has it.
-use Rattle.std.proofs.Common.{◌≡◌, ℕ, true, false, List, [], ◌∷◌, ◌++◌, Option, Some, None, Result, Ok, Err, refl, sym, ap, subst, ◌∙◌, arith, append-nil}
-use Rattle.std.specs.Prelude.{IfErr, IfOk, IfSome, IsSome, OnErr}
+use Rattle.std.proofs.Common.{◌≡◌, ℕ, true, false, List, [], ◌∷◌, ◌++◌, Option, Some, None, Result, Ok, Err, refl, sym, ap, subst, ◌∙◌, append-nil}
+use Rattle.std.specs.Prelude.{IfErr, IfOk, IfSome, OnErr}
 use Rattle.std.specs.List.{list_all}
 use Rattle.std.specs.Option.{option_map}
 use Rattle.books.specs.Rights.{PageClaim, SessionClaim}
@@ -16,21 +16,20 @@ use Rattle.wal_record.specs.History.{life_log, log_of}
 use Rattle.wal_record.specs.Rules.{is_number}
 use Rattle.wal_record.specs.declared.record.Record.{Record}
 use Rattle.wal_record.specs.declared.entry.Entry.{Entry}
-use Rattle.page_ops.specs.Causes.{FailsToEnter, NoOther, OrFull}
 use Rattle.page_ops.specs.Claims.{AreInRange, Claims, IsInRange, PageAgrees, no_claims}
 use Rattle.page_ops.specs.Groups.{AreFilled, group_entries}
 use Rattle.page_ops.specs.Hands.{Hand, IsInHand}
 use Rattle.page_ops.specs.Names.{LedgerName}
-use Rattle.page_ops.specs.Outcomes.{IsAnswer, IsFull, KeepsRights, SameHolders, page_of}
+use Rattle.page_ops.specs.Outcomes.{IsAnswer, KeepsRights, SameHolders, page_of}
 use Rattle.page_ops.specs.Seeing.{Account, Enters, known}
 use Rattle.page_ops.specs.declared.group.Group.{Group}
 use Rattle.page_ops.specs.declared.outcome.Entered.{Entered}
 use Rattle.page_ops.specs.declared.outcome.Entered.TheVariants.{At, NoRoom, Late}
 use Rattle.page_ops.proofs.Staying.{longer_log}
-use Rattle.smo.specs.Asked.{Asked, AskedIfMade, MayAsk}
+use Rattle.smo.specs.Asked.{Asked, AskedIfMade}
 use Rattle.smo.specs.Settled.{claims_of}
 use Rattle.leaf_writes.proofs.Owners.{keeps_owner, leaves}
-use Rattle.engine.specs.Saying.{KeepsHolder, MaySay, said_entries, told_alone}
+use Rattle.engine.specs.Saying.{KeepsHolder, said_entries, told_alone}
 
 -- a told answer has no record
 pub none_logged : (result : Result ℕ Fault) (owner : Option SessionClaim) (request : Request) (told : Result Reply Memory) → log_of (said_entries result owner request told) ≡ []
@@ -50,26 +49,10 @@ no_records : (child : ℕ) (xs : List Record) → AreFilled child [] xs → xs �
 no_records child [] f = refl
 no_records child (x ∷ xs) f = absurd f
 
-may_ask : (opens : List Record → Type 0) (seen : List Entry) (hand : Hand) (owner : Option SessionClaim) (request : Request) (reply : Reply) → IsSome owner → MaySay opens seen hand owner request reply → MayAsk opens seen (claims_of hand owner) (told_alone owner request reply)
-may_ask opens seen hand None request reply some may = absurd (cc some)
-may_ask opens seen hand (Some s) request reply some may = record {
-  group = record { few = omega arith; kinds = refl; spelled = tt; told = refl; alone = λ n. absurd (cc n) };
-  rights = record { pages = refl; new = λ n. refl; owners = tt; speaker = (refl, refl); maintenance = λ n. absurd (cc n) };
-  askable = may;
-  timely = λ opening stands. tt;
-}
-
 module _ (opens : List Record → Type 0) (ledger sessions : LedgerName) (hand inside : Hand) (view : inside ≡ hand) (owner : Option SessionClaim) (seen : PassSeen Entry) (request : Request) (reply : Result Reply Memory) (made : Result Group Memory)
     (is : IfOk reply (λ r. made ≡ Ok (told_alone owner request r))) (none : IfErr reply (λ m. made ≡ Err m)) (right : Option PageClaim) (owned : Option SessionClaim) (x y : Claims) (right_is : right ≡ inside.right) (owned_is : owned ≡ owner) (nothing : x ≡ no_claims) (claims : y ≡ record x { a = right; s = owned }) where
   all : y ≡ claims_of hand owner
   all = claims ∙ (λ i. record { a = (right_is ∙ ap (λ (h : Hand). h.right) view) i; b = (nothing i).b; c = (nothing i).c; s = owned_is i; m = (nothing i).m })
-
-  pub may_say_it : IsSome owner → IfOk reply (MaySay opens seen.log hand owner request) → IfOk made (MayAsk opens seen.log y)
-  may_say_it some may = by reply is none may
-    where
-      by : (told : Result Reply Memory) → IfOk told (λ r. made ≡ Ok (told_alone owner request r)) → IfErr told (λ m. made ≡ Err m) → IfOk told (MaySay opens seen.log hand owner request) → IfOk made (MayAsk opens seen.log y)
-      by (Ok r) e n m = subst (λ (q : Result Group Memory × Claims). IfOk q.0 (MayAsk opens seen.log q.1)) (λ i. (sym e i, sym all i)) (may_ask opens seen.log hand owner request r some m)
-      by (Err w) e n m = subst (λ (q : Result Group Memory). IfOk q (MayAsk opens seen.log y)) (sym n) tt
 
   module _ (seen' : PassSeen Entry) (a a' : Account) (z : Claims) (answer : Result Entered Fault) (asked : AskedIfMade opens ledger sessions made answer (known a seen y) (known a' seen' z)) where
     -- the group, or no memory for it
@@ -96,47 +79,6 @@ module _ (opens : List Record → Type 0) (ledger sessions : LedgerName) (hand i
             let empty = no_records k.filled.child k.now.recs k.filled.recs in
             subst (λ (es : List Entry). Enters opens ledger sessions (known a seen (claims_of hand owner)) es (known a' seen' z)) (ap (λ (rs : List Record). group_entries k.now.lsn rs (told_alone owner request r).said) empty ∙ spoken r owner k.now.lsn) k.enters.enters
         by (Err m) e = absurd (let clash = sym at ∙ (of_none m e).0 in cc clash)
-
-    module _ (full : IfOk made (λ (g : Group). IfErr answer (IsFull opens seen'.log g))) where
-      never_full : (r : Reply) → reply ≡ Ok r → IfErr answer (IsFull opens seen'.log (told_alone owner request r))
-      never_full r told =
-          let e : made ≡ Ok (told_alone owner request r) = subst (λ (q : Result Reply Memory). IfOk q (λ r. made ≡ Ok (told_alone owner request r))) told is in
-          subst (λ (q : Result Group Memory). IfOk q (λ (g : Group). IfErr answer (IsFull opens seen'.log g))) e full
-
-      pub said_err : (f : Fault) → answer ≡ Err f → Enters opens ledger sessions (known a seen (claims_of hand owner)) [] (known a' seen' z)
-      said_err f at = by reply refl
-        where
-          plain : (r : Reply) (f : Fault) → IsFull opens seen'.log (told_alone owner request r) f → Asked opens ledger sessions (told_alone owner request r) (Err f) (known a seen (claims_of hand owner)) (known a' seen' z) → Enters opens ledger sessions (known a seen (claims_of hand owner)) [] (known a' seen' z)
-          plain r (faults.Full p q at') is_full k = absurd (let clash : false ≡ true = is_full.0 in cc clash)
-          plain r _ is_full k = k.enters.enters
-
-          by : (told : Result Reply Memory) → reply ≡ told → Enters opens ledger sessions (known a seen (claims_of hand owner)) [] (known a' seen' z)
-          by (Ok r) e = plain r f (subst (λ (q : Result Entered Fault). IfErr q (IsFull opens seen'.log (told_alone owner request r))) at (never_full r e))
-              (subst (λ (q : Result Entered Fault). Asked opens ledger sessions (told_alone owner request r) q (known a seen (claims_of hand owner)) (known a' seen' z)) at (of_group r e))
-          by (Err m) e = (of_none m e).1
-
-      pub said_refused : (f : Fault) → answer ≡ Err f → FailsToEnter OrFull f → FailsToEnter NoOther f
-      said_refused f at may = by reply refl
-        where
-          plain : (r : Reply) (f : Fault) → IsFull opens seen'.log (told_alone owner request r) f → FailsToEnter OrFull f → FailsToEnter NoOther f
-          plain r (faults.Full p q at') is_full m = absurd (let clash : false ≡ true = is_full.0 in cc clash)
-          plain r faults.Memory is_full m = tt
-          plain r (faults.Ended at') is_full m = tt
-          plain r _ is_full m = absurd m
-
-          by : (told : Result Reply Memory) → reply ≡ told → FailsToEnter NoOther f
-          by (Ok r) e = plain r f (subst (λ (q : Result Entered Fault). IfErr q (IsFull opens seen'.log (told_alone owner request r))) at (never_full r e)) may
-          by (Err m) e =
-              let both : ◌≡◌ {A = Result Entered Fault} (Err faults.Memory) (Err f) = sym (of_none m e).0 ∙ at in
-              let same : faults.Memory ≡ f = cc both in
-              subst (FailsToEnter NoOther) same tt
-
-    pub unsaid : IfErr reply (λ m. answer ≡ Err faults.Memory)
-    unsaid = by reply refl
-      where
-        by : (told : Result Reply Memory) → reply ≡ told → IfErr told (λ m. answer ≡ Err faults.Memory)
-        by (Ok r) e = tt
-        by (Err m) e = (of_none m e).0
 
     -- nothing else can come of it
     pub no_other : IfOk made (λ (g : Group). IfOk answer (IsAnswer opens seen'.log g)) → (e : Entered) → answer ≡ Ok e → ((pos : ℕ) → e ≡ At pos → ⊥) → ⊥

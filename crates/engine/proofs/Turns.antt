@@ -120,9 +120,6 @@ module _ (opens : List Record → Type 0) (ledger sessions log_faults made : Led
         pub locks_undo : Locks opens ledger sessions c0.tx (held range mode) (Err f) (standing d0 a0 s0) (standing d2 a2 s2)
         locks_undo = refused_lock opens ledger sessions (held range mode) (standing d0 a0 s0) (standing d a s) a1 s1 (standing d2 a2 s2) (session_alone c) (session_alone c1) t clears looked (is_in_way opens s1.log c.tx range mode t grant) rolls c0.tx f no_lock
 
-        pub right_undo : c1 ≡ record { session = c0.session; entries = c0.entries + length (lock_answer c0.tx (held range mode) (Err f)); tx = c0.tx }
-        right_undo = right_by (Ok (grants.Loser t)) is ∙ ap (λ (es : List Entry). record { session = c0.session; entries = c0.entries + length es; tx = c0.tx }) (sym no_lock)
-
         pub live_undo : IsOwned opens s0.log c0 → IsOwned opens s2.log c1
         live_undo owned = subst (IsOwned opens s2.log) (sym right_kept) (owned_later opens s0.log s2.log c0 begins owned)
 

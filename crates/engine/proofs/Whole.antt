@@ -1,7 +1,6 @@
 -- A request and its lock together: the right behind the lock is to the same session and transaction.
 use Rattle.std.proofs.Common.{◌≡◌, ℕ, ◌+◌, Bool, true, false, List, [], ◌∷◌, length, Option, Some, None, Result, Ok, Err, refl, sym, ap, subst, ◌∙◌, inl, inr}
-use Rattle.std.specs.Prelude.{IfErr, IfOk, IfSome, IsSome, OnOk, ◌<◌}
-use Rattle.std.specs.Option.{option_map}
+use Rattle.std.specs.Prelude.{IfErr, IfSome, IsSome, ◌<◌}
 use Rattle.books.specs.Rights.{SessionClaim}
 use Rattle.store_model.specs.Range.{Interval, point}
 use Rattle.store_model.specs.declared.fault.Fault.{Fault}
@@ -17,20 +16,18 @@ use Rattle.wal_record.specs.declared.record.Record.{Record}
 use Rattle.wal_record.specs.declared.entry.Entry.{Entry}
 use Rattle.wal_record.specs.declared.entry.Entry.TheVariants as entries
 use Rattle.page_ops.specs.Causes.{FailsToBring, MeetsNoEnd, NoOther, OrConflict, OrFull}
-use Rattle.page_ops.specs.Claims.{SessionAgrees}
 use Rattle.page_ops.specs.Desks.{Faults, KeepsFaults}
 use Rattle.page_ops.specs.Names.{LedgerName}
 use Rattle.page_ops.specs.Outcomes.{IsConflict}
 use Rattle.page_ops.specs.Seeing.{Account, Keeps}
 use Rattle.leaf_writes.specs.Changes.{request_of}
 use Rattle.rollback.specs.Rolls.{Standing}
-use Rattle.rollback.proofs.Failing.{none_then}
-use Rattle.engine.specs.Answers.{AreLast, Answers, FailsToAsk, HasLocked, IsSaidAt, Locks, Tells, lock_answer}
-use Rattle.engine.specs.Completes.{Completes, CompletesFor, IsSaidFor, OwnsLock}
+use Rattle.engine.specs.Answers.{AreLast, Answers, FailsToAsk, Locks, Tells, lock_answer}
+use Rattle.engine.specs.Completes.{Completes, CompletesFor}
 use Rattle.engine.specs.Requests.{IsRefusal, lock_of}
 use Rattle.engine.specs.Saying.{IsSameHolder}
-use Rattle.engine.specs.Sittings.{HasNumber, IsOwned, IsSeated, claim_or_none}
-use Rattle.engine.specs.Writes.{IsNumbered, LacksRoom, write_lock}
+use Rattle.engine.specs.Sittings.{IsOwned, IsSeated, claim_or_none}
+use Rattle.engine.specs.Writes.{LacksRoom, write_lock}
 use Rattle.engine.specs.declared.answered.Answered.{Answered}
 use Rattle.engine.proofs.Failing.{ask_fault, ask_more, ask_then}
 use Rattle.engine.proofs.Serving.{answers_behind, answers_unlocked}
@@ -56,9 +53,6 @@ module _ (s s' : SessionClaim) (session : s'.session ≡ s.session) (tx : s'.tx 
   completes_as : (opens : List Record → Type 0) (ledger sessions : LedgerName) (request : Request) (result : Result Answered Fault) (x y : Standing) → Completes opens ledger sessions s' request result x y → Completes opens ledger sessions s request result x y
   completes_as opens ledger sessions request result x y c = record { behind = c.behind; last = c.last; gains = c.gains; kept_up = c.kept_up; by = last_as request result true c.last c.by; faults = c.faults }
 
-  said_as : (opens : List Record → Type 0) (request : Request) (h : List Entry) (a : Answered) → IsSaidAt opens s' request h a → IsSaidAt opens s request h a
-  said_as opens request h a i = record { before = i.before; last = i.last; is = i.is; tells = tells_as request a.reply i.last i.tells; place = i.place; reply = i.reply }
-
 -- ---- behind its lock
 
 module _ (opens : List Record → Type 0) (ledger sessions : LedgerName) (s s' : SessionClaim) (request : Request) (pos : ℕ) (right : Option SessionClaim) (there : IsSome right) (is : claim_or_none right ≡ s') (behind : s' ≡ record { session = s.session; entries = s.entries + length (lock_answer s.tx (lock_of request) (Ok pos)); tx = s.tx }) where
@@ -71,55 +65,12 @@ module _ (opens : List Record → Type 0) (ledger sessions : LedgerName) (s s' :
   tx_is : s'.tx ≡ s.tx
   tx_is = ap (λ (x : SessionClaim). x.tx) behind
 
-  pub owns_lock : (h : List Entry) → HasLocked opens h (lock_of request) s' → OwnsLock opens h (lock_of request) right
-  owns_lock h had = subst (OwnsLock opens h (lock_of request)) (sym right_is) had
-
   module _ (result : Result Answered Fault) (x y z : Standing) (locks : Locks opens ledger sessions s.tx (lock_of request) (Ok pos) x y) (completes : CompletesFor opens ledger sessions right request result y z) where
     pub answers_all : Answers opens ledger sessions s request result x z
     answers_all = answers_behind opens ledger sessions s request pos result x y z locks
         (completes_as s s' session_is tx_is opens ledger sessions request result y z (subst (λ (o : Option SessionClaim). CompletesFor opens ledger sessions o request result y z) right_is completes))
 
-  pub said_all : (result : Result Answered Fault) (h : List Entry) → IfOk result (IsSaidFor opens right request h) → IfOk result (IsSaidAt opens s request h)
-  said_all (Ok a) h said = said_as s s' session_is tx_is opens request h a (subst (λ (o : Option SessionClaim). IsSaidFor opens o request h a) right_is said)
-  said_all (Err f) h said = tt
-
-  -- the right that comes back
-  module _ (right' : Option SessionClaim) (holds : IsSameHolder right right') where
-    some_behind : (r r' : Option SessionClaim) → IsSome r → option_map (λ (c : SessionClaim). c.session) r' ≡ option_map (λ (c : SessionClaim). c.session) r → IsSome r'
-    some_behind None r' some same = absurd (cc some)
-    some_behind (Some c) None some same = absurd (cc same)
-    some_behind (Some c) (Some c') some same = refl
-
-    pub there_behind : IsSome right'
-    there_behind = some_behind right right' there holds.session
-
-    some_is : right' ≡ Some (claim_or_none right')
-    some_is = there_is right' there_behind
-
-    pub session_behind : (claim_or_none right').session ≡ s.session
-    session_behind = (let e : ◌≡◌ {A = Option ℕ} (Some (claim_or_none right').session) (Some s'.session) = ap (option_map (λ (c : SessionClaim). c.session)) (sym some_is) ∙ holds.session ∙ ap (option_map (λ (c : SessionClaim). c.session)) right_is in cc e) ∙ session_is
-
-    pub tx_behind : (claim_or_none right').tx ≡ s.tx
-    tx_behind = (let e : ◌≡◌ {A = Option ℕ} (Some (claim_or_none right').tx) (Some s'.tx) = ap (option_map (λ (c : SessionClaim). c.tx)) (sym some_is) ∙ holds.tx ∙ ap (option_map (λ (c : SessionClaim). c.tx)) right_is in cc e) ∙ tx_is
-
-    pub agrees_behind : (h : List Entry) (result : Result Answered Fault) → OnOk result (IfSome right' (SessionAgrees h)) → OnOk result (SessionAgrees h (claim_or_none right'))
-    agrees_behind h result agrees = by result agrees
-      where
-        by : (r : Result Answered Fault) → OnOk r (IfSome right' (SessionAgrees h)) → OnOk r (SessionAgrees h (claim_or_none right'))
-        by (Ok a) g = subst (λ (o : Option SessionClaim). IfSome o (SessionAgrees h)) some_is g
-        by (Err f) g = tt
-
-    pub owned_behind : (h : List Entry) → IfSome right' (IsOwned opens h) → IsOwned opens h (claim_or_none right')
-    owned_behind h live = subst (λ (o : Option SessionClaim). IfSome o (IsOwned opens h)) some_is live
-
 -- ---- causes
-
-conflict_may : (request : Request) (f : Fault) → OrConflict f → IsRefusal request f
-conflict_may request (faults.Conflict holder range at) may = tt
-conflict_may request _ may = absurd may
-
-pub lock_refused : (opens : List Record → Type 0) (log_faults made : LedgerName) (request : Request) (own own' : Faults) (old new : Account) (h : List Entry) (f : Fault) → FailsToAsk OrConflict opens log_faults made own own' old new h f → FailsToAsk (IsRefusal request) opens log_faults made own own' old new h f
-lock_refused opens log_faults made request own own' old new h f why = ask_more OrConflict (IsRefusal request) (conflict_may request) opens log_faults made own own' old new h f why
 
 -- the lock was refused
 unlocked_last : (opens : List Record → Type 0) (log_faults made : LedgerName) (s : SessionClaim) (request : Request) (own own' : Faults) (old new : Account) (h : List Entry) (f : Fault) → FailsToAsk OrConflict opens log_faults made own own' old new h f → AreLast s request (Err f) false (lock_answer s.tx (lock_of request) (Err f))
@@ -137,16 +88,6 @@ module _ (opens : List Record → Type 0) (log_faults made : LedgerName) (reques
   pub ask_refused : (own0 own own' : Faults) (r : Result Answered Fault) → KeepsFaults own0 own → IfErr r (FailsToBring opens log_faults made own own' a1 a2 h) → IfErr r (FailsToAsk (IsRefusal request) opens log_faults made own0 own' a0 a2 h)
   ask_refused own0 own own' (Ok a) kept why = tt
   ask_refused own0 own own' (Err f) kept why = ask_then (IsRefusal request) opens log_faults made a0 a1 a2 h none keeps own0 own own' f kept (ask_fault (IsRefusal request) opens log_faults made own own' a1 a2 h f why)
-
-  pub ask_open : (r : Result Answered Fault) → OnOk r (MeetsNoEnd a1 a2) → OnOk r (MeetsNoEnd a0 a2)
-  ask_open (Ok a) met = none_then a0 a1 a2 none met
-  ask_open (Err f) met = tt
-
--- no lock is refused behind its own
-pub no_conflict : (opens : List Record → Type 0) (log_faults made : LedgerName) (own own' : Faults) (old new : Account) (h : List Entry) (lock : Held) (r : Result Answered Fault) → IfErr r (FailsToBring opens log_faults made own own' old new h) → IfErr r (IsConflict opens h lock)
-no_conflict opens log_faults made own own' old new h lock (Ok a) why = tt
-no_conflict opens log_faults made own own' old new h lock (Err (faults.Conflict holder range at)) why = absurd why
-no_conflict opens log_faults made own own' old new h lock (Err _) why = tt
 
 -- ---- of a request that may be refused for its own reasons, too
 
@@ -181,15 +122,15 @@ lock_is : (key : List ℕ) (new : Option (List ℕ)) → lock_of (request_of key
 lock_is key None = refl
 lock_is key (Some v) = refl
 
+pub point_locks : (opens : List Record → Type 0) (ledger sessions : LedgerName) (tx : ℕ) (result : Result ℕ Fault) (key : List ℕ) (lock : Held) (r : Interval) (x y : Standing) → lock ≡ write_lock key → r ≡ point key → Locks opens ledger sessions tx (held r Exclusive) result x y
+    → Locks opens ledger sessions tx lock result x y
+point_locks opens ledger sessions tx result key lock r x y same is locks = subst (λ (l : Held). Locks opens ledger sessions tx l result x y) (ap (λ (q : Interval). held q Exclusive) is ∙ sym same) locks
+
 pub write_locks : (opens : List Record → Type 0) (ledger sessions : LedgerName) (tx : ℕ) (result : Result ℕ Fault) (key : List ℕ) (new : Option (List ℕ)) (r : Interval) (x y : Standing) → r ≡ point key → Locks opens ledger sessions tx (held r Exclusive) result x y
     → Locks opens ledger sessions tx (lock_of (request_of key new)) result x y
-write_locks opens ledger sessions tx result key new r x y is locks = subst (λ (l : Held). Locks opens ledger sessions tx l result x y) (ap (λ (q : Interval). held q Exclusive) is ∙ sym (lock_is key new)) locks
+write_locks opens ledger sessions tx result key new r x y is locks = point_locks opens ledger sessions tx result key (lock_of (request_of key new)) r x y (lock_is key new) is locks
 
 -- ---- the right that comes back
-
-pub numbered : (right : Option SessionClaim) → IsSome right → HasNumber (claim_or_none right) → 0 < (claim_or_none right).tx → IsNumbered right
-numbered None some number active = absurd (cc some)
-numbered (Some s) some number active = number active
 
 pub seated_then : (opens : List Record → Type 0) (right right' : Option SessionClaim) (seen seen' : List Entry) (undecided : Bool) → IsSeated opens right seen undecided → IsSameHolder right right' → IfSome right' (IsOwned opens seen') → IsSeated opens right' seen' undecided
 seated_then opens None right' seen seen' undecided was same live = absurd (let none = was.there in cc none)

@@ -5,3 +5,4 @@ pub mod Answers
 pub mod Saying
 pub mod Completes
 pub mod Writes
+pub mod Applies

@@ -29,7 +29,8 @@ pub fn abort<N: Life, J: Journaling<N>, P: Pages<N, J>, R: Wait>(
     requires none { (P.desk pages.old).out ≡ 0 }
     requires reserved { (P.desk pages.old).reserves ≡ false }
     ensures idle { session.old.claim.tx ≡ 0 → (result ≡ Err faults.NotActive) × (session.new ≡ session.old) × (J.account journal.new ≡ J.account journal.old) }
-    ensures undone { 0 < session.old.claim.tx → RollsOver N.opens N.entries N.session_entries session.old.claim.tx (standing (P.desk pages.old) (J.account journal.old) session.old.seen) (standing (P.desk pages.new) (J.account journal.new) session.new.seen) }
+    ensures undone { 0 < session.old.claim.tx → RollsOver N.opens N.entries N.session_entries session.old.claim.tx
+        (standing (P.desk pages.old) (J.account journal.old) session.old.seen) (standing (P.desk pages.new) (J.account journal.new) session.new.seen) }
     ensures ended { IfOk result (IsEndAt session.old.claim.tx session.new.seen.log) }
     ensures freed { OnOk result ((session.new.claim.tx ≡ 0) × SessionAgrees session.new.seen.log session.new.claim) }
     ensures stays { OnErr result (session.new.claim.tx ≡ session.old.claim.tx) }

@@ -33,7 +33,8 @@ pub fn get<N: Life, J: Journaling<N>, P: Pages<N, J>, R: Wait>(
     requires none { (P.desk pages.old).out ≡ 0 }
     requires reserved { (P.desk pages.old).reserves ≡ false }
     ensures idle { session.old.claim.tx ≡ 0 → (result ≡ Err faults.NotActive) × (session.new ≡ session.old) × (J.account journal.new ≡ J.account journal.old) }
-    ensures answers { 0 < session.old.claim.tx → Answers N.opens N.entries N.session_entries session.old.claim (requests.Get key.now) result (standing (P.desk pages.old) (J.account journal.old) session.old.seen) (standing (P.desk pages.new) (J.account journal.new) session.new.seen) }
+    ensures answers { 0 < session.old.claim.tx → Answers N.opens N.entries N.session_entries session.old.claim (requests.Get key.now) result
+        (standing (P.desk pages.old) (J.account journal.old) session.old.seen) (standing (P.desk pages.new) (J.account journal.new) session.new.seen) }
     ensures said { IfOk result (IsSaidAt N.opens session.old.claim (requests.Get key.now) session.new.seen.log) }
     ensures agrees { OnOk result (SessionAgrees session.new.seen.log session.new.claim) }
     ensures holder { (session.new.claim.session ≡ session.old.claim.session) × (session.new.claim.tx ≡ session.old.claim.tx) }
@@ -41,7 +42,8 @@ pub fn get<N: Life, J: Journaling<N>, P: Pages<N, J>, R: Wait>(
     ensures none { (P.desk pages.new).out ≡ 0 }
     ensures reserved { (P.desk pages.new).reserves ≡ false }
     ensures open { OnOk result (MeetsNoEnd (J.account journal.old) (J.account journal.new)) }
-    ensures refused { 0 < session.old.claim.tx → IfErr result (FailsToAsk (IsRefusal (requests.Get key.now)) N.opens N.log_faults N.made (P.desk pages.old).faults (P.desk pages.new).faults (J.account journal.old) (J.account journal.new) session.new.seen.log) }
+    ensures refused { 0 < session.old.claim.tx → IfErr result (FailsToAsk (IsRefusal (requests.Get key.now)) N.opens N.log_faults N.made
+        (P.desk pages.old).faults (P.desk pages.new).faults (J.account journal.old) (J.account journal.new) session.new.seen.log) }
 {
     if !session.is_active() {
         return Err(Fault::NotActive);
@@ -81,7 +83,8 @@ pub(crate) fn lock_for<N: Life, J: Journaling<N>, P: Pages<N, J>, R: Wait>(
     requires none { (P.desk pages.old).out ≡ 0 }
     requires reserved { (P.desk pages.old).reserves ≡ false }
     requires active { 0 < session.old.claim.tx }
-    ensures locks { Locks N.opens N.entries N.session_entries session.old.claim.tx (held range.now mode) result (standing (P.desk pages.old) (J.account journal.old) session.old.seen) (standing (P.desk pages.new) (J.account journal.new) session.new.seen) }
+    ensures locks { Locks N.opens N.entries N.session_entries session.old.claim.tx (held range.now mode) result
+        (standing (P.desk pages.old) (J.account journal.old) session.old.seen) (standing (P.desk pages.new) (J.account journal.new) session.new.seen) }
     ensures right { session.new.claim ≡ record { session = session.old.claim.session; entries = session.old.claim.entries + length (lock_answer session.old.claim.tx (held range.now mode) result); tx = session.old.claim.tx } }
     ensures locked { OnOk result (HasLocked N.opens session.new.seen.log (held range.now mode) session.new.claim) }
     ensures conflict { IfErr result (IsConflict N.opens session.new.seen.log (held range.now mode)) }

@@ -113,7 +113,8 @@ pub(crate) fn enter_change<N: Life, J: Entering<N>, P: Pages<N, J>, R: Wait>(
     requires asked { IsSome (asked_by change.now.how change.now.key change.now.new) }
     requires leaf { IsLeafOf change.now.key leaf.old.state }
     requires reserved { (P.desk pages.old).reserves ≡ true }
-    ensures answers { IfSome (asked_by change.now.how change.now.key change.now.new) (λ request. CompletesFor N.opens N.entries N.session_entries owner.old request result (standing (P.desk pages.old) (J.account journal.old) pass.old) (standing (P.desk pages.new) (J.account journal.new) pass.new)) }
+    ensures answers { IfSome (asked_by change.now.how change.now.key change.now.new) (λ request. CompletesFor N.opens N.entries N.session_entries owner.old request result
+        (standing (P.desk pages.old) (J.account journal.old) pass.old) (standing (P.desk pages.new) (J.account journal.new) pass.new)) }
     ensures said { IfOk result (λ a. IfSome (asked_by change.now.how change.now.key change.now.new) (λ request. IsSaidFor N.opens owner.old request pass.new.log a)) }
     ensures holder { IsSameHolder owner.old owner.new }
     ensures agrees { OnOk result (IfSome owner.new (SessionAgrees pass.new.log)) }

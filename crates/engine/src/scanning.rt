@@ -40,7 +40,8 @@ pub fn scan<N: Life, J: Journaling<N>, P: Pages<N, J>, R: Wait>(
     requires none { (P.desk pages.old).out ≡ 0 }
     requires reserved { (P.desk pages.old).reserves ≡ false }
     ensures idle { session.old.claim.tx ≡ 0 → (result ≡ Err faults.NotActive) × (session.new ≡ session.old) × (J.account journal.new ≡ J.account journal.old) }
-    ensures answers { 0 < session.old.claim.tx → Answers N.opens N.entries N.session_entries session.old.claim (requests.Scan range) result (standing (P.desk pages.old) (J.account journal.old) session.old.seen) (standing (P.desk pages.new) (J.account journal.new) session.new.seen) }
+    ensures answers { 0 < session.old.claim.tx → Answers N.opens N.entries N.session_entries session.old.claim (requests.Scan range) result
+        (standing (P.desk pages.old) (J.account journal.old) session.old.seen) (standing (P.desk pages.new) (J.account journal.new) session.new.seen) }
     ensures said { IfOk result (IsSaidAt N.opens session.old.claim (requests.Scan range) session.new.seen.log) }
     ensures agrees { OnOk result (SessionAgrees session.new.seen.log session.new.claim) }
     ensures holder { (session.new.claim.session ≡ session.old.claim.session) × (session.new.claim.tx ≡ session.old.claim.tx) }
@@ -48,7 +49,8 @@ pub fn scan<N: Life, J: Journaling<N>, P: Pages<N, J>, R: Wait>(
     ensures none { (P.desk pages.new).out ≡ 0 }
     ensures reserved { (P.desk pages.new).reserves ≡ false }
     ensures open { OnOk result (MeetsNoEnd (J.account journal.old) (J.account journal.new)) }
-    ensures refused { 0 < session.old.claim.tx → IfErr result (FailsToAsk (IsRefusal (requests.Scan range)) N.opens N.log_faults N.made (P.desk pages.old).faults (P.desk pages.new).faults (J.account journal.old) (J.account journal.new) session.new.seen.log) }
+    ensures refused { 0 < session.old.claim.tx → IfErr result (FailsToAsk (IsRefusal (requests.Scan range)) N.opens N.log_faults N.made
+        (P.desk pages.old).faults (P.desk pages.new).faults (J.account journal.old) (J.account journal.new) session.new.seen.log) }
 {
     if !session.is_active() {
         return Err(Fault::NotActive);

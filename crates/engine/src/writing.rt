@@ -45,7 +45,8 @@ pub fn put<N: Life, J: Journaling<N>, P: Pages<N, J>, R: Wait>(
     requires none { (P.desk pages.old).out ≡ 0 }
     requires reserved { (P.desk pages.old).reserves ≡ false }
     ensures idle { session.old.claim.tx ≡ 0 → (result ≡ Err faults.NotActive) × (session.new ≡ session.old) × (J.account journal.new ≡ J.account journal.old) }
-    ensures answers { 0 < session.old.claim.tx → Answers N.opens N.entries N.session_entries session.old.claim (requests.Put key.now value) result (standing (P.desk pages.old) (J.account journal.old) session.old.seen) (standing (P.desk pages.new) (J.account journal.new) session.new.seen) }
+    ensures answers { 0 < session.old.claim.tx → Answers N.opens N.entries N.session_entries session.old.claim (requests.Put key.now value) result
+        (standing (P.desk pages.old) (J.account journal.old) session.old.seen) (standing (P.desk pages.new) (J.account journal.new) session.new.seen) }
     ensures said { IfOk result (IsSaidAt N.opens session.old.claim (requests.Put key.now value) session.new.seen.log) }
     ensures agrees { OnOk result (SessionAgrees session.new.seen.log session.new.claim) }
     ensures holder { (session.new.claim.session ≡ session.old.claim.session) × (session.new.claim.tx ≡ session.old.claim.tx) }
@@ -54,7 +55,8 @@ pub fn put<N: Life, J: Journaling<N>, P: Pages<N, J>, R: Wait>(
     ensures none { (P.desk pages.new).out ≡ 0 }
     ensures reserved { (P.desk pages.new).reserves ≡ false }
     ensures open { OnOk result (MeetsNoEnd (J.account journal.old) (J.account journal.new)) }
-    ensures refused { 0 < session.old.claim.tx → IfErr result (FailsToAsk (IsRefusal (requests.Put key.now value)) N.opens N.log_faults N.made (P.desk pages.old).faults (P.desk pages.new).faults (J.account journal.old) (J.account journal.new) session.new.seen.log) }
+    ensures refused { 0 < session.old.claim.tx → IfErr result (FailsToAsk (IsRefusal (requests.Put key.now value)) N.opens N.log_faults N.made
+        (P.desk pages.old).faults (P.desk pages.new).faults (J.account journal.old) (J.account journal.new) session.new.seen.log) }
 {
     write(rt, alloc, pages, journal, session, key, Some(value))
 }
@@ -72,7 +74,8 @@ pub fn del<N: Life, J: Journaling<N>, P: Pages<N, J>, R: Wait>(
     requires none { (P.desk pages.old).out ≡ 0 }
     requires reserved { (P.desk pages.old).reserves ≡ false }
     ensures idle { session.old.claim.tx ≡ 0 → (result ≡ Err faults.NotActive) × (session.new ≡ session.old) × (J.account journal.new ≡ J.account journal.old) }
-    ensures answers { 0 < session.old.claim.tx → Answers N.opens N.entries N.session_entries session.old.claim (requests.Del key.now) result (standing (P.desk pages.old) (J.account journal.old) session.old.seen) (standing (P.desk pages.new) (J.account journal.new) session.new.seen) }
+    ensures answers { 0 < session.old.claim.tx → Answers N.opens N.entries N.session_entries session.old.claim (requests.Del key.now) result
+        (standing (P.desk pages.old) (J.account journal.old) session.old.seen) (standing (P.desk pages.new) (J.account journal.new) session.new.seen) }
     ensures said { IfOk result (IsSaidAt N.opens session.old.claim (requests.Del key.now) session.new.seen.log) }
     ensures agrees { OnOk result (SessionAgrees session.new.seen.log session.new.claim) }
     ensures holder { (session.new.claim.session ≡ session.old.claim.session) × (session.new.claim.tx ≡ session.old.claim.tx) }
@@ -81,7 +84,8 @@ pub fn del<N: Life, J: Journaling<N>, P: Pages<N, J>, R: Wait>(
     ensures none { (P.desk pages.new).out ≡ 0 }
     ensures reserved { (P.desk pages.new).reserves ≡ false }
     ensures open { OnOk result (MeetsNoEnd (J.account journal.old) (J.account journal.new)) }
-    ensures refused { 0 < session.old.claim.tx → IfErr result (FailsToAsk (IsRefusal (requests.Del key.now)) N.opens N.log_faults N.made (P.desk pages.old).faults (P.desk pages.new).faults (J.account journal.old) (J.account journal.new) session.new.seen.log) }
+    ensures refused { 0 < session.old.claim.tx → IfErr result (FailsToAsk (IsRefusal (requests.Del key.now)) N.opens N.log_faults N.made
+        (P.desk pages.old).faults (P.desk pages.new).faults (J.account journal.old) (J.account journal.new) session.new.seen.log) }
 {
     write(rt, alloc, pages, journal, session, key, None)
 }
@@ -99,7 +103,8 @@ fn write<N: Life, J: Journaling<N>, P: Pages<N, J>, R: Wait>(
     requires none { (P.desk pages.old).out ≡ 0 }
     requires reserved { (P.desk pages.old).reserves ≡ false }
     ensures idle { session.old.claim.tx ≡ 0 → (result ≡ Err faults.NotActive) × (session.new ≡ session.old) × (J.account journal.new ≡ J.account journal.old) }
-    ensures answers { 0 < session.old.claim.tx → Answers N.opens N.entries N.session_entries session.old.claim (request_of key.now new) result (standing (P.desk pages.old) (J.account journal.old) session.old.seen) (standing (P.desk pages.new) (J.account journal.new) session.new.seen) }
+    ensures answers { 0 < session.old.claim.tx → Answers N.opens N.entries N.session_entries session.old.claim (request_of key.now new) result
+        (standing (P.desk pages.old) (J.account journal.old) session.old.seen) (standing (P.desk pages.new) (J.account journal.new) session.new.seen) }
     ensures said { IfOk result (IsSaidAt N.opens session.old.claim (request_of key.now new) session.new.seen.log) }
     ensures agrees { OnOk result (SessionAgrees session.new.seen.log session.new.claim) }
     ensures holder { (session.new.claim.session ≡ session.old.claim.session) × (session.new.claim.tx ≡ session.old.claim.tx) }
@@ -108,7 +113,8 @@ fn write<N: Life, J: Journaling<N>, P: Pages<N, J>, R: Wait>(
     ensures none { (P.desk pages.new).out ≡ 0 }
     ensures reserved { (P.desk pages.new).reserves ≡ false }
     ensures open { OnOk result (MeetsNoEnd (J.account journal.old) (J.account journal.new)) }
-    ensures refused { 0 < session.old.claim.tx → IfErr result (FailsToAsk (IsRefusal (request_of key.now new)) N.opens N.log_faults N.made (P.desk pages.old).faults (P.desk pages.new).faults (J.account journal.old) (J.account journal.new) session.new.seen.log) }
+    ensures refused { 0 < session.old.claim.tx → IfErr result (FailsToAsk (IsRefusal (request_of key.now new)) N.opens N.log_faults N.made
+        (P.desk pages.old).faults (P.desk pages.new).faults (J.account journal.old) (J.account journal.new) session.new.seen.log) }
 {
     if !session.is_active() {
         return Err(Fault::NotActive);
