@@ -1,7 +1,7 @@
 use Rattle.std.proofs.Common.{◌<◌, ◌+◌, ◌^◌, ◌++◌, ◌∷◌, [], refl, sym, arith}
 use Rattle.life_history.specs.Kept.{end_entry}
 use Rattle.journal.proofs.Grouping.{next_of}
-use Rattle.journal.proofs.Living.{kept_loser_end}
+use Rattle.journal.proofs.Living.{kept_loser_end, kept_refused}
 use Rattle.journal.proofs.Losing.{losers_end}
 use Rattle.journal.proofs.Overs.{over_consistent, over_records}
 use Rattle.journal.proofs.Restoring.{restored_entry}
@@ -10,6 +10,16 @@ use Rattle.journal.proofs.journal.Journal.end_loser.Goals as goal
 pub enter_loser_end-requires-clause-consistent : goal.enter_loser_end-requires-clause-consistent
 enter_loser_end-requires-clause-consistent g c =
     over_consistent g.N.Life.opens g.L.Disk.tells g.L.Disk.told g.L.Disk.may_leave c.self.inside.history c.args.self.now c.self.view_is c.self.inside.log.log c.append_all.new.log.log c.self.inside.log.listing c.append_all.new.log.listing c.last-last.result c.in_ok-lsn.lsn c.self.invariant.1.life.records c.last-last.ensures.next (omega (arith, c.if-last-ge-MOST.false)) c.in_ok-lsn.ensures.lsn c.args.end c.requires.follows c.args.end.tx refl
+
+pub invariant_of-self : goal.invariant_of-self
+invariant_of-self g c =
+    let done = c.append_all.ensures in (
+      c.self.invariant.0,
+      kept_refused g.N.Life.opens g.L.Disk.tells g.L.Disk.told g.L.Disk.may_leave c.self.inside.history c.self.inside.history c.self.inside.log.log c.append_all.new.log.log c.self.inside.log.listing c.append_all.new.log.listing c.self.inside.locks c.self.inside.locks c.self.inside.marked c.self.inside.faults.total c.self.inside.faults.total c.self.invariant.1 refl refl done.spare done.disk.0 done.disk.1
+          (λ opening stands. c.in_err-lsn.ensures.same _ _ (c.self.invariant.1.life.records opening stands)),
+      c.self.invariant.2,
+      c.self.invariant.3,
+    )
 
 pub invariant_of-self-2 : goal.invariant_of-self-2
 invariant_of-self-2 g c =
