@@ -15,7 +15,7 @@ use store_model::{Fault, Key, List, Memory, Mode, Pos, TxId};
 use wal_record::{End, Entry, Record};
 
 /// The End of a transaction, alone.
-pub(crate) fn end_of(alloc: Global, tx: TxId) -> Result<Group, Memory>
+fn end_of(alloc: Global, tx: TxId) -> Result<Group, Memory>
     ensures { IfOk result (λ group. group ≡ record { recs = kinds.End (record { tx = tx; prev = 0 }) ∷ []; said = None; room = false; lsn = 0 }) }
 {
     let mut recs = List::new(alloc);

@@ -14,5 +14,3 @@ mod locks;
 mod restores;
 #[cfg(test)]
 mod runs;
-#[cfg(test)]
-mod undos;

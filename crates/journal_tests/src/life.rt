@@ -1,5 +1,5 @@
 //! A life over a log that has just been formatted.
-ghost use Rattle.std.specs.Prelude.{◌≡◌, ◌<◌, ◌≤◌, ◌^◌, List, [], None, IfSome, IsTrue};
+ghost use Rattle.std.specs.Prelude.{◌≡◌, List, [], None, IfSome, IsTrue};
 ghost use Rattle.wal_record.specs.Rules.{is_limit};
 ghost use Rattle.wal_record.specs.declared.record.Record.{Record};
 
@@ -16,8 +16,8 @@ use media_mem::MemDisk;
 use own_journal::OwnJournal;
 use page_ops::{Ground, Life, Tokens};
 use std::alloc::Global;
-use store_model::{Key, Lsn, TxId, Value};
-use wal_record::{Entry, Format, Record, Write};
+use store_model::Fault;
+use wal_record::{Entry, Format, Record};
 
 /// A journal, a first pass, and the right to page 1 where there was memory for it. The steps of a test know the journal by
 /// its traits alone: so its many parts are no matter of theirs.
@@ -57,59 +57,16 @@ pub(crate) fn formatted(alloc: Global, disk: MemDisk, limit: u32) -> Option<List
     }
 }
 
-/// Adds the write of a key that had no value, to page 1, by transaction 1. The records before it, of the transaction and of the
-/// page, have these LSNs. Whether it was added.
-fn add_write(
-    alloc: Global,
-    log: &mut ListedLog<MemDisk>,
-    prev: Lsn,
-    page_prev: Lsn,
-    key: Key,
-) -> bool
-    requires places { (prev < 2 ^ 62) × (page_prev < 2 ^ 62) }
-    ensures disk { log.new.log.log.ended ≡ log.old.log.log.ended }
-{
-    let write = [Record::Write(Write {
-        tx: 1,
-        prev,
-        page: 1,
-        page_prev,
-        key,
-        old: None,
-        new: Some(Value::empty()),
-    })];
-    log.append_group(alloc, &write).is_ok()
-}
-
-/// A log as `formatted`, behind which transaction 1 wrote two keys and then no more. All three records are durable.
-pub(crate) fn with_loser(alloc: Global, disk: MemDisk) -> Option<ListedLog<MemDisk>>
-    ensures goes { IfSome result (λ log. log.log.log.ended ≡ None) }
-{
-    let mut log = formatted(alloc, disk, 12)?;
-    let (a, b) = (Key::new(b"a")?, Key::new(b"b")?);
-    if add_write(alloc, &mut log, 0, 1, a)
-        && add_write(alloc, &mut log, 2, 2, b)
-        && log.flush_to(3).is_ok()
-    {
-        Some(log)
-    } else {
-        None
-    }
-}
-
-/// A life with this log, which has these losers. The next transaction has this number.
+/// A life with this log.
 pub(crate) fn begin<'a, N: Life>(
     alloc: Global,
     ground: &'a Ground<N>,
     tokens: Tokens<N>,
     log: ListedLog<MemDisk>,
-    losers: Losers,
-    next_tx: TxId,
 ) -> Begun<N, OwnJournal<'a, MemDisk, N>>
     requires untold { (opening : List Record) → N.opens opening → ⊥ }
     requires parts { (N.entries.parts ≡ 1) × (N.session_entries.parts ≡ 1) × (N.log_faults.parts ≡ 1) × (N.vault_faults.parts ≡ 1) × (N.made.parts ≡ 1) }
     requires goes { log.log.log.ended ≡ None }
-    requires number { 1 ≤ next_tx }
     requires front { tokens.front ≡ [] }
     requires mark { tokens.mark ≡ 0 }
     requires pages { tokens.books.pages ≡ [] }
@@ -150,11 +107,11 @@ pub(crate) fn begin<'a, N: Life>(
         entries_book,
         session_book,
         made_book,
-        next_tx,
+        1,
         1,
     );
     let page = history.open_page(1);
-    let journal = Journal::start(alloc, log, history, mark, faults, losers);
+    let journal = Journal::start(alloc, log, history, mark, faults, Losers::none(alloc));
     Begun {
         journal: OwnJournal { journal, counts },
         pass,

@@ -4,15 +4,12 @@ ghost use Rattle.page_ops.specs.Names.{life_names};
 ghost use Rattle.wal_record.specs.declared.record.Record.{Record};
 
 use crate::ends::again_of;
-use crate::life::{begin, formatted, with_loser};
+use crate::life::{begin, formatted};
 use crate::locks::conflict_of;
 use crate::restores::twice_of;
-use crate::undos::{Told, undone_of};
-use journal::losers_of;
 use listed_log::ListedLog;
-use losers::Losers;
 use media_mem::MemDisk;
-use page_ops::{Entered, Grant, Life, Unnamed};
+use page_ops::{Entered, Life, Unnamed};
 use std::alloc::Global;
 use std::marker::Brand;
 use std::sync::Wait;
@@ -32,7 +29,7 @@ fn one_conflict<N: Life, R: Wait>(
     requires goes { log.log.log.ended ≡ None }
 {
     let (ground, tokens) = unnamed.split::<N>();
-    let begun = begin(alloc, &ground, tokens, log, Losers::none(alloc), 1);
+    let begun = begin(alloc, &ground, tokens, log);
     conflict_of(rt, alloc, begun)
 }
 
@@ -49,7 +46,7 @@ fn one_end<N: Life, R: Wait>(
     requires goes { log.log.log.ended ≡ None }
 {
     let (ground, tokens) = unnamed.split::<N>();
-    let begun = begin(alloc, &ground, tokens, log, Losers::none(alloc), 1);
+    let begun = begin(alloc, &ground, tokens, log);
     again_of(rt, alloc, begun)
 }
 
@@ -66,26 +63,8 @@ fn one_segment<N: Life, R: Wait>(
     requires goes { log.log.log.ended ≡ None }
 {
     let (ground, tokens) = unnamed.split::<N>();
-    let begun = begin(alloc, &ground, tokens, log, Losers::none(alloc), 1);
+    let begun = begin(alloc, &ground, tokens, log);
     twice_of(rt, alloc, begun)
-}
-
-/// A loser that two sessions undo.
-fn one_loser<N: Life, R: Wait>(
-    rt: &R,
-    alloc: Global,
-    unnamed: Unnamed,
-    log: ListedLog<MemDisk>,
-) -> Result<Told, Fault>
-    requires untold { (opening : List Record) → N.opens opening → ⊥ }
-    requires named { unnamed ≡ life_names N.count N.pages N.sessions N.maint N.entries N.session_entries N.log_faults N.vault_faults N.data_faults N.made }
-    requires parts { (N.entries.parts ≡ 1) × (N.session_entries.parts ≡ 1) × (N.log_faults.parts ≡ 1) × (N.vault_faults.parts ≡ 1) × (N.made.parts ≡ 1) }
-    requires goes { log.log.log.ended ≡ None }
-{
-    let (ground, tokens) = unnamed.split::<N>();
-    let losers = losers_of(alloc, log.listing())?;
-    let begun = begin(alloc, &ground, tokens, log, losers, 2);
-    undone_of(rt, alloc, begun)
 }
 
 #[test]
@@ -122,26 +101,5 @@ fn a_refused_lock_names_the_least_holder(rt: HostRuntime) -> Result<(), Fail> {
     let unnamed = Unnamed::new(alloc, 1)?;
     let told = one_conflict::<Brand, HostRuntime>(&rt, alloc, unnamed, log)?;
     assert_eq!(rt; told, (1, 6));
-    Ok(())
-}
-
-#[test]
-fn two_sessions_undo_a_loser(rt: HostRuntime) -> Result<(), Fail> {
-    let alloc = rt.alloc();
-    let Some(log) = with_loser(alloc, MemDisk::new(alloc)) else {
-        return Err(Fail::new("no log"));
-    };
-    let unnamed = Unnamed::new(alloc, 1)?;
-    let told = one_loser::<Brand, HostRuntime>(&rt, alloc, unnamed, log)?;
-    assert!(rt; matches!(told.way, Grant::Loser(1)));
-    let [first, late, second, end, again] = &told.answers;
-    assert!(rt; matches!(first, Entered::At(3)));
-    assert!(rt; matches!(late, Entered::Late(3)));
-    assert!(rt; matches!(second, Entered::At(4)));
-    assert!(rt; matches!(end, Entered::At(5)));
-    assert!(rt; matches!(again, Entered::Late(5)));
-    assert!(rt; matches!(told.lock, Grant::Held(6)));
-    assert_eq!(rt; told.own, (2, 1));
-    assert_eq!(rt; told.written, [[1, 3, 3, 2], [1, 4, 4, 0], [1, 5, 0, 0]]);
     Ok(())
 }
