@@ -1,0 +1,32 @@
+-- With which logs a life may begin, and why with none.
+use Rattle.std.specs.Prelude.{◌≡◌, ◌≢◌, ◌≤◌, ◌^◌, ℕ, List, [], length}
+use Rattle.log_blocks.specs.Opening.{RoseFor}
+use Rattle.log_index.specs.GoingOn.{may_go_on}
+use Rattle.log_index.specs.declared.listing.Listing.{Listing}
+use Rattle.log_manager.specs.Managed.{IsNoBadLog, Managed}
+use Rattle.listed_log.specs.Listed.{IsLogWith}
+use Rattle.media.specs.Kept.{Kept}
+use Rattle.wal_record.specs.Sound.{IsSound}
+use Rattle.wal_record.specs.declared.record.Record.{Record}
+use Rattle.opening.specs.declared.reading.WhyNot.{WhyNot}
+use Rattle.opening.specs.declared.reading.WhyNot.TheVariants as causes
+
+-- A life may begin with this log: the blocks have it, the listing is its own, and knows the last record of each transaction
+-- that may go on. Only of a disk that tells what it keeps is such a log known.
+pub record MayBegin {D : Type 0} (tells : Type 0) (told : D → Kept) (may_leave : D → Kept → Type 0) (m : Managed D) (s : Listing) (opening : List Record) : Type 0 where
+  pub tells : tells
+  pub sound : IsSound opening
+  pub some : opening ≢ []
+  pub few : length opening ≤ 2 ^ 62
+  pub records : IsLogWith tells told may_leave (may_go_on opening) opening m s
+
+-- Where the disk stands for this log, it wasn't opened for want of memory, because a device call failed, or because it has no
+-- record; never because a block is bad.
+abbrev pub IsWhyNot : List Record → WhyNot → Type 0
+IsWhyNot opening causes.NotFormatted = opening ≡ []
+IsWhyNot opening (causes.Fault fault) = IsNoBadLog fault
+
+-- a fault of the disk was counted
+abbrev pub RoseForWhy : ℕ → ℕ → WhyNot → Type 0
+RoseForWhy before now causes.NotFormatted = Unit {0}
+RoseForWhy before now (causes.Fault fault) = RoseFor before now fault
