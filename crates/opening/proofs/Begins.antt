@@ -1,5 +1,5 @@
 -- An open log, where its disk stood for one: its records, and how many they are.
-use Rattle.std.proofs.Common.{◌≡◌, ◌≢◌, ℕ, ◌+◌, List, [], ◌∷◌, ◌++◌, length, refl, sym, ap, ◌∙◌, subst, arith, append-nil, length-append}
+use Rattle.std.proofs.Common.{◌≡◌, ◌≢◌, ◌≤◌, ℕ, ◌+◌, List, [], ◌∷◌, ◌++◌, length, refl, sym, ap, ◌∙◌, subst, arith, append-nil, length-append}
 use Rattle.log_blocks.specs.Log.{Block, IsRun, StandsFor, first_lsn, next_lsn}
 use Rattle.log_blocks.specs.LogState.{LogState, AreNumbered, IsDurable, durable_lsn, lsn_behind}
 use Rattle.log_blocks.specs.Opening.{IsBadAt, TellsFault, places}
@@ -10,6 +10,7 @@ use Rattle.log_manager.specs.Records.{AreRecordsOf, IsLogOf}
 use Rattle.log_manager.proofs.Finding.{next_of_all}
 use Rattle.log_manager.proofs.Joining.{in_count, next_count}
 use Rattle.listed_log.specs.Listed.{HoldsEnd}
+use Rattle.media.specs.Crash.{LeavesOnly}
 use Rattle.media.specs.Kept.{Kept}
 use Rattle.store_model.specs.declared.fault.Fault.{Fault}
 use Rattle.store_model.specs.declared.fault.Fault.TheVariants as faults
@@ -22,10 +23,31 @@ pub not_bad : {D : Type 0} → ((bs : List Block) (block byte : ℕ) (k : Kept) 
 not_bad never told may_leave disk opening stands (faults.LogBad block byte) bad = never stands.log_disk.bs block byte (told disk) stands.log_disk.stands bad
 not_bad never told may_leave disk opening stands fault bad = tt
 
+-- a disk that tells the same, and may leave no more, stands for the logs for which it stood
+pub stands_still : {D : Type 0} (told : D → Kept) (may_leave : D → Kept → Type 0) (moment : D → ℕ) (left_since : D → ℕ → Kept → Type 0) (old new : D) (opening : List Record) → told new ≡ told old
+    → LeavesOnly moment left_since old new (λ k. may_leave old k) → ((t : ℕ) (k : Kept) → t ≤ moment new → may_leave new k → left_since new t k) → DevicesStandFor told may_leave old opening → DevicesStandFor told may_leave new opening
+stands_still told may_leave moment left_since old new opening same crash counts stands = record {
+  sound = stands.sound;
+  log_disk = record {
+    bs = stands.log_disk.bs;
+    stands = subst (StandsFor stands.log_disk.bs) (sym same) stands.log_disk.stands;
+    only = λ k left. stands.log_disk.only k (crash.each k (counts (moment old) k crash.later left)) ∙ sym same;
+    records = stands.log_disk.records;
+  };
+}
+
+-- reads leave the next LSN as it was
+pub next_kept : {D : Type 0} (old new : LogState D) → new ≡ record old { device = new.device; ended = new.ended } → new.next ≡ old.next
+next_kept old new same = ap (λ (l : LogState _). l.next) same
+
 module _ {D : Type 0} (told : D → Kept) (may_leave : D → Kept → Type 0) (disk : D) (log : LogState D) (opening : List Record) (stands : DevicesStandFor told may_leave disk opening) (bs : List Block) (d : IsDurable told may_leave log bs)
     (same : told log.device ≡ told disk) (one : (bs cs : List Block) (k : Kept) → StandsFor bs k → StandsFor cs k → bs ≡ cs) where
   pub held : HoldEnd opening bs
   held = subst (HoldEnd opening) (one stands.log_disk.bs bs (told disk) stands.log_disk.stands (subst (StandsFor bs) same d.stands)) stands.log_disk.records
+
+  -- so does the disk of an open log that still has the blocks
+  pub stands_open : (now : LogState D) → IsDurable told may_leave now bs → DevicesStandFor told may_leave now.device opening
+  stands_open now durable = record { sound = stands.sound; log_disk = record { bs = bs; stands = durable.stands; only = durable.only; records = held } }
 
   module _ (fresh : log.pending ≡ []) (numbered : AreNumbered log) where
     behind_is : log.next ≡ lsn_behind log.places
@@ -62,5 +84,5 @@ module _ {D : Type 0} (told : D → Kept) (may_leave : D → Kept → Type 0) (d
     stable = held.kept;
     waiting = [];
     is = held.is ∙ ap (λ (l : List Record). held.dropped ++ l) (sym (append-nil held.kept));
-    blocks = blocks (last_checkpoint held.dropped) bs held.kept held.records refl;
+    blocks = blocks (last_checkpoint held.dropped) held.kept held.records;
   }

@@ -14,7 +14,7 @@ use Rattle.opening.specs.declared.reading.WhyNot.TheVariants as causes
 -- A life may begin with this log: the blocks have it, the listing is its own, and knows the last record of each transaction
 -- that may go on. Only of a disk that tells what it keeps is such a log known.
 pub record MayBegin {D : Type 0} (tells : Type 0) (told : D → Kept) (may_leave : D → Kept → Type 0) (m : Managed D) (s : Listing) (opening : List Record) : Type 0 where
-  pub tells : tells
+  pub telling : tells
   pub sound : IsSound opening
   pub some : opening ≢ []
   pub few : length opening ≤ 2 ^ 62

@@ -38,6 +38,8 @@ pub fn read_log<L: Disk>(alloc: Global, disk: L) -> Result<ListedLog<L>, NotOpen
     ensures begins { IfOk result (λ log. L.tells → (opening : List Record) → DevicesStandFor L.told L.may_leave disk opening → MayBegin L.tells L.told L.may_leave log.log log.listing opening) }
     ensures goes { IfOk result (λ log. log.log.log.ended ≡ None) }
     ensures refused { IfErr result (λ r. L.tells → (opening : List Record) → DevicesStandFor L.told L.may_leave disk opening → IsWhyNot opening r.why) }
+    // The disk that is given back stands for the logs for which it stood.
+    ensures kept { IfErr result (λ r. L.tells → (opening : List Record) → DevicesStandFor L.told L.may_leave disk opening → DevicesStandFor L.told L.may_leave r.disk opening) }
     ensures cause { IfErr result (λ r. RoseForWhy (L.faults disk) (L.faults r.disk) r.why) }
     ensures later { MatchResult result (λ log. L.faults disk ≤ L.faults log.log.log.device) (λ r. L.faults disk ≤ L.faults r.disk) }
 {
