@@ -1,6 +1,6 @@
 -- With which logs a life may begin, and why with none.
 use Rattle.std.specs.Prelude.{◌≡◌, ◌≢◌, ◌≤◌, ◌^◌, ℕ, List, [], length}
-use Rattle.log_blocks.specs.Opening.{RoseFor}
+use Rattle.log_blocks.specs.Opening.{IsLogFault, RoseFor}
 use Rattle.log_index.specs.GoingOn.{may_go_on}
 use Rattle.log_index.specs.declared.listing.Listing.{Listing}
 use Rattle.log_manager.specs.Managed.{IsNoBadLog, Managed}
@@ -30,3 +30,8 @@ IsWhyNot opening (causes.Fault fault) = IsNoBadLog fault
 abbrev pub RoseForWhy : ℕ → ℕ → WhyNot → Type 0
 RoseForWhy before now causes.NotFormatted = Unit {0}
 RoseForWhy before now (causes.Fault fault) = RoseFor before now fault
+
+-- a device call failed
+abbrev pub IsForLogFault : WhyNot → Type 0
+IsForLogFault causes.NotFormatted = ⊥
+IsForLogFault (causes.Fault fault) = IsLogFault fault

@@ -1,8 +1,9 @@
 //! The log of a disk, with its listing.
 ghost use Rattle.std.specs.Prelude.{◌≡◌, ◌≤◌, List, None, IfOk, IfErr, MatchResult};
+ghost use Rattle.media.specs.Counted.{Blames};
 ghost use Rattle.log_manager.specs.Devices.{DevicesStandFor};
 ghost use Rattle.wal_record.specs.declared.record.Record.{Record};
-ghost use Rattle.opening.specs.Begins.{IsWhyNot, MayBegin, RoseForWhy};
+ghost use Rattle.opening.specs.Begins.{IsForLogFault, IsWhyNot, MayBegin, RoseForWhy};
 
 use listed_log::ListedLog;
 use log_analysis::analyse;
@@ -42,6 +43,7 @@ pub fn read_log<L: Disk>(alloc: Global, disk: L) -> Result<ListedLog<L>, NotOpen
     ensures kept { IfErr result (λ r. L.tells → (opening : List Record) → DevicesStandFor L.told L.may_leave disk opening → DevicesStandFor L.told L.may_leave r.disk opening) }
     ensures cause { IfErr result (λ r. RoseForWhy (L.faults disk) (L.faults r.disk) r.why) }
     ensures later { MatchResult result (λ log. L.faults disk ≤ L.faults log.log.log.device) (λ r. L.faults disk ≤ L.faults r.disk) }
+    ensures fuse { MatchResult result (λ log. Blames L.passes L.refused L.own disk log.log.log.device ⊥) (λ r. Blames L.passes L.refused L.own disk r.disk (IsForLogFault r.why)) }
 {
     // What the disk keeps can be read in one way only.
     one_log();

@@ -1,9 +1,15 @@
 use Rattle.std.proofs.Common.{◌≡◌, ◌≤◌, ◌^◌, ◌+◌, length, sym, ap, ◌∙◌, subst, arith}
+use Rattle.std.specs.Prelude.{Result, IsErrAnd}
+use Rattle.media.specs.Counted.{Blames}
+use Rattle.media.proofs.Blaming.{then_more}
+use Rattle.store_model.specs.declared.fault.Fault.{Fault}
+use Rattle.log_blocks.specs.Opening.{IsLogFault}
 use Rattle.log_index.specs.GoingOn.{may_go_on}
 use Rattle.log_index.specs.declared.listing.Listing.{Listing}
 use Rattle.log_manager.specs.Managed.{Managed}
 use Rattle.log_manager.specs.Devices.{DevicesStandFor}
-use Rattle.opening.specs.Begins.{IsWhyNot, MayBegin}
+use Rattle.opening.specs.Begins.{IsForLogFault, IsWhyNot, MayBegin}
+use Rattle.opening.specs.declared.reading.NotOpened.{NotOpened}
 use Rattle.opening.specs.declared.reading.WhyNot.{WhyNot}
 use Rattle.opening.proofs.Begins.{held, holds_end, last_is, next_is, next_kept, none_there, not_bad, some_there, stands_open, stands_still}
 use Rattle.opening.proofs.reading.read_log.Goals as goal
@@ -77,3 +83,17 @@ returns-in-Err-analyse-clause-kept g c = λ t opening stands.
     let b = c.in-Ok.ensures.blocks t in
     subst (λ (d : g.row.L.Denot). DevicesStandFor g.L.Disk.told g.L.Disk.may_leave d opening) (sym (ap (λ r. r.disk) c.not_opened-in-Err-analyse.ensures))
     (stands_open g.L.Disk.told g.L.Disk.may_leave c.args.disk log opening stands b.0 b.1 (c.in-Ok.ensures.same t) c.one_log.ensures c.analyse.new.log (c.analyse.ensures.durable t b.0 b.1))
+
+pub returns-then-last-eq0-clause-fuse : goal.returns-then-last-eq0-clause-fuse
+returns-then-last-eq0-clause-fuse g c =
+    subst (λ (r : NotOpened g.row.L.Denot). Blames g.L.Disk.passes g.L.Disk.refused g.L.Disk.own c.args.disk r.disk (IsForLogFault r.why)) (sym c.not_opened.ensures) c.in-Ok.ensures.fuse
+
+pub returns-then-last-gt-MOST-clause-fuse : goal.returns-then-last-gt-MOST-clause-fuse
+returns-then-last-gt-MOST-clause-fuse g c =
+    subst (λ (r : NotOpened g.row.L.Denot). Blames g.L.Disk.passes g.L.Disk.refused g.L.Disk.own c.args.disk r.disk (IsForLogFault r.why)) (sym c.not_opened-then-last-gt-MOST.ensures) c.in-Ok.ensures.fuse
+
+pub returns-in-Err-analyse-clause-fuse : goal.returns-in-Err-analyse-clause-fuse
+returns-in-Err-analyse-clause-fuse g c =
+    subst (λ (r : NotOpened g.row.L.Denot). Blames g.L.Disk.passes g.L.Disk.refused g.L.Disk.own c.args.disk r.disk (IsForLogFault r.why)) (sym c.not_opened-in-Err-analyse.ensures)
+    (then_more g.L.Disk.passes g.L.Disk.refused g.L.Disk.own c.args.disk c.in-Ok.log.device c.analyse.new.log.device ⊥ (IsLogFault c.in-Err-analyse.fault) c.in-Ok.ensures.fuse (λ never. never)
+    (subst (λ (r : Result Listing Fault). Blames g.L.Disk.passes g.L.Disk.refused g.L.Disk.own c.in-Ok.log.device c.analyse.new.log.device (IsErrAnd r IsLogFault)) c.in-Err-analyse.is c.analyse.ensures.fuse))
