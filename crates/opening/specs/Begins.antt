@@ -1,11 +1,13 @@
 -- With which logs a life may begin, and why with none.
-use Rattle.std.specs.Prelude.{◌≡◌, ◌≢◌, ◌≤◌, ◌^◌, ℕ, List, [], length}
+use Rattle.std.specs.Prelude.{◌≡◌, ◌≢◌, ◌≤◌, ◌^◌, ℕ, List, [], length, None}
 use Rattle.log_blocks.specs.Opening.{IsLogFault, RoseFor}
 use Rattle.log_index.specs.GoingOn.{may_go_on}
 use Rattle.log_index.specs.declared.listing.Listing.{Listing}
 use Rattle.log_manager.specs.Managed.{IsNoBadLog, Managed}
 use Rattle.listed_log.specs.Listed.{IsLogWith}
 use Rattle.media.specs.Kept.{Kept}
+use Rattle.page_ops.specs.Names.{LedgerName}
+use Rattle.page_ops.specs.Seeing.{Account, Counted}
 use Rattle.wal_record.specs.Sound.{IsSound}
 use Rattle.wal_record.specs.declared.record.Record.{Record}
 use Rattle.opening.specs.declared.reading.WhyNot.{WhyNot}
@@ -35,3 +37,18 @@ RoseForWhy before now (causes.Fault fault) = RoseFor before now fault
 abbrev pub IsForLogFault : WhyNot → Type 0
 IsForLogFault causes.NotFormatted = ⊥
 IsForLogFault (causes.Fault fault) = IsLogFault fault
+
+-- all parts of a ledger, with which nothing was counted yet
+abbrev pub all_of : LedgerName → Counted
+all_of ledger = record { parts = ledger.parts; amount = 0 }
+
+-- what a thread counts with as its life begins, where it has all parts of each ledger
+abbrev pub all_parts : LedgerName → LedgerName → LedgerName → LedgerName → LedgerName → Account
+all_parts entries session_entries log_faults vault_faults made = record {
+  entries = all_of entries;
+  session_entries = all_of session_entries;
+  log_faults = all_of log_faults;
+  vault_faults = all_of vault_faults;
+  made = all_of made;
+  ended = None;
+}

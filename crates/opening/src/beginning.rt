@@ -9,7 +9,7 @@ ghost use Rattle.wal_record.specs.Chains.{pages};
 ghost use Rattle.wal_record.specs.Checkpoints as checkpoints;
 ghost use Rattle.wal_record.specs.OpenWrites as writes;
 ghost use Rattle.wal_record.specs.declared.record.Record.{Record};
-ghost use Rattle.opening.specs.Begins.{MayBegin};
+ghost use Rattle.opening.specs.Begins.{MayBegin, all_parts};
 ghost use Rattle.opening.specs.declared.reading.WhyNot.TheVariants as causes;
 
 use crate::reading::{NotOpened, WhyNot};
@@ -55,6 +55,9 @@ pub fn begin<'a, L: Disk, N: Life>(
     requires books { (tokens.books.pages ≡ []) × (tokens.books.sessions ≡ []) × (tokens.books.maint ≡ []) }
     ensures begins { IfOk result (λ life. life.journal.journal ≡ []) }
     ensures pass { IfOk result (λ life. life.pass ≡ tokens.pass) }
+    // The journal has all parts of its ledgers, and in none was anything counted.
+    ensures counts { IfOk result (λ life. life.journal.counts ≡ all_parts N.entries N.session_entries N.log_faults N.vault_faults N.made) }
+    ensures vault { IfOk result (λ life. life.vault_faults.total ≡ 0) }
     // Each page's right is at home, at the page's head.
     ensures limit { IfOk result (λ life. (opening : List Record) → N.opens opening → limit_of life.index ≡ max (checkpoints.limit_of opening) (pages opening)) }
     ensures homes { IfOk result (λ life. (opening : List Record) → N.opens opening → AreAtHome opening life.index) }
@@ -107,6 +110,8 @@ fn start<'a, L: Disk, N: Life>(
     requires next { (opening : List Record) → N.opens opening → Begins opening rights.next_tx }
     requires losers { (opening : List Record) → N.opens opening → losers ≡ map untouched (writes.losers opening) }
     ensures begins { result.journal.journal ≡ [] }
+    ensures counts { result.journal.counts ≡ all_parts N.entries N.session_entries N.log_faults N.vault_faults N.made }
+    ensures vault { result.vault_faults.total ≡ 0 }
     ensures pass { result.pass ≡ tokens.pass }
     ensures rights { (result.index ≡ rights.index) × (result.maint ≡ rights.maint) }
 {

@@ -8,7 +8,7 @@
 //! It is two calls. [`read_log`] makes of a disk its log with its listing, before the life has a name: so the name can be
 //! picked by what was found. [`begin`] makes of these, and of what a life begins with, the journal of one thread, the pages'
 //! rights at home, and the right to maintenance. `MayBegin` of `specs/Begins` says which logs the life may have begun with:
-//! each log for which the disk stood is one.
+//! each log for which the disk stood is one. A disk that is given back still stands for the logs for which it stood.
 #![tactic(auto)]
 
 mod beginning;

@@ -21,7 +21,8 @@ pub returns-then-last-eq0-clause-refused : goal.returns-then-last-eq0-clause-ref
 returns-then-last-eq0-clause-refused g c = λ t opening stands.
     let b = c.in-Ok.ensures.blocks t in
     subst (λ (w : WhyNot). IsWhyNot opening w) (sym (ap (λ r. r.why) c.not_opened.ensures))
-    (none_there g.L.Disk.told g.L.Disk.may_leave c.args.disk c.in-Ok.log opening stands b.0 b.1 (c.in-Ok.ensures.same t) c.one_log.ensures c.in-Ok.ensures.fresh.0 c.durable_lsn-last.ensures.numbered c.durable_lsn-last.result c.durable_lsn-last.ensures.value c.if-last-eq0.true)
+    (none_there g.L.Disk.told g.L.Disk.may_leave c.args.disk c.in-Ok.log opening stands b.0 b.1 (c.in-Ok.ensures.same t) c.one_log.ensures
+    c.in-Ok.ensures.fresh.0 c.durable_lsn-last.ensures.numbered c.durable_lsn-last.result c.durable_lsn-last.ensures.value c.if-last-eq0.true)
 
 pub returns-in-Ok-analyse-clause-begins : goal.returns-in-Ok-analyse-clause-begins
 returns-in-Ok-analyse-clause-begins g c = λ t opening stands.
@@ -61,7 +62,8 @@ returns-in-Err-analyse-clause-refused g c = λ t opening stands.
 
 pub returns-in-Err-clause-kept : goal.returns-in-Err-clause-kept
 returns-in-Err-clause-kept g c = λ t opening stands.
-    stands_still g.L.Disk.told g.L.Disk.may_leave g.L.Disk.moment g.L.Disk.left_since c.args.disk c.in-Err.refused.disk opening (c.in-Err.ensures.same t) c.in-Err.ensures.any_moment (λ t k le m. g.met.L.Disk.counts_now c.in-Err.refused.disk t k le m) stands
+    stands_still g.L.Disk.told g.L.Disk.may_leave g.L.Disk.moment g.L.Disk.left_since c.args.disk c.in-Err.refused.disk opening (c.in-Err.ensures.same t)
+    c.in-Err.ensures.any_moment (λ t k le m. g.met.L.Disk.counts_now c.in-Err.refused.disk t k le m) stands
 
 pub returns-then-last-eq0-clause-kept : goal.returns-then-last-eq0-clause-kept
 returns-then-last-eq0-clause-kept g c = λ t opening stands.
