@@ -1,2 +1,2 @@
 mod Copies
-mod NamedBackups
+pub mod NamedBackups

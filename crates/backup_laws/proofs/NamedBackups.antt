@@ -34,10 +34,10 @@ no_backup_yet : (p : ℕ) → page_backup [] p ≡ no_backup
 unfolding page_backup along
 no_backup_yet p = refl
 
-image_more : (log more : List Record) (p : ℕ) (x : Sealed) → names_at log x.lsn p ≡ true → IsImageAt log p x → IsImageAt (log ++ more) p x
+pub image_more : (log more : List Record) (p : ℕ) (x : Sealed) → names_at log x.lsn p ≡ true → IsImageAt log p x → IsImageAt (log ++ more) p x
 image_more log more p x named there = ap (λ (l : List Record). image l p) (take-append-le x.lsn log more (let low = named_below p x.lsn log named in let most = head_in p log in omega (arith, low, most))) ∙ there
 
-names_more : (log more : List Record) (name : ObjectName) (bytes : List ℕ) → Names log name bytes → Names (log ++ more) name bytes
+pub names_more : (log more : List Record) (name : ObjectName) (bytes : List ℕ) → Names log name bytes → Names (log ++ more) name bytes
 names_more log more name bytes n = record {
   before = n.before;
   naming = n.naming;

@@ -1,0 +1,15 @@
+//! Bases from a vault in memory: where a page's image stands in an object, which objects are bad, and that faults are counted.
+//!
+//! The crate has tests alone, since a crate with tests is proved a second time with them. Its journal tells what last backup
+//! each page has; no opening log is known, so any bytes may stand for an object. What is expected was worked out by hand
+//! from the table of an object's fields.
+#![tactic(auto)]
+
+#[cfg(test)]
+mod bases;
+#[cfg(test)]
+mod life;
+#[cfg(test)]
+mod objects;
+#[cfg(test)]
+mod telling;

@@ -1,0 +1,123 @@
+//! A journal that tells what last backup each page has.
+
+use books::PageRight;
+use front::Pass;
+use page_ops::{Entered, Entering, Found, Ground, Group, Life, Listed, Rights};
+use small_journal::{Counts, History};
+use std::alloc::Global;
+use std::marker::Model;
+use std::sync::Wait;
+use store_model::{Fault, Lsn, PageNo, Pos};
+use wal_record::{Entry, PageHead};
+
+/// A small journal of a life of which no opening log is known. It tells of each page that this backup has it, at this LSN.
+#[derive(Drop)]
+pub(crate) struct Telling<'a, N: Life> {
+    pub(crate) history: History<'a, N>,
+    pub(crate) counts: Counts<N>,
+    pub(crate) backup: u64,
+    pub(crate) lsn: Lsn,
+}
+
+impl<'a, N: Life> Model for Telling<'a, N> {
+    ghost use Rattle.page_ops.specs.Causes.{IsUntold};
+    ghost use Rattle.page_ops.specs.Seeing.{Account};
+
+    ghost Value = { Account };
+
+    ghost view = { λ j. j.counts };
+
+    ghost invariant = { λ j. IsUntold N.opens };
+}
+
+impl<'a, N: Life> Entering<N> for Telling<'a, N> {
+    ghost account = { λ j. j };
+
+    fn ground(&self) -> &Ground<N> {
+        self.history.ground()
+    }
+
+    fn log_faults(&self) -> u64 {
+        let _ = &self.counts.made;
+        0
+    }
+
+    fn vault_faults(&self) -> u64 {
+        let _ = &self.counts.made;
+        0
+    }
+
+    fn enter<R: Wait>(
+        &mut self,
+        _rt: &R,
+        _alloc: Global,
+        group: &mut Group,
+        rights: &mut Rights<N>,
+        pass: &mut Pass<Entry, N>,
+    ) -> Result<Entered, Fault> {
+        self.history.enter(group, rights, pass, &mut self.counts)
+    }
+
+    fn repaired<R: Wait>(
+        &mut self,
+        _rt: &R,
+        _alloc: Global,
+        _right: &PageRight<N>,
+        pass: &mut Pass<Entry, N>,
+    ) -> Result<Option<Pos>, Fault> {
+        self.history.watch(pass, &mut self.counts);
+        Err(Fault::Memory)
+    }
+
+    fn see<R: Wait>(&mut self, _rt: &R, rights: &mut Rights<N>, pass: &mut Pass<Entry, N>) {
+        self.history.see(rights, pass, &mut self.counts);
+    }
+
+    fn flush<R: Wait>(
+        &mut self,
+        _rt: &R,
+        _lsn: Lsn,
+        pass: &mut Pass<Entry, N>,
+    ) -> Result<(), Fault> {
+        self.history.flush(pass, &mut self.counts);
+        Ok(())
+    }
+
+    fn read<R: Wait>(
+        &mut self,
+        _rt: &R,
+        _alloc: Global,
+        _lsn: Lsn,
+        pass: &mut Pass<Entry, N>,
+    ) -> Result<Found, Fault> {
+        self.history.watch(pass, &mut self.counts);
+        Err(Fault::Memory)
+    }
+
+    fn listed<R: Wait>(
+        &mut self,
+        _rt: &R,
+        _page: PageNo,
+        pass: &mut Pass<Entry, N>,
+    ) -> Result<Listed, Fault> {
+        self.history.flush(pass, &mut self.counts);
+        Ok(Listed {
+            ends: PageHead {
+                head: 0,
+                written: 0,
+                backup: self.backup,
+                backup_lsn: self.lsn,
+            },
+            unrestored: false,
+            lost: 0,
+        })
+    }
+
+    fn pages<R: Wait>(&mut self, _rt: &R, pass: &mut Pass<Entry, N>) -> u32 {
+        self.history.pages(pass, &mut self.counts)
+    }
+
+    fn pending<R: Wait>(&mut self, _rt: &R, pass: &mut Pass<Entry, N>) -> u32 {
+        self.history.pending(pass, &mut self.counts)
+    }
+}
