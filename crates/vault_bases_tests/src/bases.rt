@@ -198,7 +198,7 @@ fn a_bad_object_is_named_at_its_first_fault(rt: HostRuntime) -> Result<(), Fail>
         (52, Answer::BadAt(20)),
         (4115, Answer::BadAt(20)),
     ] {
-        let mut bytes = whole.to_vec(alloc)?;
+        let mut bytes = whole.as_slice().to_vec(alloc)?;
         if let Some(byte) = bytes.get_mut(at) {
             *byte = byte.wrapping_add(1);
         }
@@ -212,7 +212,7 @@ fn a_bad_object_is_named_at_its_first_fault(rt: HostRuntime) -> Result<(), Fail>
         (20, Answer::BadAt(20)),
         (4115, Answer::BadAt(20)),
     ] {
-        let (front, _) = whole.as_slice().split_at(len);
+        let (front, _) = whole.as_slice().split_at(whole.len().min(len));
         let (answer, faults) = given(&rt, alloc, front, None, page_at_head(1))?;
         assert_eq!(rt; (answer, faults), (expected, 0), "cut to {len}");
     }

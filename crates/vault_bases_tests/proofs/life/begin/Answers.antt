@@ -1,5 +1,6 @@
-use Rattle.std.proofs.Common.{List, ap, sym, ◌∙◌, inr}
-use Rattle.books.specs.Rights.{MaintClaim}
+use Rattle.std.proofs.Common.{◌≡◌, List, [], ap, sym, ◌∙◌, inr}
+use Rattle.books.specs.Rights.{MaintClaim, maint_claim}
+use Rattle.front.specs.Seen.{PassSeen}
 use Rattle.wal_record.specs.Books.{maintenance_book}
 use Rattle.wal_record.specs.declared.entry.Entry.{Entry}
 use Rattle.vault_bases_tests.proofs.Opened.{kept, none_named}
@@ -9,7 +10,9 @@ pub new-history-requires-clause-books : goal.new-history-requires-clause-books
 new-history-requires-clause-books g c = kept g.N.Life.opens c.requires.untold _ _ _ _ c.requires.sessions c.requires.maint c.open.ensures.book
 
 pub new-objects-requires-clause-right : goal.new-objects-requires-clause-right
-new-objects-requires-clause-right g c = ?
+new-objects-requires-clause-right g c =
+    let begun : c.copy.result.log ≡ [] = ap (λ (p : PassSeen Entry). p.log) c.copy.ensures.copy ∙ c.requires.pass in
+    ap (λ (m : MaintClaim). m.lsn) (c.of-right.ensures ∙ ap maint_claim c.open.ensures.right) ∙ sym none_named ∙ ap maintenance_book (sym begun)
 
 pub new-objects-requires-clause-told : goal.new-objects-requires-clause-told
 new-objects-requires-clause-told g c = inr c.requires.untold
