@@ -30,6 +30,10 @@ piece_is old new bytes from n count is =
 pub piece_of : (opens : List Record → Type 0) (h : List Entry) (name : ObjectName) (from n : ℕ) (old new : List ℕ) → IsNamedPiece opens h name from old new n → OfNamed opens h name (λ bytes. take n new ≡ take (length old) (drop from bytes))
 piece_of opens h name from n old new is opening bytes stands named = let e = is opening bytes stands named in piece_is old new bytes from n e.0 e.1
 
+-- a vector that was filled with it and cut
+pub bytes_read : (got held new bytes old : List ℕ) (from n most : ℕ) → got ≡ take n held → held ≡ new → take n new ≡ take (length old) (drop from bytes) → length old ≡ most → got ≡ take most (drop from bytes)
+bytes_read got held new bytes old from n most cut same piece long = cut ∙ ap (take n) same ∙ piece ∙ ap (λ (k : ℕ). take k (drop from bytes)) long
+
 pub segment_below : (p : ℕ) → p < 2 ^ 32 → segment_of p < 2 ^ 32
 segment_below p low = omega (arith, low)
 

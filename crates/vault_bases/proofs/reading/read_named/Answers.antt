@@ -1,6 +1,7 @@
-use Rattle.std.proofs.Common.{◌≡◌, ℕ, length, take, drop, ap, ◌∙◌}
+use Rattle.std.proofs.Common.{◌≡◌, length, ap, ◌∙◌}
 use Rattle.std.proofs.lemmas.List.{with_items_is}
 use Rattle.segment_restore.proofs.Chains.{looks}
+use Rattle.vault_bases.proofs.Pieces.{bytes_read}
 use Rattle.vault_bases.proofs.reading.read_named.Goals as goal
 
 pub returns-in_default-clause-entered : goal.returns-in_default-clause-entered
@@ -16,4 +17,4 @@ pub returns-clause-bytes : goal.returns-clause-bytes
 returns-clause-bytes g c opening bytes stands named =
     let same : length c.read_piece.new.buf ≡ c.in-Ok.bytes.len = c.read_piece.ensures.size ∙ c.as_mut_slice.ensures.len in
     let long : length c.as_mut_slice.result.now ≡ c.args.most = ap length c.as_mut_slice.ensures.value ∙ c.in-Ok.ensures in
-    c.truncate.ensures.items ∙ ap (take c.in_ok-count.count) (with_items_is c.in-Ok.bytes c.read_piece.new.buf same) ∙ c.in_ok-count.ensures.piece opening bytes stands named ∙ ap (λ (k : ℕ). take k (drop c.args.from bytes)) long
+    bytes_read _ _ c.read_piece.new.buf bytes c.as_mut_slice.result.now c.args.from c.in_ok-count.count c.args.most c.truncate.ensures.items (with_items_is c.in-Ok.bytes c.read_piece.new.buf same) (c.in_ok-count.ensures.piece opening bytes stands named) long
