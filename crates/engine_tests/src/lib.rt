@@ -6,12 +6,6 @@
 #![tactic(auto)]
 
 #[cfg(test)]
-mod answers;
-#[cfg(test)]
-mod lines;
-#[cfg(test)]
 mod planting;
-#[cfg(test)]
-mod players;
 #[cfg(test)]
 mod tests;

@@ -4,8 +4,8 @@ ghost use Rattle.page_ops.specs.Names.{life_names};
 ghost use Rattle.wal_record.specs.State.{KeepsState};
 ghost use Rattle.wal_record.specs.declared.record.Record.{Record};
 
-use crate::lines::{Line, play};
 use crate::planting::{Planted, empty_leaf, new_log, no_pages, plant};
+use line_play::{Line, play};
 use listed_log::ListedLog;
 use media::Disk;
 use media_mem::MemDisk;

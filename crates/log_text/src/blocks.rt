@@ -1,9 +1,5 @@
-//! The disk of a log.
-ghost use Rattle.std.specs.Prelude.{◌≡◌, [], None, IfSome};
-
+//! The blocks of a log.
 use crate::spelled::add_record;
-use log_blocks::{BlockLog, open_log};
-use media_mem::MemDisk;
 use std::alloc::Global;
 use store_model::Lsn;
 
@@ -74,10 +70,8 @@ fn add_block(
     Some(next)
 }
 
-/// An open log with the blocks of this text, a line each, whose records a stroke parts. The Checkpoint has this LSN.
-pub fn log_of(alloc: Global, text: &str, given: Given, checkpoint: Lsn) -> Option<BlockLog<MemDisk>>
-    ensures { IfSome result (λ log. (log.pending ≡ []) × (log.ended ≡ None)) }
-{
+/// The bytes of a log with the blocks of this text, a line each, whose records a stroke parts. The Checkpoint has this LSN.
+pub fn log_bytes(alloc: Global, text: &str, given: Given, checkpoint: Lsn) -> Option<Vec<u8>> {
     let checkpoint = if given == Given::NoCheckpoint {
         0
     } else {
@@ -89,6 +83,5 @@ pub fn log_of(alloc: Global, text: &str, given: Given, checkpoint: Lsn) -> Optio
         next = add_block(alloc, line, given, checkpoint, next, &mut bytes)?;
     }
     bytes.push(0).ok()?;
-    let disk = MemDisk::with_bytes(alloc, &bytes).ok()?;
-    open_log(alloc, disk).ok()
+    Some(bytes)
 }

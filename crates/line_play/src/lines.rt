@@ -14,7 +14,7 @@ use store_model::Fault;
 use wal_record::Entry;
 
 /// A line of a script, and its answer.
-pub(crate) type Line<'a> = (&'a str, &'a str);
+pub type Line<'a> = (&'a str, &'a str);
 
 /// The session of a name: those of A, B, C and so on.
 fn session_of<'a, N: Life>(
@@ -163,7 +163,7 @@ fn put_again<N: Life, J: Journaling<N>, P: Pages<N, J>, R: Wait>(
 }
 
 /// Plays the lines, and then A puts to the keys of these letters, if there are any, and once more where that wants memory.
-pub(crate) fn play<N: Life, J: Journaling<N>, P: Pages<N, J>, R: Wait>(
+pub fn play<N: Life, J: Journaling<N>, P: Pages<N, J>, R: Wait>(
     rt: &R,
     alloc: Global,
     pages: &mut P,

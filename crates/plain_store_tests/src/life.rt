@@ -1,0 +1,100 @@
+//! A life on a log that was read.
+ghost use Rattle.std.specs.Prelude.{◌≡◌, ◌⊎◌, List, [], None};
+ghost use Rattle.opening.specs.Begins.{MayBegin};
+ghost use Rattle.page_ops.specs.Causes.{IsUntold};
+ghost use Rattle.page_ops.specs.Names.{life_names};
+ghost use Rattle.plain_store.specs.Opens.{IsBlank};
+ghost use Rattle.wal_record.specs.declared.record.Record.{Record};
+
+use line_play::{Line, play};
+use listed_log::ListedLog;
+use media::{Disk, PageDevice};
+use operators::Operators;
+use page_ops::{Ground, Life, Tokens, Unnamed};
+use plain_store::{PlainStore, open_store};
+use segment_restore::NoBases;
+use std::alloc::Global;
+use std::marker::Brand;
+use std::sync::Wait;
+use store_model::Fault;
+
+/// The first line that answers otherwise in a store that is opened on this log, if there is one.
+fn play_opened<L: Disk, P: PageDevice, N: Life, R: Wait>(
+    rt: &R,
+    alloc: Global,
+    ground: &Ground<N>,
+    tokens: Tokens<N>,
+    log: ListedLog<L>,
+    data: P,
+    operators: &Operators,
+    lines: &[Line<'_>],
+) -> Result<String, Fault>
+    requires opens { (opening : List Record) → N.opens opening → MayBegin L.tells L.told L.may_leave log.log log.listing opening }
+    requires goes { log.log.log.ended ≡ None }
+    requires told { P.tells ⊎ IsUntold N.opens }
+    requires blank { P.tells → IsBlank P.told data }
+    requires parts { (N.entries.parts ≡ 1) × (N.session_entries.parts ≡ 1) × (N.log_faults.parts ≡ 1) × (N.vault_faults.parts ≡ 1) × (N.made.parts ≡ 1) }
+    requires front { tokens.front ≡ [] }
+    requires mark { tokens.mark ≡ 0 }
+    requires pages { tokens.books.pages ≡ [] }
+    requires sessions { tokens.books.sessions ≡ [] }
+    requires maint { tokens.books.maint ≡ [] }
+{
+    let store = match open_store(alloc, ground, tokens, log, data, NoBases, operators) {
+        Ok(store) => store,
+        Err(_) => return Err(Fault::Memory),
+    };
+    let PlainStore {
+        mut journal,
+        mut pages,
+        mut pass,
+        ..
+    } = store;
+    play(
+        rt,
+        alloc,
+        &mut pages,
+        &mut journal,
+        operators,
+        lines,
+        b"",
+        &mut pass,
+    )
+}
+
+fn play_life<L: Disk, P: PageDevice, N: Life, R: Wait>(
+    rt: &R,
+    alloc: Global,
+    unnamed: Unnamed,
+    log: ListedLog<L>,
+    data: P,
+    operators: &Operators,
+    lines: &[Line<'_>],
+) -> Result<String, Fault>
+    requires opens { (opening : List Record) → N.opens opening → MayBegin L.tells L.told L.may_leave log.log log.listing opening }
+    requires goes { log.log.log.ended ≡ None }
+    requires told { P.tells ⊎ IsUntold N.opens }
+    requires blank { P.tells → IsBlank P.told data }
+    requires named { unnamed ≡ life_names N.count N.pages N.sessions N.maint N.entries N.session_entries N.log_faults N.vault_faults N.data_faults N.made }
+    requires parts { (N.entries.parts ≡ 1) × (N.session_entries.parts ≡ 1) × (N.log_faults.parts ≡ 1) × (N.vault_faults.parts ≡ 1) × (N.made.parts ≡ 1) }
+{
+    let (ground, tokens) = unnamed.split::<N>();
+    play_opened(rt, alloc, &ground, tokens, log, data, operators, lines)
+}
+
+/// The same, where the life may have begun with each log for which the disk stood.
+pub(crate) fn told_in<L: Disk, P: PageDevice, R: Wait>(
+    rt: &R,
+    alloc: Global,
+    log: ListedLog<L>,
+    data: P,
+    operators: &Operators,
+    lines: &[Line<'_>],
+) -> Result<String, Fault>
+    requires goes { log.log.log.ended ≡ None }
+    requires told { P.tells }
+    requires blank { IsBlank P.told data }
+{
+    let unnamed = Unnamed::new(alloc, 1)?;
+    play_life::<L, P, Brand, R>(rt, alloc, unnamed, log, data, operators, lines)
+}
