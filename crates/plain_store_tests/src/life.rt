@@ -11,7 +11,7 @@ use listed_log::ListedLog;
 use media::{Disk, PageDevice};
 use operators::Operators;
 use page_ops::{Ground, Life, Tokens, Unnamed};
-use plain_store::{PlainStore, open_store};
+use plain_store::open_store;
 use segment_restore::NoBases;
 use std::alloc::Global;
 use std::marker::Brand;
@@ -44,12 +44,7 @@ fn play_opened<L: Disk, P: PageDevice, N: Life, R: Wait>(
         Ok(store) => store,
         Err(_) => return Err(Fault::Memory),
     };
-    let PlainStore {
-        mut journal,
-        mut pages,
-        mut pass,
-        ..
-    } = store;
+    let (mut journal, mut pages, mut pass) = store.into_parts();
     play(
         rt,
         alloc,
