@@ -163,7 +163,7 @@ fn put_again<N: Life, J: Journaling<N>, P: Pages<N, J>, R: Wait>(
 }
 
 /// Plays the lines, and then A puts to the keys of these letters, if there are any, and once more where that wants memory.
-pub fn play<N: Life, J: Journaling<N>, P: Pages<N, J>, R: Wait>(
+pub(crate) fn play<N: Life, J: Journaling<N>, P: Pages<N, J>, R: Wait>(
     rt: &R,
     alloc: Global,
     pages: &mut P,

@@ -6,6 +6,4 @@
 #![tactic(auto)]
 
 #[cfg(test)]
-mod life;
-#[cfg(test)]
 mod tests;

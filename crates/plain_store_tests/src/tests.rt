@@ -1,8 +1,5 @@
 //! Tables of requests behind an opening. A Began, a Lock, each record and each answer is an entry of the new history.
-ghost use Rattle.std.specs.Prelude.{◌≡◌};
-
-use crate::life::told_in;
-use line_play::Line;
+use line_play::{Line, told_in};
 use log_text::{Given, log_bytes};
 use media_mem::{MemDisk, MemPages};
 use opening::{WhyNot, read_log};
@@ -29,7 +26,15 @@ fn told<R: Wait>(
     let Ok(log) = read_log(alloc, disk) else {
         return Err(Fault::NotActive);
     };
-    told_in(rt, alloc, log, MemPages::new(alloc), &operators, lines)
+    told_in(
+        rt,
+        alloc,
+        log,
+        MemPages::new(alloc),
+        &operators,
+        lines,
+        b"",
+    )
 }
 
 /// Transaction 2 hasn't ended: what it wrote is undone when a lock meets it, with its End, and not before.

@@ -1,5 +1,5 @@
 use Rattle.opening.specs.Begins.{MayBegin}
-use Rattle.plain_store_tests.proofs.life.told_in.Given as goal
+use Rattle.line_play.proofs.life.told_in.Given as goal
 
 abbrev pub ghosts-play_life-N-Life : goal.ghosts-play_life-N-Life
 ghosts-play_life-N-Life g a =

@@ -1,4 +1,4 @@
-use Rattle.plain_store_tests.proofs.life.told_in.Goals as goal
+use Rattle.line_play.proofs.life.told_in.Goals as goal
 
 pub play_life-requires-clause-opens : goal.play_life-requires-clause-opens
 play_life-requires-clause-opens g c = λ opening opens. opens

@@ -6,7 +6,7 @@ ghost use Rattle.page_ops.specs.Names.{life_names};
 ghost use Rattle.plain_store.specs.Opens.{IsBlank};
 ghost use Rattle.wal_record.specs.declared.record.Record.{Record};
 
-use line_play::{Line, play};
+use crate::lines::{Line, play};
 use listed_log::ListedLog;
 use media::{Disk, PageDevice};
 use operators::Operators;
@@ -18,8 +18,7 @@ use std::marker::Brand;
 use std::sync::Wait;
 use store_model::Fault;
 
-/// The first line that answers otherwise in a store that is opened on this log, if there is one.
-fn play_opened<L: Disk, P: PageDevice, N: Life, R: Wait>(
+fn play_opened<L: Disk + Drop, P: PageDevice + Drop, N: Life, R: Wait>(
     rt: &R,
     alloc: Global,
     ground: &Ground<N>,
@@ -28,6 +27,7 @@ fn play_opened<L: Disk, P: PageDevice, N: Life, R: Wait>(
     data: P,
     operators: &Operators,
     lines: &[Line<'_>],
+    letters: &[u8],
 ) -> Result<String, Fault>
     requires opens { (opening : List Record) → N.opens opening → MayBegin L.tells L.told L.may_leave log.log log.listing opening }
     requires goes { log.log.log.ended ≡ None }
@@ -52,12 +52,12 @@ fn play_opened<L: Disk, P: PageDevice, N: Life, R: Wait>(
         &mut journal,
         operators,
         lines,
-        b"",
+        letters,
         &mut pass,
     )
 }
 
-fn play_life<L: Disk, P: PageDevice, N: Life, R: Wait>(
+fn play_life<L: Disk + Drop, P: PageDevice + Drop, N: Life, R: Wait>(
     rt: &R,
     alloc: Global,
     unnamed: Unnamed,
@@ -65,6 +65,7 @@ fn play_life<L: Disk, P: PageDevice, N: Life, R: Wait>(
     data: P,
     operators: &Operators,
     lines: &[Line<'_>],
+    letters: &[u8],
 ) -> Result<String, Fault>
     requires opens { (opening : List Record) → N.opens opening → MayBegin L.tells L.told L.may_leave log.log log.listing opening }
     requires goes { log.log.log.ended ≡ None }
@@ -74,22 +75,27 @@ fn play_life<L: Disk, P: PageDevice, N: Life, R: Wait>(
     requires parts { (N.entries.parts ≡ 1) × (N.session_entries.parts ≡ 1) × (N.log_faults.parts ≡ 1) × (N.vault_faults.parts ≡ 1) × (N.made.parts ≡ 1) }
 {
     let (ground, tokens) = unnamed.split::<N>();
-    play_opened(rt, alloc, &ground, tokens, log, data, operators, lines)
+    play_opened(
+        rt, alloc, &ground, tokens, log, data, operators, lines, letters,
+    )
 }
 
-/// The same, where the life may have begun with each log for which the disk stood.
-pub(crate) fn told_in<L: Disk, P: PageDevice, R: Wait>(
+/// Opens a store on this log and a blank data device, plays the lines in it, and then has A put to the keys of these letters,
+/// if there are any. It tells the first line that answers otherwise, and nothing where each answers as it should. The life
+/// may have begun with each log for which the disk stood.
+pub fn told_in<L: Disk + Drop, P: PageDevice + Drop, R: Wait>(
     rt: &R,
     alloc: Global,
     log: ListedLog<L>,
     data: P,
     operators: &Operators,
     lines: &[Line<'_>],
+    letters: &[u8],
 ) -> Result<String, Fault>
     requires goes { log.log.log.ended ≡ None }
     requires told { P.tells }
     requires blank { IsBlank P.told data }
 {
     let unnamed = Unnamed::new(alloc, 1)?;
-    play_life::<L, P, Brand, R>(rt, alloc, unnamed, log, data, operators, lines)
+    play_life::<L, P, Brand, R>(rt, alloc, unnamed, log, data, operators, lines, letters)
 }
