@@ -68,7 +68,7 @@ impl<'a, L: Disk, P: PageDevice, B: Bases<N, OwnJournal<'a, L, N>>, N: Life>
         session: &mut Session<N>,
         request: Request,
     ) -> Result<Answered, Fault>
-        ensures { Asked N.opens N.entries N.session_entries N.log_faults N.made request result self.old session.old self.new session.new }
+        ensures asked { Asked N.opens N.entries N.session_entries N.log_faults N.made request result self.old session.old self.new session.new }
     {
         let PlainStore {
             journal,
