@@ -11,7 +11,7 @@ use listed_log::ListedLog;
 use media::{Disk, PageDevice};
 use operators::Operators;
 use page_ops::{Ground, Life, Tokens, Unnamed};
-use plain_store::open_store;
+use plain_store::{PlainStore, open_store};
 use segment_restore::NoBases;
 use std::alloc::Global;
 use std::marker::Brand;
@@ -24,7 +24,7 @@ fn play_opened<L: Disk + Drop, P: PageDevice + Drop, N: Life, R: Wait>(
     ground: &Ground<N>,
     tokens: Tokens<N>,
     log: ListedLog<L>,
-    data: P,
+    device: P,
     operators: &Operators,
     lines: &[Line<'_>],
     letters: &[u8],
@@ -32,7 +32,7 @@ fn play_opened<L: Disk + Drop, P: PageDevice + Drop, N: Life, R: Wait>(
     requires opens { (opening : List Record) → N.opens opening → MayBegin L.tells L.told L.may_leave log.log log.listing opening }
     requires goes { log.log.log.ended ≡ None }
     requires told { P.tells ⊎ IsUntold N.opens }
-    requires blank { P.tells → IsBlank P.told data }
+    requires blank { P.tells → IsBlank P.told device }
     requires parts { (N.entries.parts ≡ 1) × (N.session_entries.parts ≡ 1) × (N.log_faults.parts ≡ 1) × (N.vault_faults.parts ≡ 1) × (N.made.parts ≡ 1) }
     requires front { tokens.front ≡ [] }
     requires mark { tokens.mark ≡ 0 }
@@ -40,11 +40,16 @@ fn play_opened<L: Disk + Drop, P: PageDevice + Drop, N: Life, R: Wait>(
     requires sessions { tokens.books.sessions ≡ [] }
     requires maint { tokens.books.maint ≡ [] }
 {
-    let store = match open_store(alloc, ground, tokens, log, data, NoBases, operators) {
+    let store = match open_store(alloc, ground, tokens, log, device, NoBases, operators) {
         Ok(store) => store,
         Err(_) => return Err(Fault::Memory),
     };
-    let (mut journal, mut pages, mut pass) = store.into_parts();
+    let PlainStore {
+        mut journal,
+        mut pages,
+        mut pass,
+        ..
+    } = store;
     play(
         rt,
         alloc,
@@ -62,7 +67,7 @@ fn play_life<L: Disk + Drop, P: PageDevice + Drop, N: Life, R: Wait>(
     alloc: Global,
     unnamed: Unnamed,
     log: ListedLog<L>,
-    data: P,
+    device: P,
     operators: &Operators,
     lines: &[Line<'_>],
     letters: &[u8],
@@ -70,13 +75,13 @@ fn play_life<L: Disk + Drop, P: PageDevice + Drop, N: Life, R: Wait>(
     requires opens { (opening : List Record) → N.opens opening → MayBegin L.tells L.told L.may_leave log.log log.listing opening }
     requires goes { log.log.log.ended ≡ None }
     requires told { P.tells ⊎ IsUntold N.opens }
-    requires blank { P.tells → IsBlank P.told data }
+    requires blank { P.tells → IsBlank P.told device }
     requires named { unnamed ≡ life_names N.count N.pages N.sessions N.maint N.entries N.session_entries N.log_faults N.vault_faults N.data_faults N.made }
     requires parts { (N.entries.parts ≡ 1) × (N.session_entries.parts ≡ 1) × (N.log_faults.parts ≡ 1) × (N.vault_faults.parts ≡ 1) × (N.made.parts ≡ 1) }
 {
     let (ground, tokens) = unnamed.split::<N>();
     play_opened(
-        rt, alloc, &ground, tokens, log, data, operators, lines, letters,
+        rt, alloc, &ground, tokens, log, device, operators, lines, letters,
     )
 }
 
@@ -87,15 +92,15 @@ pub fn told_in<L: Disk + Drop, P: PageDevice + Drop, R: Wait>(
     rt: &R,
     alloc: Global,
     log: ListedLog<L>,
-    data: P,
+    device: P,
     operators: &Operators,
     lines: &[Line<'_>],
     letters: &[u8],
 ) -> Result<String, Fault>
     requires goes { log.log.log.ended ≡ None }
     requires told { P.tells }
-    requires blank { IsBlank P.told data }
+    requires blank { IsBlank P.told device }
 {
     let unnamed = Unnamed::new(alloc, 1)?;
-    play_life::<L, P, Brand, R>(rt, alloc, unnamed, log, data, operators, lines, letters)
+    play_life::<L, P, Brand, R>(rt, alloc, unnamed, log, device, operators, lines, letters)
 }

@@ -1,3 +1,1 @@
-pub mod Asked
 pub mod Opens
-pub mod Shown

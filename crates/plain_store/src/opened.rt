@@ -1,11 +1,10 @@
 //! A store is opened.
-ghost use Rattle.std.specs.Prelude.{◌≡◌, ◌⊎◌, ◌<◌, ⊥, ℕ, List, [], None, IfErr, IfOk};
+ghost use Rattle.std.specs.Prelude.{◌≡◌, ◌⊎◌, ◌<◌, ℕ, List, [], None, false, IfErr, IfOk};
 ghost use Rattle.buffer_pool.specs.Tables.{frame_of};
 ghost use Rattle.buffer_pool.specs.declared.frame.Frame.TheVariants.{Empty};
 ghost use Rattle.opening.specs.Begins.{MayBegin, all_parts};
 ghost use Rattle.opening_rights.specs.Opened.{AreAtHome};
 ghost use Rattle.page_ops.specs.Causes.{IsUntold};
-ghost use Rattle.segment_restore.specs.Faults.{of_vault};
 ghost use Rattle.wal_record.specs.declared.record.Record.{Record};
 ghost use Rattle.plain_store.specs.Opens.{IsBlank};
 
@@ -15,10 +14,9 @@ use listed_log::ListedLog;
 use media::{Disk, PageDevice};
 use opening::{Begun, Prepared, prepare, start};
 use operators::Operators;
-use own_journal::OwnJournal;
 use page_ops::{Ground, Life, Tokens};
 use page_repair::OwnImages;
-use segment_restore::{Bases, LogSupply};
+use segment_restore::LogSupply;
 use std::alloc::Global;
 use store_model::Memory;
 
@@ -26,17 +24,17 @@ use store_model::Memory;
 #[derive(Drop)]
 pub struct StoreRefused<L, P, B> {
     pub log: L,
-    pub data: P,
+    pub device: P,
     pub bases: B,
 }
 
 /// A store on this log, with a blank data device and a source of images that repairs begin from.
-pub fn open_store<'a, L: Disk, P: PageDevice, B: Bases<N, OwnJournal<'a, L, N>>, N: Life>(
+pub fn open_store<'a, L: Disk, P: PageDevice, B, N: Life>(
     alloc: Global,
     ground: &'a Ground<N>,
     tokens: Tokens<N>,
     log: ListedLog<L>,
-    data: P,
+    device: P,
     bases: B,
     operators: &'a Operators,
 ) -> Result<PlainStore<'a, L, P, B, N>, StoreRefused<L, P, B>>
@@ -44,22 +42,25 @@ pub fn open_store<'a, L: Disk, P: PageDevice, B: Bases<N, OwnJournal<'a, L, N>>,
     requires goes { log.log.log.ended ≡ None }
     // A log with which the life may have begun is known only where the data device tells what was written.
     requires told { P.tells ⊎ IsUntold N.opens }
-    requires blank { P.tells → IsBlank P.told data }
+    requires blank { P.tells → IsBlank P.told device }
     requires parts { (0 < N.entries.parts) × (0 < N.session_entries.parts) × (0 < N.log_faults.parts) × (0 < N.made.parts) }
     requires history { (tokens.front ≡ []) × (tokens.mark ≡ 0) }
     requires books { (tokens.books.pages ≡ []) × (tokens.books.sessions ≡ []) × (tokens.books.maint ≡ []) }
     // No page is in a frame or in a hand: each right is at home, at the page's head.
-    ensures empty { IfOk result (λ s. (page : ℕ) → frame_of s.table page ≡ Empty) }
-    ensures homes { IfOk result (λ s. (opening : List Record) → N.opens opening → AreAtHome opening s.table.index) }
+    ensures empty { IfOk result (λ s. (page : ℕ) → frame_of s.pages.frames page ≡ Empty) }
+    ensures none { IfOk result (λ s. (s.pages.out ≡ 0) × (s.pages.reserves ≡ false)) }
+    ensures homes { IfOk result (λ s. (opening : List Record) → N.opens opening → AreAtHome opening s.pages.frames.index) }
     // It has all parts of the ledgers, and in none was anything counted.
-    ensures account { IfOk result (λ s. s.account ≡ all_parts N.entries N.session_entries N.log_faults N.vault_faults N.made) }
-    ensures faults { IfOk result (λ s. s.desk.faults ≡ of_vault (B.vault_faults bases)) }
-    ensures pass { IfOk result (λ s. s.seen ≡ tokens.pass) }
-    ensures refused { IfErr result (λ r. r ≡ record { log = log.log.log.device; data = data; bases = bases }) }
+    ensures account { IfOk result (λ s. s.journal.counts ≡ all_parts N.entries N.session_entries N.log_faults N.vault_faults N.made) }
+    ensures vault { IfOk result (λ s. s.vault_faults.total ≡ 0) }
+    ensures pass { IfOk result (λ s. s.pass ≡ tokens.pass) }
+    ensures maint { IfOk result (λ s. s.maint ≡ record { number = 0; lsn = 0 }) }
+    ensures devices { IfOk result (λ s. (s.pages.images ≡ device) × (s.pages.supply.bases ≡ bases)) }
+    ensures refused { IfErr result (λ r. r ≡ record { log = log.log.log.device; device = device; bases = bases }) }
 {
     let prepared = match prepare(alloc, ground, tokens, &log) {
         Ok(prepared) => prepared,
-        Err(Memory) => return Err(refused(log, data, bases)),
+        Err(Memory) => return Err(refused(log, device, bases)),
     };
     let Prepared {
         mut tokens,
@@ -69,7 +70,7 @@ pub fn open_store<'a, L: Disk, P: PageDevice, B: Bases<N, OwnJournal<'a, L, N>>,
         next_tx,
         losers,
     } = prepared;
-    let images = OwnImages::new(ground, data, tokens.pass.copy(&ground.board));
+    let images = OwnImages::new(ground, device, tokens.pass.copy(&ground.board));
     let supply = LogSupply { operators, bases };
     let pages = match PlainPool::new(alloc, images, supply, index) {
         Ok(pages) => pages,
@@ -88,7 +89,6 @@ pub fn open_store<'a, L: Disk, P: PageDevice, B: Bases<N, OwnJournal<'a, L, N>>,
         journal,
         pages,
         pass,
-        operators,
         maint,
         vault_faults,
         data_faults,
@@ -96,13 +96,13 @@ pub fn open_store<'a, L: Disk, P: PageDevice, B: Bases<N, OwnJournal<'a, L, N>>,
 }
 
 /// The devices are handed back.
-fn refused<L: Disk, P, B>(log: ListedLog<L>, data: P, bases: B) -> StoreRefused<L, P, B>
-    ensures { result ≡ record { log = log.log.log.device; data = data; bases = bases } }
+fn refused<L: Disk, P, B>(log: ListedLog<L>, device: P, bases: B) -> StoreRefused<L, P, B>
+    ensures { result ≡ record { log = log.log.log.device; device = device; bases = bases } }
 {
     let ListedLog { log, listing: _ } = log;
     StoreRefused {
         log: log.into_device(),
-        data,
+        device,
         bases,
     }
 }
