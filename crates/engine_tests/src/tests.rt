@@ -4,6 +4,7 @@ use log_text::{Given, log_bytes};
 use media_mem::{MemDisk, MemPages};
 use opening::read_log;
 use operators::{Operators, boxed_operators};
+use segment_restore::{LogSupply, NoBases};
 use std::alloc::Global;
 use std::sync::Wait;
 use std::test::*;
@@ -33,6 +34,10 @@ fn told_of<R: Wait>(rt: &R, alloc: Global, table: Table<'_>) -> Result<String, F
         alloc,
         log,
         MemPages::new(alloc),
+        LogSupply {
+            operators: &operators,
+            bases: NoBases,
+        },
         &operators,
         table.lines,
         table.letters,

@@ -12,7 +12,7 @@ use media::{Disk, PageDevice};
 use operators::Operators;
 use page_ops::{Ground, Life, Tokens, Unnamed};
 use plain_store::{PlainStore, open_store};
-use segment_restore::NoBases;
+use segment_restore::{LogSupply, NoBases};
 use std::alloc::Global;
 use std::marker::Brand;
 use std::sync::Wait;
@@ -25,6 +25,7 @@ fn play_opened<L: Disk + Drop, P: PageDevice + Drop, N: Life, R: Wait>(
     tokens: Tokens<N>,
     log: ListedLog<L>,
     device: P,
+    supply: LogSupply<'_, NoBases>,
     operators: &Operators,
     lines: &[Line<'_>],
     letters: &[u8],
@@ -40,7 +41,7 @@ fn play_opened<L: Disk + Drop, P: PageDevice + Drop, N: Life, R: Wait>(
     requires sessions { tokens.books.sessions ≡ [] }
     requires maint { tokens.books.maint ≡ [] }
 {
-    let store = match open_store(alloc, ground, tokens, log, device, NoBases, operators) {
+    let store = match open_store(alloc, ground, tokens, log, device, supply) {
         Ok(store) => store,
         Err(_) => return Err(Fault::Memory),
     };
@@ -68,6 +69,7 @@ fn play_life<L: Disk + Drop, P: PageDevice + Drop, N: Life, R: Wait>(
     unnamed: Unnamed,
     log: ListedLog<L>,
     device: P,
+    supply: LogSupply<'_, NoBases>,
     operators: &Operators,
     lines: &[Line<'_>],
     letters: &[u8],
@@ -81,7 +83,7 @@ fn play_life<L: Disk + Drop, P: PageDevice + Drop, N: Life, R: Wait>(
 {
     let (ground, tokens) = unnamed.split::<N>();
     play_opened(
-        rt, alloc, &ground, tokens, log, device, operators, lines, letters,
+        rt, alloc, &ground, tokens, log, device, supply, operators, lines, letters,
     )
 }
 
@@ -93,6 +95,7 @@ pub fn told_in<L: Disk + Drop, P: PageDevice + Drop, R: Wait>(
     alloc: Global,
     log: ListedLog<L>,
     device: P,
+    supply: LogSupply<'_, NoBases>,
     operators: &Operators,
     lines: &[Line<'_>],
     letters: &[u8],
@@ -102,5 +105,7 @@ pub fn told_in<L: Disk + Drop, P: PageDevice + Drop, R: Wait>(
     requires blank { IsBlank P.told device }
 {
     let unnamed = Unnamed::new(alloc, 1)?;
-    play_life::<L, P, Brand, R>(rt, alloc, unnamed, log, device, operators, lines, letters)
+    play_life::<L, P, Brand, R>(
+        rt, alloc, unnamed, log, device, supply, operators, lines, letters,
+    )
 }

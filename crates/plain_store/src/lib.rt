@@ -1,7 +1,7 @@
 //! A store of one thread: the journal of a life and its pool of pages, opened together.
 //!
-//! An opening has read the log disk (`opening::read_log`). [`open_store`] makes of that log, a data device and a source of
-//! page images a [`PlainStore`], over whose journal and pool the requests of `engine` run. No page is read and nothing is
+//! An opening has read the log disk (`opening::read_log`). [`open_store`] makes of that log, a data device and a supply of
+//! pages a [`PlainStore`], over whose journal and pool the requests of `engine` run. No page is read and nothing is
 //! redone or undone as it opens (instant restart; Graefe, Guy and Sauer 2016): a page comes by repair from the log when a
 //! request first wants it, and a loser is undone when a lock meets it.
 //!

@@ -13,31 +13,28 @@ use buffer_pool::{PlainPool, PoolRefused};
 use listed_log::ListedLog;
 use media::{Disk, PageDevice};
 use opening::{Begun, Prepared, prepare, start};
-use operators::Operators;
 use page_ops::{Ground, Life, Tokens};
 use page_repair::OwnImages;
-use segment_restore::LogSupply;
 use std::alloc::Global;
 use store_model::Memory;
 
 /// There was no memory for a store. Here are its devices.
 #[derive(Drop)]
-pub struct StoreRefused<L, P, B> {
+pub struct StoreRefused<L, P, S> {
     pub log: L,
     pub device: P,
-    pub bases: B,
+    pub supply: S,
 }
 
-/// A store on this log, with a blank data device and a source of images that repairs begin from.
-pub fn open_store<'a, L: Disk, P: PageDevice, B, N: Life>(
+/// A store on this log, with a blank data device and a supply of pages.
+pub fn open_store<'a, L: Disk, P: PageDevice, S, N: Life>(
     alloc: Global,
     ground: &'a Ground<N>,
     tokens: Tokens<N>,
     log: ListedLog<L>,
     device: P,
-    bases: B,
-    operators: &'a Operators,
-) -> Result<PlainStore<'a, L, P, B, N>, StoreRefused<L, P, B>>
+    supply: S,
+) -> Result<PlainStore<'a, L, P, S, N>, StoreRefused<L, P, S>>
     requires opens { (opening : List Record) → N.opens opening → MayBegin L.tells L.told L.may_leave log.log log.listing opening }
     requires goes { log.log.log.ended ≡ None }
     // A log with which the life may have begun is known only where the data device tells what was written.
@@ -55,12 +52,12 @@ pub fn open_store<'a, L: Disk, P: PageDevice, B, N: Life>(
     ensures vault { IfOk result (λ s. s.vault_faults.total ≡ 0) }
     ensures pass { IfOk result (λ s. s.pass ≡ tokens.pass) }
     ensures maint { IfOk result (λ s. s.maint ≡ record { number = 0; lsn = 0 }) }
-    ensures devices { IfOk result (λ s. (s.pages.images ≡ device) × (s.pages.supply.bases ≡ bases)) }
-    ensures refused { IfErr result (λ r. r ≡ record { log = log.log.log.device; device = device; bases = bases }) }
+    ensures devices { IfOk result (λ s. (s.pages.images ≡ device) × (s.pages.supply ≡ supply)) }
+    ensures refused { IfErr result (λ r. r ≡ record { log = log.log.log.device; device = device; supply = supply }) }
 {
     let prepared = match prepare(alloc, ground, tokens, &log) {
         Ok(prepared) => prepared,
-        Err(Memory) => return Err(refused(log, device, bases)),
+        Err(Memory) => return Err(refused(log, device, supply)),
     };
     let Prepared {
         mut tokens,
@@ -71,12 +68,11 @@ pub fn open_store<'a, L: Disk, P: PageDevice, B, N: Life>(
         losers,
     } = prepared;
     let images = OwnImages::new(ground, device, tokens.pass.copy(&ground.board));
-    let supply = LogSupply { operators, bases };
     let pages = match PlainPool::new(alloc, images, supply, index) {
         Ok(pages) => pages,
         Err(parts) => {
             let PoolRefused { images, supply } = parts;
-            return Err(refused(log, images.into_device(), supply.bases));
+            return Err(refused(log, images.into_device(), supply));
         }
     };
     let Begun {
@@ -96,13 +92,13 @@ pub fn open_store<'a, L: Disk, P: PageDevice, B, N: Life>(
 }
 
 /// The devices are handed back.
-fn refused<L: Disk, P, B>(log: ListedLog<L>, device: P, bases: B) -> StoreRefused<L, P, B>
-    ensures { result ≡ record { log = log.log.log.device; device = device; bases = bases } }
+fn refused<L: Disk, P, S>(log: ListedLog<L>, device: P, supply: S) -> StoreRefused<L, P, S>
+    ensures { result ≡ record { log = log.log.log.device; device = device; supply = supply } }
 {
     let ListedLog { log, listing: _ } = log;
     StoreRefused {
         log: log.into_device(),
         device,
-        bases,
+        supply,
     }
 }

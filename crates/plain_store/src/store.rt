@@ -6,16 +6,15 @@ use media::{Disk, PageDevice};
 use own_journal::OwnJournal;
 use page_ops::{DataFaults, Life, NewLedger, VaultFaults};
 use page_repair::OwnImages;
-use segment_restore::LogSupply;
 use std::sync::ledger::Book;
 use wal_record::Entry;
 
 /// A life's journal and its pool, the pass of who opened it, and what nobody holds yet: the right to maintenance, and the
 /// ledgers of the devices' faults.
 #[derive(Drop)]
-pub struct PlainStore<'a, L: Disk, P: PageDevice, B, N: Life> {
+pub struct PlainStore<'a, L: Disk, P: PageDevice, S, N: Life> {
     pub journal: OwnJournal<'a, L, N>,
-    pub pages: PlainPool<OwnImages<'a, P, N>, LogSupply<'a, B>, N>,
+    pub pages: PlainPool<OwnImages<'a, P, N>, S, N>,
     pub pass: Pass<Entry, N>,
     pub maint: MaintRight<N>,
     pub vault_faults: Book<VaultFaults<N>>,

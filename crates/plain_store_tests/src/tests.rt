@@ -4,6 +4,7 @@ use log_text::{Given, log_bytes};
 use media_mem::{MemDisk, MemPages};
 use opening::{WhyNot, read_log};
 use operators::{Operators, boxed_operators};
+use segment_restore::{LogSupply, NoBases};
 use std::alloc::Global;
 use std::sync::Wait;
 use std::test::*;
@@ -31,6 +32,10 @@ fn told<R: Wait>(
         alloc,
         log,
         MemPages::new(alloc),
+        LogSupply {
+            operators: &operators,
+            bases: NoBases,
+        },
         &operators,
         lines,
         b"",
