@@ -1,18 +1,16 @@
 //! A life that begins.
-ghost use Rattle.std.specs.Prelude.{◌≡◌, ◌<◌, ◌≤◌, List, [], None, max, map, IfOk, IfErr};
+ghost use Rattle.std.specs.Prelude.{◌≡◌, ◌<◌, ◌≤◌, ℕ, List, [], None, max, map, IfOk, IfSome};
 ghost use Rattle.life_history.specs.Kept.{AreKept, Begins, IsSmall};
 ghost use Rattle.losers.specs.Losers.{untouched};
 ghost use Rattle.opening_rights.specs.Opened.{AreAtHome};
-ghost use Rattle.page_index.specs.Index.{limit_of};
-ghost use Rattle.store_model.specs.declared.fault.Fault.TheVariants as faults;
+ghost use Rattle.page_index.specs.Index.{home_of, limit_of};
+ghost use Rattle.page_ops.specs.Claims.{IsInRange};
 ghost use Rattle.wal_record.specs.Chains.{pages};
 ghost use Rattle.wal_record.specs.Checkpoints as checkpoints;
 ghost use Rattle.wal_record.specs.OpenWrites as writes;
 ghost use Rattle.wal_record.specs.declared.record.Record.{Record};
 ghost use Rattle.opening.specs.Begins.{MayBegin, all_parts};
-ghost use Rattle.opening.specs.declared.reading.WhyNot.TheVariants as causes;
 
-use crate::reading::{NotOpened, WhyNot};
 use books::MaintRight;
 use front::Pass;
 use journal::{Journal, losers_of};
@@ -20,83 +18,79 @@ use life_history::{Counts, History};
 use listed_log::ListedLog;
 use losers::Losers;
 use media::Disk;
-use opening_rights::Opening;
 use own_journal::OwnJournal;
 use page_index::PageIndex;
 use page_ops::{DataFaults, Ground, Life, NewLedger, Tokens, VaultFaults};
 use std::alloc::Global;
 use std::sync::ledger::Book;
-use store_model::{Fault, Memory};
+use store_model::{Memory, PageNo, TxId};
 use wal_record::Entry;
 
-/// The journal of a life that has just begun, its first pass, the rights that nobody holds yet, and the ledgers of devices that
-/// others will own.
+/// What stands ready for a life: what it is made of, the rights that nobody holds yet, the numbers that come next, and the
+/// losers of its log.
+#[derive(Drop)]
+pub struct Prepared<N: Life> {
+    pub tokens: Tokens<N>,
+    pub index: PageIndex<N>,
+    pub maint: MaintRight<N>,
+    pub next_page: PageNo,
+    pub next_tx: TxId,
+    pub losers: Losers,
+}
+
+/// The journal of a life that has just begun, its first pass, and the ledgers of devices that others will own.
 #[derive(Drop)]
 pub struct Begun<'a, L: Disk, N: Life> {
     pub journal: OwnJournal<'a, L, N>,
     pub pass: Pass<Entry, N>,
-    pub index: PageIndex<N>,
-    pub maint: MaintRight<N>,
     pub vault_faults: Book<VaultFaults<N>>,
     pub data_faults: NewLedger<DataFaults<N>>,
 }
 
-/// A life on this log, with what it is made of. Where there is no memory for it, the disk is given back.
-pub fn begin<'a, L: Disk, N: Life>(
+/// Makes ready what a life on this log begins with, all that may want memory.
+pub fn prepare<L: Disk, N: Life>(
     alloc: Global,
-    ground: &'a Ground<N>,
+    ground: &Ground<N>,
     tokens: Tokens<N>,
-    log: ListedLog<L>,
-) -> Result<Begun<'a, L, N>, NotOpened<L>>
-    requires opens { (opening : List Record) → N.opens opening → MayBegin L.tells L.told L.may_leave log.log log.listing opening }
-    requires goes { log.log.log.ended ≡ None }
-    requires parts { (0 < N.entries.parts) × (0 < N.session_entries.parts) × (0 < N.log_faults.parts) × (0 < N.made.parts) }
-    requires history { (tokens.front ≡ []) × (tokens.mark ≡ 0) }
+    log: &ListedLog<L>,
+) -> Result<Prepared<N>, Memory>
+    requires opens { (opening : List Record) → N.opens opening → MayBegin L.tells L.told L.may_leave log.now.log log.now.listing opening }
     requires books { (tokens.books.pages ≡ []) × (tokens.books.sessions ≡ []) × (tokens.books.maint ≡ []) }
-    ensures begins { IfOk result (λ life. life.journal.journal ≡ []) }
-    ensures pass { IfOk result (λ life. life.pass ≡ tokens.pass) }
-    // The journal has all parts of its ledgers, and in none was anything counted.
-    ensures counts { IfOk result (λ life. life.journal.counts ≡ all_parts N.entries N.session_entries N.log_faults N.vault_faults N.made) }
-    ensures vault { IfOk result (λ life. life.vault_faults.total ≡ 0) }
+    ensures history { IfOk result (λ p. (p.tokens.front ≡ tokens.front) × (p.tokens.mark ≡ tokens.mark) × (p.tokens.pass ≡ tokens.pass)) }
+    // The books have exactly the rights that are handed out.
+    ensures books { IfOk result (λ p. AreKept N.opens [] (record { pages = p.tokens.books.pages; sessions = p.tokens.books.sessions; maint = p.tokens.books.maint })) }
+    ensures sessions { IfOk result (λ p. p.tokens.books.sessions ≡ []) }
+    ensures small { IfOk result (λ p. IsSmall p.next_page (record { pages = p.tokens.books.pages; sessions = p.tokens.books.sessions; maint = p.tokens.books.maint })) }
     // Each page's right is at home, at the page's head.
-    ensures limit { IfOk result (λ life. (opening : List Record) → N.opens opening → limit_of life.index ≡ max (checkpoints.limit_of opening) (pages opening)) }
-    ensures homes { IfOk result (λ life. (opening : List Record) → N.opens opening → AreAtHome opening life.index) }
-    ensures maint { IfOk result (λ life. life.maint ≡ record { number = 0; lsn = 0 }) }
-    ensures refused { IfErr result (λ r. r ≡ record { disk = log.log.log.device; why = causes.Fault faults.Memory }) }
+    ensures limit { IfOk result (λ p. (opening : List Record) → N.opens opening → limit_of p.index ≡ max (checkpoints.limit_of opening) (pages opening)) }
+    ensures homes { IfOk result (λ p. (opening : List Record) → N.opens opening → AreAtHome opening p.index) }
+    ensures range { IfOk result (λ p. (page : ℕ) → IfSome (home_of p.index page) IsInRange) }
+    ensures maint { IfOk result (λ p. p.maint ≡ record { number = 0; lsn = 0 }) }
+    ensures number { IfOk result (λ p. 1 ≤ p.next_tx) }
+    ensures next { IfOk result (λ p. (opening : List Record) → N.opens opening → Begins opening p.next_tx) }
+    ensures losers { IfOk result (λ p. (opening : List Record) → N.opens opening → p.losers ≡ map untouched (writes.losers opening)) }
 {
     let mut tokens = tokens;
-    let rights = match opening_rights::begin(
-        alloc,
-        &ground.tables,
-        &mut tokens.books,
-        log.listing(),
-    ) {
-        Ok(rights) => rights,
-        Err(Memory) => return Err(no_memory(log)),
-    };
-    match losers_of(alloc, log.listing()) {
-        Ok(losers) => Ok(start(alloc, ground, tokens, log, rights, losers)),
-        Err(Memory) => Err(no_memory(log)),
-    }
+    let rights = opening_rights::begin(alloc, &ground.tables, &mut tokens.books, log.listing())?;
+    let losers = losers_of(alloc, log.listing())?;
+    Ok(Prepared {
+        tokens,
+        index: rights.index,
+        maint: rights.maint,
+        next_page: rights.next_page,
+        next_tx: rights.next_tx,
+        losers,
+    })
 }
 
-fn no_memory<L: Disk>(log: ListedLog<L>) -> NotOpened<L>
-    ensures { result ≡ record { disk = log.log.log.device; why = causes.Fault faults.Memory } }
-{
-    let ListedLog { log, listing: _ } = log;
-    NotOpened {
-        disk: log.into_device(),
-        why: WhyNot::Fault(Fault::Memory),
-    }
-}
-
-/// The same, with these rights and losers.
-fn start<'a, L: Disk, N: Life>(
+/// A life on this log, with what was prepared for it. It takes no memory.
+pub fn start<'a, L: Disk, N: Life>(
     alloc: Global,
     ground: &'a Ground<N>,
     tokens: Tokens<N>,
     log: ListedLog<L>,
-    rights: Opening<N>,
+    next_page: PageNo,
+    next_tx: TxId,
     losers: Losers,
 ) -> Begun<'a, L, N>
     requires opens { (opening : List Record) → N.opens opening → MayBegin L.tells L.told L.may_leave log.log log.listing opening }
@@ -105,15 +99,15 @@ fn start<'a, L: Disk, N: Life>(
     requires history { (tokens.front ≡ []) × (tokens.mark ≡ 0) }
     requires books { AreKept N.opens [] (record { pages = tokens.books.pages; sessions = tokens.books.sessions; maint = tokens.books.maint }) }
     requires sessions { tokens.books.sessions ≡ [] }
-    requires small { IsSmall rights.next_page (record { pages = tokens.books.pages; sessions = tokens.books.sessions; maint = tokens.books.maint }) }
-    requires number { 1 ≤ rights.next_tx }
-    requires next { (opening : List Record) → N.opens opening → Begins opening rights.next_tx }
+    requires small { IsSmall next_page (record { pages = tokens.books.pages; sessions = tokens.books.sessions; maint = tokens.books.maint }) }
+    requires number { 1 ≤ next_tx }
+    requires next { (opening : List Record) → N.opens opening → Begins opening next_tx }
     requires losers { (opening : List Record) → N.opens opening → losers ≡ map untouched (writes.losers opening) }
     ensures begins { result.journal.journal ≡ [] }
+    // The journal has all parts of its ledgers, and in none was anything counted.
     ensures counts { result.journal.counts ≡ all_parts N.entries N.session_entries N.log_faults N.vault_faults N.made }
     ensures vault { result.vault_faults.total ≡ 0 }
     ensures pass { result.pass ≡ tokens.pass }
-    ensures rights { (result.index ≡ rights.index) × (result.maint ≡ rights.maint) }
 {
     let Tokens {
         front,
@@ -148,8 +142,8 @@ fn start<'a, L: Disk, N: Life>(
         entries_book,
         session_book,
         made_book,
-        rights.next_tx,
-        rights.next_page,
+        next_tx,
+        next_page,
     );
     Begun {
         journal: OwnJournal {
@@ -157,8 +151,6 @@ fn start<'a, L: Disk, N: Life>(
             counts,
         },
         pass,
-        index: rights.index,
-        maint: rights.maint,
         vault_faults: vault_book,
         data_faults,
     }

@@ -1,5 +1,6 @@
 -- Pages whose rights are at home, one by one.
-use Rattle.std.proofs.Common.{◌≡◌, ℕ, ◌+◌, List, [], ◌∷◌, ◌++◌, Some, None, refl, sym, ap, ◌∙◌, subst, arith, append-nil}
+use Rattle.std.proofs.Common.{◌≡◌, ℕ, ◌+◌, ◌<◌, ◌≤◌, List, [], ◌∷◌, ◌++◌, Option, Some, None, refl, sym, ap, ◌∙◌, subst, arith, append-nil}
+use Rattle.std.specs.Prelude.{IfSome, IsTrue}
 use Rattle.std.proofs.lemmas.Bool.Decides.{nat_tests}
 use native.Mathlib.Decide.{ℕ_discrete}
 use mathlib.Core.Logic.{dite}
@@ -9,6 +10,9 @@ use Rattle.books.specs.declared.entry.BookEntry.{BookEntry}
 use Rattle.books.proofs.Keeping.{entry_of-added}
 use Rattle.store_model.specs.Along as Along
 use Rattle.page_index.specs.Index.{Index, home_of, written_of, Notes, Rehomes}
+use Rattle.page_ops.specs.Claims.{IsInRange}
+use Rattle.store_model.specs.declared.limits.TheConstants.{MOST_PAGES}
+use Rattle.wal_record.specs.Rules.{is_number, is_page}
 use Rattle.wal_record.specs.Books.{maintenance_book}
 use Rattle.wal_record.specs.Chains.{head}
 use Rattle.wal_record.specs.Upkeep.{written_lsn}
@@ -74,6 +78,22 @@ no_pages log index out none =
       rights = record { home = λ p low high. absurd (omega (arith, low, high)); away = λ p above. out p; written = λ p low high. absurd (omega (arith, low, high)); unwritten = λ p above. none p };
       heads = λ p e found. absurd (cc found);
     }
+
+-- ---- numbers in their ranges
+
+-- the page behind so many is one that a store may have
+pub numbered : (count pages : ℕ) → count < pages → pages ≤ MOST_PAGES → IsTrue (is_page (count + 1))
+numbered count pages below most = grind (arith, nat_tests, below, most)
+
+pub none_in_range : (index : Index) → ((page : ℕ) → home_of index page ≡ None) → (page : ℕ) → IfSome (home_of index page) IsInRange
+none_in_range index out page = subst (λ (o : Option PageClaim). IfSome o IsInRange) (sym (out page)) tt
+
+-- one more right is at home
+pub ranges_more : (old new : Index) (page lsn written : ℕ) → Homes old new page lsn written → IsTrue (is_page page) → IsTrue (is_number lsn)
+    → ((q : ℕ) → IfSome (home_of old q) IsInRange) → (q : ℕ) → IfSome (home_of new q) IsInRange
+ranges_more old new page lsn written homes here number before q = dite (ℕ_discrete q page)
+    (λ same. subst (λ (o : Option PageClaim). IfSome o IsInRange) (sym (ap (home_of new) same ∙ homes.home)) (here, number))
+    (λ apart. subst (λ (o : Option PageClaim). IfSome o IsInRange) (sym (homes.others q apart)) (before q))
 
 -- ---- the books
 

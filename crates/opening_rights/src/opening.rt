@@ -1,9 +1,12 @@
 //! What a life begins with.
-ghost use Rattle.std.specs.Prelude.{◌≡◌, ◌≢◌, ◌≤◌, ℕ, max, List, [], ◌∷◌, ◌++◌, None, IfOk};
+ghost use Rattle.std.specs.Prelude.{◌≡◌, ◌≢◌, ◌≤◌, ℕ, max, List, [], ◌∷◌, ◌++◌, None, IfOk, IfSome, IsTrue};
 ghost use Rattle.books.specs.Booking.{entry, entry_of};
-ghost use Rattle.page_index.specs.Index.{IsIn, limit_of};
-ghost use Rattle.wal_record.specs.Chains.{pages};
+ghost use Rattle.page_index.specs.Index.{IsIn, home_of, limit_of};
+ghost use Rattle.page_ops.specs.Claims.{IsInRange};
+ghost use Rattle.store_model.specs.declared.limits.TheConstants.{MOST_PAGES};
+ghost use Rattle.wal_record.specs.Chains.{head, pages};
 ghost use Rattle.wal_record.specs.Checkpoints as checkpoints;
+ghost use Rattle.wal_record.specs.Rules.{is_number};
 ghost use Rattle.wal_record.specs.Sound.{AreLawful, IsSound};
 ghost use Rattle.wal_record.specs.declared.record.Record.{Record};
 ghost use Rattle.log_index.specs.Listing.{IsListingOf};
@@ -15,7 +18,7 @@ use log_index::Listing;
 use page_index::PageIndex;
 use page_ops::Life;
 use std::alloc::Global;
-use store_model::{Lsn, Memory, PageNo, TxId};
+use store_model::{HIGHEST, Lsn, MOST_PAGES, Memory, PageNo, TxId};
 
 /// The rights to the pages, each at home, that to maintenance, and the numbers that come next.
 #[derive(Drop)]
@@ -27,7 +30,8 @@ pub struct Opening<N: BookNames> {
 }
 
 /// The rights of a life of which no right was handed out, after the log of this listing. The index has room for as many
-/// pages as the store may have. `Memory` where there is none for it.
+/// pages as the store may have. `Memory` where there is none for it, or where the listing has more pages or higher LSNs than
+/// a log can have.
 pub fn begin<N: Life>(
     alloc: Global,
     tables: &BookTables<N>,
@@ -44,10 +48,11 @@ pub fn begin<N: Life>(
     ensures begins { IfOk result (λ o. (opening : List Record) → N.opens opening → Begins opening o.next_tx) }
     ensures limit { IfOk result (λ o. (opening : List Record) → N.opens opening → limit_of o.index ≡ max (checkpoints.limit_of opening) (pages opening)) }
     ensures homes { IfOk result (λ o. (opening : List Record) → N.opens opening → AreAtHome opening o.index) }
+    ensures range { IfOk result (λ o. (page : ℕ) → IfSome (home_of o.index page) IsInRange) }
     ensures maint { IfOk result (λ o. o.maint ≡ record { number = 0; lsn = 0 }) }
 {
     let pages = match u32::try_from(listing.pages()) {
-        Ok(pages) if pages < u32::MAX => pages,
+        Ok(pages) if pages <= MOST_PAGES => pages,
         _ => return Err(Memory),
     };
     let limit = listing.limit().max(pages);
@@ -71,18 +76,34 @@ fn open_pages<N: BookNames>(
 ) -> Result<PageIndex<N>, Memory>
     requires empty { book.old ≡ [] }
     requires within { pages ≤ limit }
+    requires most { pages ≤ MOST_PAGES }
     ensures limit { IfOk result (λ index. limit_of index ≡ limit) }
     ensures few { IfOk result (λ index. NoneAbove pages book.new) }
     ensures pages { IfOk result (λ index. (log : List Record) → IsListingOf log listing.now → AreLawful log → ArePagesOf log pages index book.new) }
+    ensures range { IfOk result (λ index. (page : ℕ) → IfSome (home_of index page) IsInRange) }
 {
     let mut index = PageIndex::new(alloc, limit)?;
     let mut page = 0;
     while page < pages {
         page += 1;
-        let (head, written) = (listing.head(page), listing.written_lsn(page));
+        let head = head_of(listing, page)?;
+        let written = listing.written_lsn(page);
         open_page(tables, book, &mut index, page, head, written);
     }
     Ok(index)
+}
+
+/// The head of a page, if it is a number that an LSN can have.
+fn head_of(listing: &Listing, page: PageNo) -> Result<Lsn, Memory>
+    ensures head { (log : List Record) → IsListingOf log listing.now → AreLawful log → IfOk result (λ lsn. lsn ≡ head log page) }
+    ensures number { IfOk result (λ lsn. IsTrue (is_number lsn)) }
+{
+    let lsn = listing.head(page);
+    if lsn == 0 || lsn > HIGHEST {
+        Err(Memory)
+    } else {
+        Ok(lsn)
+    }
 }
 
 /// The right to a page that stands at this head is at home, and the page is written as that LSN.
