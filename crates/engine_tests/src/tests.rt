@@ -1,14 +1,23 @@
 //! Tables of requests. What they answer was worked out by hand: a Began, a Lock, each record and each answer is an entry.
-use line_play::{Line, told_in};
-use log_text::{Given, log_bytes};
-use media_mem::{MemDisk, MemPages};
-use opening::read_log;
+ghost use Rattle.std.specs.Prelude.{◌≡◌, List, [], IfOk};
+ghost use Rattle.page_ops.specs.Names.{life_names};
+ghost use Rattle.wal_record.specs.State.{KeepsState};
+ghost use Rattle.wal_record.specs.declared.record.Record.{Record};
+
+use crate::lines::{Line, play};
+use crate::planting::{Planted, empty_leaf, new_log, no_pages, plant};
+use listed_log::ListedLog;
+use media::Disk;
+use media_mem::MemDisk;
 use operators::{Operators, boxed_operators};
-use segment_restore::{LogSupply, NoBases};
+use page_ops::{Ground, Life, Tokens, Unnamed};
+use small_stores::Frames;
 use std::alloc::Global;
+use std::marker::Brand;
 use std::sync::Wait;
 use std::test::*;
 use store_model::Fault;
+use wal_record::PageState;
 
 /// Lines that are played in a store of up to so many pages and open writes, and the keys to which A then puts.
 #[derive(Clone, Copy)]
@@ -18,30 +27,86 @@ struct Table<'a> {
     letters: &'a [u8],
 }
 
+/// What a store is made of that wants memory.
+#[derive(Drop)]
+struct Seeds<L: Disk, N: Life> {
+    log: ListedLog<L>,
+    frames: Frames<N>,
+    leaf: PageState,
+}
+
+fn gather<L: Disk + Drop, N: Life>(alloc: Global, disk: L, limit: u32) -> Result<Seeds<L, N>, Fault>
+    ensures open { IfOk result (λ seeds. seeds.log.log.log.ended ≡ None) }
+    ensures keeps { IfOk result (λ seeds. KeepsState seeds.leaf) }
+{
+    let log = new_log(alloc, disk, limit)?;
+    let frames = no_pages(alloc, 9)?;
+    match empty_leaf(alloc) {
+        Some(leaf) => Ok(Seeds { log, frames, leaf }),
+        None => Err(Fault::Memory),
+    }
+}
+
+fn play_on<L: Disk + Drop, N: Life, R: Wait>(
+    rt: &R,
+    alloc: Global,
+    ground: &Ground<N>,
+    tokens: Tokens<N>,
+    seeds: Seeds<L, N>,
+    operators: &Operators,
+    table: Table<'_>,
+) -> Result<String, Fault>
+    requires untold { (opening : List Record) → N.opens opening → ⊥ }
+    requires parts { (N.entries.parts ≡ 1) × (N.session_entries.parts ≡ 1) × (N.log_faults.parts ≡ 1) × (N.vault_faults.parts ≡ 1) × (N.made.parts ≡ 1) }
+    requires front { tokens.front ≡ [] }
+    requires mark { tokens.mark ≡ 0 }
+    requires pages { tokens.books.pages ≡ [] }
+    requires sessions { tokens.books.sessions ≡ [] }
+    requires maint { tokens.books.maint ≡ [] }
+    requires open { seeds.log.log.log.ended ≡ None }
+    requires keeps { KeepsState seeds.leaf }
+{
+    let Seeds { log, frames, leaf } = seeds;
+    let Planted {
+        mut journal,
+        mut pages,
+        mut pass,
+    } = plant(alloc, ground, tokens, log, leaf, frames);
+    play(
+        rt,
+        alloc,
+        &mut pages,
+        &mut journal,
+        operators,
+        table.lines,
+        table.letters,
+        &mut pass,
+    )
+}
+
+fn play_life<L: Disk + Drop, N: Life, R: Wait>(
+    rt: &R,
+    alloc: Global,
+    disk: L,
+    unnamed: Unnamed,
+    operators: &Operators,
+    table: Table<'_>,
+) -> Result<String, Fault>
+    requires untold { (opening : List Record) → N.opens opening → ⊥ }
+    requires named { unnamed ≡ life_names N.count N.pages N.sessions N.maint N.entries N.session_entries N.log_faults N.vault_faults N.data_faults N.made }
+    requires parts { (N.entries.parts ≡ 1) × (N.session_entries.parts ≡ 1) × (N.log_faults.parts ≡ 1) × (N.vault_faults.parts ≡ 1) × (N.made.parts ≡ 1) }
+{
+    let seeds = gather(alloc, disk, table.limit)?;
+    let (ground, tokens) = unnamed.split::<N>();
+    play_on(rt, alloc, &ground, tokens, seeds, operators, table)
+}
+
 /// The first line of a table that answers otherwise in a new store, if there is one.
 fn told_of<R: Wait>(rt: &R, alloc: Global, table: Table<'_>) -> Result<String, Fault> {
     let operators = boxed_operators!(alloc);
-    let limit = table.limit;
-    let text = format!(in alloc; "Format 4.{limit}")?;
-    let Some(bytes) = log_bytes(alloc, text.as_str(), Given::Whole, 0) else {
-        return Err(Fault::Memory);
-    };
-    let Ok(log) = read_log(alloc, MemDisk::with_bytes(alloc, &bytes)?) else {
-        return Err(Fault::Memory);
-    };
-    told_in(
-        rt,
-        alloc,
-        log,
-        MemPages::new(alloc),
-        LogSupply {
-            operators: &operators,
-            bases: NoBases,
-        },
-        &operators,
-        table.lines,
-        table.letters,
-    )
+    let unnamed = Unnamed::new(alloc, 1)?;
+    let disk = MemDisk::new(alloc);
+    play_life::<MemDisk, Brand, R>(rt, alloc, disk, unnamed, &operators, table)
 }
 
 /// That of lines in a store of the greatest size.

@@ -4,25 +4,12 @@
 //! with key and LSN; of each page its head, the LSN as which it was written, its backup and the LSN there; the pages at the
 //! last loss; the segments not restored since; the standing runs; the commits; and the next numbers of a transaction, a
 //! backup and a run.
-ghost use Rattle.std.specs.Prelude.{◌≡◌, [], None, IfSome};
-
+use crate::disk::{Given, log_of};
 use crate::told::{numbers_in, numbers_of};
 use log_analysis::analyse;
-use log_blocks::{BlockLog, open_log};
-use log_text::{Given, log_bytes};
-use media_mem::MemDisk;
 use std::alloc::Global;
 use std::test::Fail;
 use store_model::Lsn;
-
-/// An open log of this text.
-fn log_of(alloc: Global, text: &str, given: Given, checkpoint: Lsn) -> Option<BlockLog<MemDisk>>
-    ensures { IfSome result (λ log. (log.pending ≡ []) × (log.ended ≡ None)) }
-{
-    let bytes = log_bytes(alloc, text, given, checkpoint)?;
-    let disk = MemDisk::with_bytes(alloc, &bytes).ok()?;
-    open_log(alloc, disk).ok()
-}
 
 /// Whether the analysis of a log, whose Checkpoint has this LSN, has the numbers of this text.
 fn is_analysed(

@@ -1,10 +1,9 @@
-use Rattle.opening.specs.Begins.{MayBegin}
-use Rattle.line_play.proofs.life.told_in.Given as goal
+use Rattle.engine_tests.proofs.tests.told_of.Given as goal
 
 abbrev pub ghosts-play_life-N-Life : goal.ghosts-play_life-N-Life
 ghosts-play_life-N-Life g a =
     record {
-      opens = λ opening. MayBegin g.L.Disk.tells g.L.Disk.told g.L.Disk.may_leave a.log.log a.log.listing opening;
+      opens = λ _. ⊥;
       entries = a.unnamed.entries;
       session_entries = a.unnamed.session_entries;
       log_faults = a.unnamed.log_faults;

@@ -14,7 +14,7 @@ use store_model::Fault;
 use wal_record::Entry;
 
 /// A line of a script, and its answer.
-pub type Line<'a> = (&'a str, &'a str);
+pub(crate) type Line<'a> = (&'a str, &'a str);
 
 /// The session of a name: those of A, B, C and so on.
 fn session_of<'a, N: Life>(

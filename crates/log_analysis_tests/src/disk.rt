@@ -1,5 +1,9 @@
-//! The blocks of a log.
+//! The disk of a log.
+ghost use Rattle.std.specs.Prelude.{◌≡◌, [], None, IfSome};
+
 use crate::spelled::add_record;
+use log_blocks::{BlockLog, open_log};
+use media_mem::MemDisk;
 use std::alloc::Global;
 use store_model::Lsn;
 
@@ -70,8 +74,10 @@ fn add_block(
     Some(next)
 }
 
-/// The bytes of a log with the blocks of this text, a line each, whose records a stroke parts. The Checkpoint has this LSN.
-pub fn log_bytes(alloc: Global, text: &str, given: Given, checkpoint: Lsn) -> Option<Vec<u8>> {
+/// An open log with the blocks of this text, a line each, whose records a stroke parts. The Checkpoint has this LSN.
+pub fn log_of(alloc: Global, text: &str, given: Given, checkpoint: Lsn) -> Option<BlockLog<MemDisk>>
+    ensures { IfSome result (λ log. (log.pending ≡ []) × (log.ended ≡ None)) }
+{
     let checkpoint = if given == Given::NoCheckpoint {
         0
     } else {
@@ -83,5 +89,6 @@ pub fn log_bytes(alloc: Global, text: &str, given: Given, checkpoint: Lsn) -> Op
         next = add_block(alloc, line, given, checkpoint, next, &mut bytes)?;
     }
     bytes.push(0).ok()?;
-    Some(bytes)
+    let disk = MemDisk::with_bytes(alloc, &bytes).ok()?;
+    open_log(alloc, disk).ok()
 }

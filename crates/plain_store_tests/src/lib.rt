@@ -1,9 +1,0 @@
-//! Stores that are opened from logs which an earlier life left, and what requests find in them.
-//!
-//! The crate has tests alone. A log stands as a text (`log_text`), of which a disk in memory is made; the data device is
-//! blank. The lines and what they answer were worked out by hand (`line_play`): an answer tells how many entries the new
-//! life's history has behind it, so a table shows which losers were undone, which pages were repaired, and when.
-#![tactic(auto)]
-
-#[cfg(test)]
-mod tests;
