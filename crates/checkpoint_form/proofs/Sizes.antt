@@ -8,7 +8,10 @@ use Rattle.listing_laws.proofs.Sizes as sizes
 use Rattle.listing_laws.proofs.Rising.{Each}
 use Rattle.wal_record.specs.Rules.{KeepsCheckpoint, KeepsUnfinished, is_next, is_u16, is_u32, open_write_fits}
 use Rattle.wal_record.specs.Spelling.{spelling}
+use Rattle.wal_record.specs.Checkpoints.{checkpoint_of}
+use Rattle.wal_record.specs.Sound.{AreLawful}
 use Rattle.wal_record.specs.State.{is_key}
+use Rattle.wal_record.specs.declared.record.Record.{Record}
 use Rattle.wal_record.specs.declared.record.Checkpoint.{Checkpoint}
 use Rattle.wal_record.specs.declared.record.OpenWrite.{OpenWrite}
 use Rattle.wal_record.specs.declared.record.Unfinished.{Unfinished}
@@ -62,3 +65,6 @@ kept c m n k commits limit lost =
       next_backup = n.1;
       next_run = n.2;
     }
+
+pub lawful_modest : (log : List Record) → AreLawful log → IsModest (checkpoint_of log)
+lawful_modest log lawful = let m = sizes.modest log lawful in record { room = m.room; few = m.few; unrestored = m.unrestored; runs = m.runs }
