@@ -56,9 +56,15 @@ fn enter_checkpoint<N: Life, J: Entering<N>, R: Wait>(
         journal.see(rt, &mut rights, pass);
         return Err(Fault::Memory);
     };
-    match journal.enter(rt, alloc, &mut group, &mut rights, pass) {
-        Ok(Entered::At(_)) => Ok(group.lsn),
-        Ok(_) => unreachable!(),
+    let entered = journal.enter(rt, alloc, &mut group, &mut rights, pass);
+    drop(rights);
+    let lsn = group.lsn;
+    drop(group);
+    match entered {
+        Ok(at) => {
+            let Entered::At(_) = at else { unreachable!() };
+            Ok(lsn)
+        }
         Err(fault) => Err(fault),
     }
 }

@@ -2,16 +2,16 @@ use Rattle.std.proofs.Common.{Ok, ◌∙◌}
 use Rattle.maintenance.proofs.Checkpoints.{entered_at, is_askable, is_group, placed_at}
 use Rattle.maintenance.proofs.checkpointing.enter_checkpoint.Goals as goal
 
-pub enter-requires-clause-group : goal.enter-requires-clause-group
-enter-requires-clause-group g c = is_group _ c.in-Ok.ensures
+pub enter-entered-requires-clause-group : goal.enter-entered-requires-clause-group
+enter-entered-requires-clause-group g c = is_group _ c.in-Ok.ensures
 
-pub enter-requires-clause-askable : goal.enter-requires-clause-askable
-enter-requires-clause-askable g c = is_askable _ c.in-Ok.ensures g.N.Life.opens _ _
+pub enter-entered-requires-clause-askable : goal.enter-entered-requires-clause-askable
+enter-entered-requires-clause-askable g c = is_askable _ c.in-Ok.ensures g.N.Life.opens _ _
 
-pub returns-in-Ok-At-clause-entered : goal.returns-in-Ok-At-clause-entered
-returns-in-Ok-At-clause-entered g c =
-    entered_at _ _ _ _ c.enter.new.group c.in-Ok.ensures _ _ _ _ _ _ c.in-Ok-At.field-0-0 _ (c.in-Ok-At.is ∙ (λ i. Ok (c.in-Ok-At.field-0-is i))) c.enter.ensures.entered c.enter.ensures.filled
+pub returns-in-At-clause-entered : goal.returns-in-At-clause-entered
+returns-in-At-clause-entered g c =
+    entered_at _ _ _ _ c.enter-entered.new.group c.in-Ok.ensures _ _ _ _ _ _ c.in-At.field-0 _ (c.in-Ok-entered.is ∙ (λ i. Ok (c.in-At.is i))) c.enter-entered.ensures.entered c.enter-entered.ensures.filled
 
-pub returns-in-Ok-At-clause-placed : goal.returns-in-Ok-At-clause-placed
-returns-in-Ok-At-clause-placed g c =
-    placed_at _ _ _ _ c.enter.new.group c.in-Ok.ensures _ _ _ _ _ _ c.in-Ok-At.field-0-0 _ (c.in-Ok-At.is ∙ (λ i. Ok (c.in-Ok-At.field-0-is i))) c.enter.ensures.entered c.enter.ensures.filled
+pub returns-in-At-clause-placed : goal.returns-in-At-clause-placed
+returns-in-At-clause-placed g c =
+    placed_at _ _ _ _ c.enter-entered.new.group c.in-Ok.ensures _ _ _ _ _ _ c.in-At.field-0 _ (c.in-Ok-entered.is ∙ (λ i. Ok (c.in-At.is i))) c.enter-entered.ensures.entered c.enter-entered.ensures.filled
