@@ -1,5 +1,5 @@
 -- Whether pairs are those of a range, as they are compared one by one.
-use Rattle.std.proofs.Common.{◌≡◌, ◌≢◌, ℕ, cond, List, [], ◌∷◌, ◌++◌, Bool, true, false, None, Some, Less, refl, sym, ap, subst, ◌∙◌}
+use Rattle.std.proofs.Common.{◌≡◌, ◌≢◌, ℕ, eqb, length, arith, cond, List, [], ◌∷◌, ◌++◌, Bool, true, false, None, Some, Less, refl, sym, ap, subst, ◌∙◌}
 use Rattle.std.specs.Prelude.{◌↔◌, ◌&&◌, IsTrue, map, filter}
 use Rattle.std.specs.List.{AllByRecursion}
 use Rattle.std.specs.List.Sorted.{IsStrictlySortedBy}
@@ -13,8 +13,9 @@ use Rattle.std.proofs.lemmas.Map.Lookups.{exact_bytes}
 use Rattle.store_model.specs.Range.{Interval, has_key}
 use Rattle.store_model.specs.Contents.{Contents, pair_of, pairs_in}
 use Rattle.store_model.specs.declared.pair.Pair.{Pair}
-use Rattle.store_model.proofs.Bools.{and_true}
+use Rattle.store_model.proofs.Bools.{and_true, not_both}
 use Rattle.store_model.proofs.Scans.{pairs_in_is}
+use Rattle.log_laws.proofs.Central.{eqb_differ}
 use Rattle.reply_judge.specs.Contents.{HasValues, own_pairs}
 
 abbrev Entries : Type 0
@@ -88,5 +89,13 @@ module _ (Q : Type 0) (r : Interval) (key value : List ℕ) (left : List Pair) (
   pub fails : ((rest : List Pair) → left ≢ own_pairs r key value ++ rest) → IsTrue false ↔ Q
   fails apart = (λ is. absurd (cc is), λ q. absurd (apart (expected r new) (k.1 q ∙ whole)))
 
-pub ends : (Q : Type 0) (r : Interval) (left : List Pair) (old : Entries) (b : Bool) → old ≡ [] → (IsTrue b ↔ (left ≡ [])) → left ≡ expected r old ↔ Q → IsTrue b ↔ Q
-ends Q r left old b done is k = (λ t. k.0 (is.0 t ∙ sym (ap (expected r) done)), λ q. is.1 (k.1 q ∙ ap (expected r) done))
+empty_exact : (left : List Pair) (b : Bool) → b ≡ eqb (length left) 0 → IsTrue b ↔ (left ≡ [])
+empty_exact [] b is = (λ t. refl, λ e. is)
+empty_exact (p ∷ ps) b is =
+    let filled : eqb (length (p ∷ ps)) 0 ≡ false = eqb_differ (length (p ∷ ps)) 0 (λ e. omega (arith, e)) in
+    (λ t. absurd (not_both b t (is ∙ filled)), λ e. absurd (cc e))
+
+pub ends : (Q : Type 0) (r : Interval) (left : List Pair) (old : Entries) (b : Bool) → old ≡ [] → b ≡ eqb (length left) 0 → left ≡ expected r old ↔ Q → IsTrue b ↔ Q
+ends Q r left old b done is k =
+    let exact = empty_exact left b is in
+    (λ t. k.0 (exact.0 t ∙ sym (ap (expected r) done)), λ q. exact.1 (k.1 q ∙ ap (expected r) done))

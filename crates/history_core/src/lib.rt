@@ -1,0 +1,23 @@
+//! A judge of the entries of a life's history.
+//!
+//! A history is legal where each entry is allowed after those before it, by what the opening log and the history say.
+//! [`Judge`] keeps what it needs of them: the phases of transactions, the locks that they took, a listing of the log, the
+//! losers of the opening log, the current contents, and what the last entry asks of the next one. So no answer goes
+//! through the history.
+//!
+//! `IsJudgeOf opening history judge` (`specs/Judging`) says that the judge has come to the end of this legal history.
+//! What is promised:
+//!
+//! 1. [`Judge::allows`] is exact for every entry that is no record: true where the entry is legal there, else false.
+//! 2. [`Judge::note`] takes the next legal entry, also a record; where memory runs out, the judge stays where it was.
+//!
+//! Whether a record is lawful, and where a page may be split, it doesn't decide: who enters a record says so.
+#![tactic(auto)]
+
+mod judge;
+mod locking;
+mod refusing;
+mod replying;
+mod tests_of;
+
+pub use judge::Judge;
