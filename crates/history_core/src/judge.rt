@@ -1,6 +1,6 @@
 //! The judge.
 ghost use Rattle.std.specs.Prelude.{◌≡◌, ◌↔◌, ℕ, List, None, false, IsTrue};
-ghost use Rattle.wal_record.specs.History.{Live, phase};
+ghost use Rattle.wal_record.specs.History.{Committed, Live, is_owner, phase};
 ghost use Rattle.wal_record.specs.Legal.{EntryRule, IsAllowed, MayAcknowledge, MayBegin, MayRepair, untold};
 ghost use Rattle.wal_record.specs.declared.entry.Entry.{Entry};
 ghost use Rattle.wal_record.specs.declared.record.Record.{Record};
