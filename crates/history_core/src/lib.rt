@@ -16,6 +16,7 @@
 
 mod judge;
 mod locking;
+mod noting;
 mod refusing;
 mod replying;
 mod tests_of;

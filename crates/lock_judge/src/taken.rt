@@ -107,7 +107,8 @@ impl TakenLocks {
         release(&mut self.held, tx);
     }
 
-    fn note_record(&mut self, entered: &Record)
+    /// The next record. It takes no memory.
+    pub fn note_record(&mut self, entered: &Record)
         ensures { (h : List Entry) → (lsn : ℕ) → AreTaken h self.old → AreTaken (h ++ Rec lsn entered.now ∷ []) self.new }
     {
         match entered {

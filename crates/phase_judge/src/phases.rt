@@ -203,8 +203,8 @@ impl Phases {
         Ok(())
     }
 
-    /// The next record is entered.
-    fn note_record(&mut self, entered: &Record) -> Result<(), Memory>
+    /// The next record. Where memory runs out, these are still the phases of the history before it.
+    pub fn note_record(&mut self, entered: &Record) -> Result<(), Memory>
         ensures ok { (opening : List Record) → (h : List Entry) → (lsn : ℕ) → ArePhasesOf opening h self.old → OnOk result (ArePhasesOf opening (h ++ Rec lsn entered.now ∷ []) self.new) }
         ensures err { (opening : List Record) → (h : List Entry) → ArePhasesOf opening h self.old → OnErr result (ArePhasesOf opening h self.new) }
     {

@@ -1,8 +1,7 @@
 //! What the current contents answer, and what a write is told: the part of legality that is about replies.
 //!
 //! The current contents are what all Writes, Applys and Undos of a log make. [`CurrentContents`] keeps them as one ordered
-//! map, record by record. [`untold_after`] keeps of a history what its last entry asks of the next one: a write that its
-//! transaction wasn't told of yet.
+//! map, record by record. [`untold_record`] is what a record asks of the next entry: that a write be told.
 //!
 //! `IsContentsOf contents map` (`specs/Contents`) says that the map has these contents. What is promised:
 //!
@@ -22,4 +21,4 @@ mod told;
 
 pub use asked::{answers, has_no_meaning, writes};
 pub use contents::CurrentContents;
-pub use told::{is_told_as, untold_after};
+pub use told::{is_told_as, untold_record};

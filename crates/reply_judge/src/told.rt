@@ -1,11 +1,12 @@
 //! Writes, and what their transactions are told.
-ghost use Rattle.std.specs.Prelude.{◌≡◌, ◌↔◌, Some, IsTrue};
+ghost use Rattle.std.specs.Prelude.{◌≡◌, ◌↔◌, ℕ, Some, IsTrue};
+ghost use Rattle.wal_record.specs.declared.entry.Entry.TheVariants.{Rec};
 ghost use Rattle.store_model.specs.declared.reply.Reply.TheVariants.{Was};
 ghost use Rattle.wal_record.specs.declared.record.Record.TheVariants as kinds;
 ghost use Rattle.wal_record.specs.Legal.{IsToldAs, untold_step};
 
 use store_model::{OpValue, Reply, Request, Value};
-use wal_record::{Apply, Entry, Record, Write};
+use wal_record::{Apply, Record, Write};
 
 fn copied_value(value: &Option<Value>) -> Option<Value>
     ensures { result ≡ value.now }
@@ -54,16 +55,13 @@ fn copied_apply(apply: &Apply) -> Apply
     }
 }
 
-/// The write that the transaction isn't told of yet, where the last entry is one. It takes no memory.
-pub fn untold_after(entry: &Entry) -> Option<Record>
-    ensures { result ≡ untold_step entry.now }
+/// The record, where it is a write, of which its transaction isn't told yet. It takes no memory.
+pub fn untold_record(entered: &Record) -> Option<Record>
+    ensures { (lsn : ℕ) → result ≡ untold_step (Rec lsn entered.now) }
 {
-    match entry {
-        Entry::Rec { rec, .. } => match rec {
-            Record::Write(write) => Some(Record::Write(copied_write(write))),
-            Record::Apply(apply) => Some(Record::Apply(copied_apply(apply))),
-            _ => None,
-        },
+    match entered {
+        Record::Write(write) => Some(Record::Write(copied_write(write))),
+        Record::Apply(apply) => Some(Record::Apply(copied_apply(apply))),
         _ => None,
     }
 }
