@@ -1,3 +1,4 @@
 pub mod Searching
 pub mod Deciding
 pub mod Going
+pub mod Opened

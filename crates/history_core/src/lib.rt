@@ -19,6 +19,7 @@ mod locking;
 mod noting;
 mod refusing;
 mod replying;
+mod starting;
 mod tests_of;
 
 pub use judge::Judge;
