@@ -1,6 +1,6 @@
 -- Who stands in the way of a lock.
-use Rattle.std.proofs.Common.{◌≡◌, ◌≢◌, ℕ, ◌<◌, List, Option, Some, None, Bool, true, false, refl, sym, ap, subst, ◌∙◌, inl, inr}
-use Rattle.std.specs.Prelude.{◌↔◌, ◌&&◌, ◌||◌, ◌⊎◌, IsTrue}
+use Rattle.std.proofs.Common.{◌≡◌, ◌≢◌, ℕ, List, Option, Some, None, Bool, true, false, refl, sym, ap, ◌∙◌, inl, inr}
+use Rattle.std.specs.Prelude.{◌↔◌, ◌&&◌, ◌||◌}
 use Rattle.std.specs.List.{find, list_any}
 use Rattle.store_model.proofs.Bools.{false_unless, not_both}
 use Rattle.wal_record.specs.History.{Phase, Live, is_live, life_log, phase}
@@ -61,7 +61,8 @@ module _ (opening : List Record) (h : List Entry) (sound : AreLawful opening) (l
   pub may_lock : untold h ≡ None → (NoneInWay h tx lock × (find meets (losers opening) ≡ None)) ↔ MayLock opening h tx lock
   may_lock told = (
     λ p. record { told = told; live = live; free = free p.0 p.1 },
-    λ m. (not_taken m.free, not_met m.free))
+    λ m. (not_taken m.free, not_met m.free),
+  )
 
   live_is : (p : Phase) → p ≡ Live → is_live p ≡ true
   live_is p e = ap is_live e
@@ -90,7 +91,8 @@ module _ (opening : List Record) (h : List Entry) (sound : AreLawful opening) (l
   pub may_refuse : untold h ≡ None → (holder : ℕ) → IsFirstInWay h tx lock holder ↔ MayRefuse opening h tx lock holder
   may_refuse told holder = (
     λ f. record { told = told; live = live; other = f.other; holds = blocks_is holder ∙ f.conflicts; least = λ o apart low. blocks_is o ∙ f.least o apart low },
-    λ m. record { other = m.other; conflicts = sym (blocks_is holder) ∙ m.holds; least = λ o apart low. sym (blocks_is o) ∙ m.least o apart low })
+    λ m. record { other = m.other; conflicts = sym (blocks_is holder) ∙ m.holds; least = λ o apart low. sym (blocks_is o) ∙ m.least o apart low },
+  )
 
 pub locking : (opening : List Record) (h : List Entry) → LockLaw opening h
 locking opening h = record { may = λ sound legal told tx lock live. may_lock opening h sound legal tx lock live told }

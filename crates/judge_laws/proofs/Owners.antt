@@ -1,14 +1,14 @@
 -- Who was begun by a session is no loser of the opening log.
-use Rattle.std.proofs.Common.{◌≡◌, ℕ, suc, eqb, ◌<◌, List, [], ◌∷◌, ◌++◌, Bool, true, false, refl, sym, ap, ◌∙◌, arith, inl, inr, append-nil}
+use Rattle.std.proofs.Common.{◌≡◌, ℕ, eqb, ◌<◌, List, [], ◌∷◌, ◌++◌, Bool, true, false, refl, sym, ap, ◌∙◌, arith, inl, inr, append-nil}
 use Rattle.std.specs.Prelude.{◌&&◌, ◌||◌, ◌⊎◌}
 use Rattle.std.specs.List.{list_any}
 use Rattle.std.proofs.lemmas.Bool.{eqb-true}
 use Rattle.std.proofs.lemmas.List.Folds.{list_any-append}
 use Rattle.store_model.proofs.Bools.{both_true}
 use Rattle.wal_record.specs.Chains.{greatest}
-use Rattle.wal_record.specs.History.{Live, Beginning, beginnings, is_owner, life_log, phase}
+use Rattle.wal_record.specs.History.{Beginning, beginnings, is_owner, life_log}
 use Rattle.wal_record.specs.Legal.{IsAllowed, IsLegal}
-use Rattle.wal_record.specs.Locks.{Held, locks, loser_locks, taken_locks}
+use Rattle.wal_record.specs.Locks.{locks, loser_locks, taken_locks}
 use Rattle.wal_record.specs.OpenWrites.{is_loser, open_writes}
 use Rattle.wal_record.specs.declared.entry.Entry.{Entry}
 use Rattle.wal_record.specs.declared.entry.Entry.TheVariants.{Began}

@@ -1,5 +1,5 @@
 -- The first of entries in rising order of which a test holds, and the transaction in the way that it names.
-use Rattle.std.proofs.Common.{◌≡◌, ◌≢◌, ℕ, eqb, cond, ◌<◌, ◌≤◌, List, [], ◌∷◌, Option, Some, None, Bool, true, false, Less, Equal, Greater, refl, sym, ap, subst, ◌∙◌, arith}
+use Rattle.std.proofs.Common.{◌≡◌, ◌≢◌, ℕ, eqb, cond, ◌<◌, ◌≤◌, List, [], ◌∷◌, Option, Some, None, Bool, true, false, Less, Equal, Greater, refl, sym, ap, ◌∙◌, arith}
 use Rattle.std.specs.Prelude.{◌&&◌, not, unwrap_or, nat_lt}
 use Rattle.std.specs.Ordering.{nat_cmp, is_eq}
 use Rattle.std.specs.Cmp.{nat_cmp_is}
@@ -111,9 +111,10 @@ module _ (test : ℕ → List Held → Bool) (empty : (t : ℕ) → test t [] �
       by : (first_in test es ≡ Some t → (test t (held_at es t) ≡ true) × ((o : ℕ) → o < t → test o (held_at es o) ≡ false))
           → (c : Bool) → test e.0 e.1 ≡ c → cond c (Some e.0) (first_in test es) ≡ Some t → (test t (held_at (e ∷ es) t) ≡ true) × ((o : ℕ) → o < t → test o (held_at (e ∷ es) o) ≡ false)
       by rest true is some =
-          let same = sym (some_is e.0 t some) in
-          (ap (test t) (at_head t e es same) ∙ ap (λ (x : ℕ). test x e.1) same ∙ is,
-          λ o low. ap (test o) (at_tail o e es (λ here. absurd (omega (arith, low, same, here))) ∙ at_below o e.0 es (omega (arith, low, same)) rises.0) ∙ empty o)
+          let same = sym (some_is e.0 t some) in (
+            ap (test t) (at_head t e es same) ∙ ap (λ (x : ℕ). test x e.1) same ∙ is,
+            λ o low. ap (test o) (at_tail o e es (λ here. absurd (omega (arith, low, same, here))) ∙ at_below o e.0 es (omega (arith, low, same)) rises.0) ∙ empty o,
+          )
       by rest false is some =
           let high = first_above e.0 t es rises.0 some in
           let more = rest some in

@@ -49,7 +49,9 @@ impl HeldLock {
     pub fn covers_write(&self, key: &Key) -> bool
         ensures { result ≡ covers_write key.now self.now }
     {
-        !self.range.low().is_above(key) && self.range.high().is_above(key) && is_exclusive(self.mode)
+        !self.range.low().is_above(key)
+            && self.range.high().is_above(key)
+            && is_exclusive(self.mode)
     }
 
     /// Whether a lock on this range conflicts with it.

@@ -1,10 +1,10 @@
 -- How often transactions were begun, and how many of them are live.
-use Rattle.std.proofs.Common.{◌≡◌, ◌≢◌, ℕ, suc, eqb, cond, ◌+◌, ◌≤◌, ◌<◌, List, [], ◌∷◌, ◌++◌, length, Bool, true, false, refl, sym, ap, ◌∙◌, arith, length-append}
+use Rattle.std.proofs.Common.{◌≡◌, ◌≢◌, ℕ, suc, eqb, cond, ◌+◌, List, [], ◌∷◌, ◌++◌, length, Bool, true, false, refl, sym, ap, ◌∙◌, arith, length-append}
 use Rattle.std.specs.Prelude.{◌&&◌, ◌||◌, filter}
 use Rattle.std.specs.List.{list_any}
 use Rattle.std.proofs.lemmas.Bool.{eqb-true}
 use Rattle.std.proofs.lemmas.List.Elements.{filter-append}
-use Rattle.wal_record.specs.History.{Phase, Live, is_live, Beginning}
+use Rattle.wal_record.specs.History.{Phase, is_live, Beginning}
 use Rattle.log_laws.proofs.Central.{differ}
 use Rattle.phase_judge.specs.Phases.{times}
 

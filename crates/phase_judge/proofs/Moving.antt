@@ -1,6 +1,6 @@
 -- What each entry makes of the phases that are kept.
-use Rattle.std.proofs.Common.{◌≡◌, ◌≢◌, ℕ, suc, eqb, cond, ◌+◌, ◌-◌, ◌≤◌, ◌<◌, List, [], ◌∷◌, ◌++◌, length, Option, Some, None, Bool, true, false, refl, sym, ap, subst, ◌∙◌, arith, append-nil, Result, Ok, Err}
-use Rattle.std.specs.Prelude.{◌&&◌, ◌||◌, max, filter}
+use Rattle.std.proofs.Common.{◌≡◌, ◌≢◌, ℕ, suc, eqb, cond, ◌+◌, ◌-◌, ◌≤◌, ◌<◌, List, [], ◌∷◌, ◌++◌, Option, Some, None, Bool, true, false, refl, sym, ap, subst, ◌∙◌, arith, append-nil, Result, Ok, Err}
+use Rattle.std.specs.Prelude.{◌&&◌, ◌||◌, max}
 use Rattle.std.specs.Result.{OnErr}
 use Rattle.std.specs.List.{list_any}
 use Rattle.std.proofs.lemmas.Bool.{eqb-true}
@@ -68,7 +68,7 @@ module _ (opening : List Record) (h : List Entry) (phases : ℕ → Phase) (owns
     began_live : live_count began ≡ suc live
     began_live =
         let others : live_in (phase began) (beginnings h) ≡ live_in (phase h) (beginnings h) =
-            live_apart (phase h) (phase began) tx (λ x apart. began_phase x ∙ ap (λ (c : Bool). cond c Live (phase h x)) (eqb_differ tx x (λ e. apart (sym e)))) (beginnings h) none in
+        live_apart (phase h) (phase began) tx (λ x apart. began_phase x ∙ ap (λ (c : Bool). cond c Live (phase h x)) (eqb_differ tx x (λ e. apart (sym e)))) (beginnings h) none in
         let own : ◌≡◌ {A = ℕ} (cond (is_live (phase began tx)) 1 0) 1 = ap (λ (p : Phase). cond {A = ℕ} (is_live p) 1 0) own_phase in
         let all : live_count began ≡ live_in (phase began) (beginnings h) + cond (is_live (phase began tx)) 1 0 = ap (live_in (phase began)) begins ∙ live_push (phase began) (beginnings h) b in
         let was = k.counted in

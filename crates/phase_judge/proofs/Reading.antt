@@ -1,5 +1,5 @@
 -- What the phases that are kept tell of a history.
-use Rattle.std.proofs.Common.{◌≡◌, ◌≢◌, ℕ, suc, eqb, cond, ◌<◌, List, Option, Some, None, Bool, true, false, refl, sym, ap, subst, ◌∙◌, ◌≤◌, arith}
+use Rattle.std.proofs.Common.{◌≡◌, ℕ, suc, ◌<◌, List, Option, Some, None, Bool, true, false, refl, sym, ap, subst, ◌∙◌, ◌≤◌, arith}
 use Rattle.std.specs.Prelude.{◌↔◌, IsTrue, max}
 use Rattle.wal_record.specs.History.{greatest_begun, live_count, Phase, Live, Committed, phase, is_live, is_over, is_owner, last_begun, IsFree}
 use Rattle.wal_record.specs.Chains.{greatest}
@@ -56,7 +56,8 @@ module _ (opening : List Record) (h : List Entry) (p : Phases) (k : ArePhasesOf 
   pub begin_exact : (b : Bool) → tx ≡ suc p.greatest → p.live < 64 → IsTrue b ↔ IsFree h (last_begun h session) → IsTrue b ↔ MayBegin opening h session tx
   begin_exact b next room free = (
     λ is. record { told = told; number = next ∙ ap suc number_is; room = let same = live_is in omega (arith, room, same); free = free.0 is },
-    λ m. free.1 m.free)
+    λ m. free.1 m.free,
+  )
 
   pub not_next : (b : Bool) → b ≡ false → (tx ≡ suc p.greatest → ⊥) → IsTrue b ↔ MayBegin opening h session tx
   not_next b is_false other = (λ is. (let both : true ≡ false = sym is ∙ is_false in absurd (cc both)), λ m. absurd (other (m.number ∙ ap suc (sym number_is))))

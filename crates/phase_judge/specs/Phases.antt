@@ -1,5 +1,5 @@
 -- The phases of a life's transactions as they are kept.
-use Rattle.std.specs.Prelude.{◌≡◌, ℕ, ◌+◌, ◌-◌, ◌≤◌, ◌<◌, ◌==◌, max, List, [], ◌∷◌, length, filter, Option, Some, None, unwrap_or, Bool, true, false, if◌then◌else◌}
+use Rattle.std.specs.Prelude.{◌≡◌, ℕ, ◌-◌, ◌≤◌, ◌<◌, ◌==◌, max, List, [], ◌∷◌, length, filter, Option, Some, None, unwrap_or, Bool, true, false, if◌then◌else◌}
 use Rattle.std.specs.Ordering.{nat_cmp}
 use Rattle.std.specs.BTreeMap.{BTreeMap, get}
 use Rattle.wal_record.specs.Chains.{greatest}

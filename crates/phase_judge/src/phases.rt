@@ -53,11 +53,7 @@ fn set_last(sessions: &mut BTreeMap<u32, Option<TxId>>, session: u32, tx: TxId)
 }
 
 /// The transaction is this one now. Where memory runs out, each one is as it was.
-fn put(
-    transactions: &mut BTreeMap<TxId, Started>,
-    tx: TxId,
-    started: Started,
-) -> Result<(), Memory>
+fn put(transactions: &mut BTreeMap<TxId, Started>, tx: TxId, started: Started) -> Result<(), Memory>
     ensures ok { OnOk result ((t : ℕ) → started_in transactions.new t ≡ (if tx == t then started else started_in transactions.old t)) }
     ensures err { OnErr result ((t : ℕ) → started_in transactions.new t ≡ started_in transactions.old t) }
 {
@@ -169,9 +165,7 @@ impl Phases {
     pub fn may_begin(&self, session: u32, tx: TxId) -> bool
         ensures { (opening : List Record) → (h : List Entry) → ArePhasesOf opening h self.now → untold h ≡ None → IsTrue result ↔ MayBegin opening h session tx }
     {
-        is_next(self.greatest, tx)
-            && self.live < MOST_ACTIVE
-            && self.is_free(session)
+        is_next(self.greatest, tx) && self.live < MOST_ACTIVE && self.is_free(session)
     }
 
     /// The session begins the transaction, where it may.

@@ -1,11 +1,10 @@
 -- Whether pairs are those of a range, as they are compared one by one.
-use Rattle.std.proofs.Common.{◌≡◌, ◌≢◌, ℕ, eqb, length, arith, cond, List, [], ◌∷◌, ◌++◌, Bool, true, false, None, Some, Less, refl, sym, ap, subst, ◌∙◌}
-use Rattle.std.specs.Prelude.{◌↔◌, ◌&&◌, IsTrue, map, filter}
+use Rattle.std.proofs.Common.{◌≡◌, ◌≢◌, ℕ, eqb, length, arith, cond, List, [], ◌∷◌, ◌++◌, Bool, true, false, None, Some, Less, refl, sym, ap, ◌∙◌}
+use Rattle.std.specs.Prelude.{◌↔◌, IsTrue, map, filter}
 use Rattle.std.specs.List.{AllByRecursion}
 use Rattle.std.specs.List.Sorted.{IsStrictlySortedBy}
 use Rattle.std.specs.Ordering.{nat_cmp, is_lt, eq_by_cmp}
 use Rattle.std.specs.Cmp.Lexicographic.{slice_cmp}
-use Rattle.std.specs.FinMap as finite
 use Rattle.std.specs.FinMap.Entries.{below_all, find, is_sorted, find-where_key}
 use Rattle.std.specs.Map.{lookup, keys_of}
 use Rattle.std.specs.BTreeMap.{BTreeMap, is_at}
@@ -84,7 +83,8 @@ module _ (Q : Type 0) (r : Interval) (key value : List ℕ) (left : List Pair) (
   pub goes_on : (rest : List Pair) → left ≡ own_pairs r key value ++ rest → rest ≡ expected r new ↔ Q
   goes_on rest here = (
     λ same. k.0 (here ∙ ap (λ (ps : List Pair). own_pairs r key value ++ ps) same ∙ sym whole),
-    λ q. same_rest r key value rest (expected r new) (sym here ∙ k.1 q ∙ whole))
+    λ q. same_rest r key value rest (expected r new) (sym here ∙ k.1 q ∙ whole),
+  )
 
   pub fails : ((rest : List Pair) → left ≢ own_pairs r key value ++ rest) → IsTrue false ↔ Q
   fails apart = (λ is. absurd (cc is), λ q. absurd (apart (expected r new) (k.1 q ∙ whole)))

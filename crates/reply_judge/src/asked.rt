@@ -67,11 +67,7 @@ pub fn writes(contents: &CurrentContents, operators: &Operators, request: &Reque
 }
 
 /// Whether the request is an Apply of an operator that gives no value there.
-pub fn has_no_meaning(
-    contents: &CurrentContents,
-    operators: &Operators,
-    request: &Request,
-) -> bool
+pub fn has_no_meaning(contents: &CurrentContents, operators: &Operators, request: &Request) -> bool
     ensures { (m : Contents) → IsContentsOf m contents.now → IsTrue result ↔ HasNoMeaning m request.now }
 {
     match request {

@@ -1,4 +1,4 @@
-use Rattle.std.proofs.Common.{cond, Some, ap, ◌∙◌}
+use Rattle.std.proofs.Common.{cond, Some, ◌∙◌}
 use Rattle.std.specs.Ordering.{nat_cmp}
 use Rattle.std.specs.Cmp.Lexicographic.{slice_cmp}
 use Rattle.std.specs.BTreeMap.{is_at}

@@ -1,4 +1,4 @@
-use Rattle.std.proofs.Common.{Option, List, [], ap, sym, ◌∙◌}
+use Rattle.std.proofs.Common.{Option, List, [], ap, ◌∙◌}
 use Rattle.std.specs.Prelude.{unwrap_or}
 use Rattle.std.specs.List.{list_any}
 use Rattle.wal_record.specs.Locks.{Held, covers_write}

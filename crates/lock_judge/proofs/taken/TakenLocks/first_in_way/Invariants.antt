@@ -1,4 +1,4 @@
-use Rattle.std.proofs.Common.{◌≡◌, eqb}
+use Rattle.std.proofs.Common.{◌≡◌}
 use Rattle.wal_record.specs.Legal.{held}
 use Rattle.lock_judge.proofs.First.{first_in, is_in_way}
 use Rattle.lock_judge.proofs.taken.TakenLocks.first_in_way.Given as goal

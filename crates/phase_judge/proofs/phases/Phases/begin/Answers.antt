@@ -1,5 +1,5 @@
-use Rattle.std.proofs.Common.{◌≡◌, ℕ, refl, sym, ap, ◌∙◌}
-use Rattle.std.proofs.Common.{◌+◌, suc, arith, Some}
+use Rattle.std.proofs.Common.{refl, ap}
+use Rattle.std.proofs.Common.{arith, Some}
 use Rattle.phase_judge.specs.Phases.{ArePhasesOf, is_by, last_in, phase_of, started_in}
 use Rattle.phase_judge.specs.declared.stage.Stage.TheVariants as stages
 use Rattle.phase_judge.specs.declared.stage.Started.{Started}

@@ -1,4 +1,4 @@
-use Rattle.std.proofs.Common.{◌≡◌, ℕ, refl, sym, ap, ◌∙◌}
+use Rattle.std.proofs.Common.{refl, ap, ◌∙◌}
 use Rattle.phase_judge.specs.Phases.{ArePhasesOf, is_by, live_after, phase_of, started_in}
 use Rattle.phase_judge.specs.declared.stage.Started.{Started}
 use Rattle.phase_judge.proofs.Moving.{kept_as, kept_moved, on_err, put_phase, same_owner}

@@ -1,4 +1,4 @@
-use Rattle.std.proofs.Common.{◌≡◌, ℕ, refl, sym, ap, ◌∙◌}
+use Rattle.std.proofs.Common.{ap, ◌∙◌}
 use Rattle.wal_record.specs.History.{phase}
 use Rattle.phase_judge.specs.Phases.{phase_of, is_committed}
 use Rattle.phase_judge.proofs.Reading.{committed_exact, stage_is}

@@ -1,4 +1,4 @@
-use Rattle.std.proofs.Common.{◌≡◌, ℕ, refl, sym, ap, ◌∙◌}
+use Rattle.std.proofs.Common.{sym, ap, ◌∙◌}
 use Rattle.wal_record.specs.History.{is_over, last_begun}
 use Rattle.phase_judge.specs.Phases.{phase_of}
 use Rattle.phase_judge.proofs.Reading.{free_none, free_some, last_is, stage_is}

@@ -1,4 +1,4 @@
-use Rattle.std.proofs.Common.{◌≡◌, ℕ, refl, sym, ap, ◌∙◌}
+use Rattle.std.proofs.Common.{ap, ◌∙◌}
 use Rattle.wal_record.specs.History.{phase, is_live}
 use Rattle.phase_judge.specs.Phases.{phase_of}
 use Rattle.phase_judge.proofs.Reading.{live_exact, stage_is}

@@ -1,4 +1,4 @@
-use Rattle.std.proofs.Common.{◌≡◌, ℕ, refl, sym, ap, ◌∙◌}
+use Rattle.std.proofs.Common.{ap, ◌∙◌}
 use Rattle.phase_judge.specs.Phases.{is_by}
 use Rattle.phase_judge.proofs.Reading.{owner_is}
 use Rattle.phase_judge.proofs.phases.Phases.is_owner.Goals as goal

@@ -1,4 +1,3 @@
-use Rattle.std.proofs.Common.{◌≡◌, ℕ, refl, sym, ap, ◌∙◌}
 use Rattle.phase_judge.specs.Phases.{ArePhasesOf}
 use Rattle.phase_judge.proofs.Moving.{still_entry}
 use Rattle.phase_judge.proofs.phases.Phases.note.Goals as goal

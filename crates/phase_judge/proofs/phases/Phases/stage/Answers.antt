@@ -1,4 +1,4 @@
-use Rattle.std.proofs.Common.{◌≡◌, ℕ, refl, sym, ap, ◌∙◌}
+use Rattle.std.proofs.Common.{ap, ◌∙◌}
 use Rattle.phase_judge.specs.Phases.{phase_of}
 use Rattle.phase_judge.proofs.Reading.{stage_is}
 use Rattle.phase_judge.proofs.phases.Phases.stage.Goals as goal

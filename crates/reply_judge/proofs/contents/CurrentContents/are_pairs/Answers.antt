@@ -1,7 +1,7 @@
 use Rattle.std.proofs.Common.{◌≡◌, false, subst, sym}
 use Rattle.std.specs.Prelude.{◌↔◌, IsTrue}
 use Rattle.reply_judge.specs.Contents.{IsContentsOf}
-use Rattle.reply_judge.proofs.Scanning.{ends, expected, fails, goes_on, scan_is}
+use Rattle.reply_judge.proofs.Scanning.{ends, expected, fails, scan_is}
 use Rattle.reply_judge.proofs.contents.CurrentContents.are_pairs.Goals as goal
 
 pub returns-in-None-left_behind : goal.returns-in-None-left_behind
