@@ -2,3 +2,4 @@ pub mod Searching
 pub mod Deciding
 pub mod Going
 pub mod Opened
+pub mod Entered

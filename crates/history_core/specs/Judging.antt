@@ -1,5 +1,5 @@
 -- What a judge keeps of a legal history.
-use Rattle.std.specs.Prelude.{◌≡◌, ◌++◌, ◌∷◌, [], ℕ, List, map, is_some, Bool, true, false}
+use Rattle.std.specs.Prelude.{◌≡◌, ◌++◌, ◌∷◌, [], ℕ, List, map, is_some, Bool, true, false, ◌==◌}
 use Rattle.wal_record.specs.Contents.{current}
 use Rattle.wal_record.specs.History.{life_log}
 use Rattle.wal_record.specs.Legal.{IsAllowed, IsLegal, split_leaf, untold}
@@ -64,6 +64,13 @@ is_leaf (Branch rows) = false
 abbrev pub splits_leaf : Record → Bool
 splits_leaf (kinds.Split x) = is_leaf x.child_state.rows
 splits_leaf _ = false
+
+abbrev pub is_split : Record → Bool
+is_split (kinds.Split x) = true
+is_split _ = false
+
+abbrev pub is_among : ℕ → Loser → Bool
+is_among tx x = x.tx == tx
 
 -- true where the entry is legal there, and the judge has come behind it; false where it is not, and nothing has changed
 abbrev pub IsJudged : List Record → List Entry → Entry → Judge → Judge → Bool → Type 0
