@@ -1,5 +1,5 @@
 -- Tests that decide an entry.
-use Rattle.std.proofs.Common.{◌≡◌, ℕ, List, Option, Some, None, Bool, true, false, refl, sym, ap, subst, ◌∙◌}
+use Rattle.std.proofs.Common.{◌≡◌, ℕ, List, None, sym, subst}
 use Rattle.std.specs.Prelude.{◌↔◌, IsTrue}
 use Rattle.store_model.specs.declared.request.Request.{Request}
 use Rattle.store_model.specs.declared.reply.Reply.{Reply}
@@ -22,9 +22,11 @@ module _ (opening : List Record) (h : List Entry) (legal : IsLegal opening h) (s
   pub says : (request : Request) (reply : Reply) → ReplyRule (untold h) (current (life_log opening h)) (taken_locks h tx) tx request reply ↔ MaySay opening h session tx request reply
   says request reply = (
     λ r. record { owner = owner; answer = subst (λ (ls : List Held). ReplyRule (untold h) (current (life_log opening h)) ls tx request reply) (sym own_locks) r },
-    λ m. subst (λ (ls : List Held). ReplyRule (untold h) (current (life_log opening h)) ls tx request reply) own_locks m.answer)
+    λ m. subst (λ (ls : List Held). ReplyRule (untold h) (current (life_log opening h)) ls tx request reply) own_locks m.answer,
+  )
 
   pub declines : untold h ≡ None → phase h tx ≡ Live → (request : Request) (why : Outcome) → (IsLocked (taken_locks h tx) (written_key request) × WhyRule (life_log opening h) request why) ↔ MayDecline opening h session tx request why
   declines told live request why = (
     λ p. record { told = told; owner = owner; live = live; locked = subst (λ (ls : List Held). IsLocked ls (written_key request)) (sym own_locks) p.0; cause = p.1 },
-    λ m. (subst (λ (ls : List Held). IsLocked ls (written_key request)) own_locks m.locked, m.cause))
+    λ m. (subst (λ (ls : List Held). IsLocked ls (written_key request)) own_locks m.locked, m.cause),
+  )

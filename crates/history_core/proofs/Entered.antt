@@ -1,12 +1,11 @@
 -- Whether a lawful record may be entered.
-use Rattle.std.proofs.Common.{◌≡◌, ℕ, suc, eqb, cond, ◌+◌, ◌<◌, ◌≤◌, List, [], ◌∷◌, ◌++◌, length, map, Option, Some, None, Bool, true, false, refl, sym, ap, subst, ◌∙◌, arith, inl, inr}
-use Rattle.std.specs.Prelude.{◌↔◌, ◌⊎◌, ◌||◌, ◌&&◌, is_some, IsTrue}
+use Rattle.std.proofs.Common.{◌≡◌, ℕ, eqb, cond, ◌+◌, List, [], ◌∷◌, length, Option, Some, None, Bool, true, false, refl, sym, ap, subst, ◌∙◌}
+use Rattle.std.specs.Prelude.{◌↔◌, ◌||◌, is_some, IsTrue}
 use Rattle.std.specs.List.{find, list_any}
 use Rattle.std.proofs.lemmas.Bool.{eqb-true}
-use Rattle.wal_record.specs.Chains.{greatest}
 use Rattle.wal_record.specs.History.{Live, life_log, phase}
-use Rattle.wal_record.specs.Legal.{FollowsSplit, IsAllowed, IsLegal, MayUndo, RecordRule, split_leaf, untold}
-use Rattle.wal_record.specs.Locks.{Held, covers_write, locks, taken_locks}
+use Rattle.wal_record.specs.Legal.{FollowsSplit, IsAllowed, IsLegal, RecordRule, split_leaf, untold}
+use Rattle.wal_record.specs.Locks.{covers_write, locks, taken_locks}
 use Rattle.wal_record.specs.OpenWrites.{is_loser, losers}
 use Rattle.wal_record.specs.Sound.{AreLawful, IsLawful}
 use Rattle.wal_record.specs.declared.analysis.Loser.{Loser}
@@ -52,4 +51,5 @@ pub enter_exact : (opening : List Record) (h : List Entry) (lsn : ℕ) (r : Reco
     → RecordRule opening h r ↔ IsAllowed opening h (Rec lsn r)
 enter_exact opening h lsn r told place lawful none = (
   λ rule. record { split = subst (λ (o : Option PageState). FollowsSplit o (Rec lsn r)) (sym none) tt; rule = record { told = told; place = place; lawful = lawful; rule = rule } },
-  λ ok. ok.rule.rule)
+  λ ok. ok.rule.rule,
+)

@@ -1,15 +1,13 @@
 -- A judge that goes on by one entry.
-use Rattle.std.proofs.Common.{◌≡◌, ℕ, eqb, List, [], ◌∷◌, ◌++◌, Option, Some, None, Bool, true, false, Result, Ok, Err, refl, sym, ap, subst, ◌∙◌}
-use Rattle.std.specs.Prelude.{◌||◌, is_some, IsTrue}
-use Rattle.std.specs.Result.{OnErr}
+use Rattle.std.proofs.Common.{◌≡◌, ℕ, eqb, List, [], ◌∷◌, ◌++◌, Option, None, true, false, refl, sym, ap, subst, ◌∙◌}
+use Rattle.std.specs.Prelude.{is_some}
 use Rattle.store_model.specs.Range.{Interval}
 use Rattle.store_model.specs.declared.range.Mode.{Mode}
-use Rattle.store_model.specs.Contents.{Contents}
 use Rattle.store_model.proofs.Bools.{not_both, or_left}
 use Rattle.wal_record.specs.Contents.{after, current}
 use Rattle.wal_record.specs.History.{life_log, log_of}
-use Rattle.wal_record.specs.Images.{CanApply, image, upper_rows}
-use Rattle.wal_record.specs.Legal.{IsAllowed, IsLegal, leaf_only, if_leaf, split_leaf, split_step, untold, untold_step}
+use Rattle.wal_record.specs.Images.{CanApply, upper_rows}
+use Rattle.wal_record.specs.Legal.{IsAllowed, IsLegal, leaf_only, if_leaf, split_step, untold_step}
 use Rattle.wal_record.specs.Sound.{AreLawful, IsLawful}
 use Rattle.wal_record.specs.declared.page.PageState.{PageState}
 use Rattle.wal_record.specs.declared.page.Rows.{Rows}

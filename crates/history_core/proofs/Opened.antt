@@ -1,6 +1,5 @@
 -- A judge that begins, and the log that it reads.
-use Rattle.std.proofs.Common.{◌≡◌, ℕ, suc, ◌+◌, ◌<◌, ◌≤◌, List, [], ◌∷◌, ◌++◌, None, Bool, false, map, length, take, drop, get_or, refl, sym, ap, subst, ◌∙◌, arith, append-nil, take-append-drop}
-use Rattle.std.specs.Prelude.{is_some}
+use Rattle.std.proofs.Common.{◌≡◌, ℕ, ◌+◌, ◌<◌, List, [], ◌∷◌, ◌++◌, None, false, map, length, take, drop, get_or, refl, sym, ap, subst, ◌∙◌, arith, append-nil, take-append-drop}
 use Rattle.std.specs.FinMap as finite
 use Rattle.std.proofs.lemmas.Grind.{common_steps}
 use Rattle.std.proofs.lemmas.List.{take_more}
@@ -12,7 +11,6 @@ use Rattle.wal_record.specs.Legal.{split_leaf, untold}
 use Rattle.wal_record.specs.OpenWrites.{losers}
 use Rattle.wal_record.specs.Rules.{HasSpelling}
 use Rattle.wal_record.specs.Sound.{AreLawful, IsLawful}
-use Rattle.wal_record.specs.declared.analysis.Loser.{Loser}
 use Rattle.wal_record.specs.declared.record.Record.{Record}
 use Rattle.wal_record.proofs.Along.{AllAlong_less}
 use Rattle.wal_record.proofs.Pushes.{current_push, lawful_front}

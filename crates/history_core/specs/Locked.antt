@@ -1,5 +1,5 @@
 -- Which lock a reply rests on.
-use Rattle.std.specs.Prelude.{◌≡◌, List, IsTrue}
+use Rattle.std.specs.Prelude.{List, IsTrue}
 use Rattle.std.specs.List.{list_any}
 use Rattle.store_model.specs.Range.{point}
 use Rattle.store_model.specs.declared.request.Request.{Request}

@@ -66,13 +66,7 @@ impl Judge {
     }
 
     /// Whether the transaction may write the key, and this is why it doesn't.
-    fn is_declined(
-        &self,
-        operators: &Operators,
-        tx: TxId,
-        request: &Request,
-        why: &Outcome,
-    ) -> bool
+    fn is_declined(&self, operators: &Operators, tx: TxId, request: &Request, why: &Outcome) -> bool
         ensures { (opening : List Record) → (h : List Entry) → IsJudgeOf opening h self.now → IsTrue result ↔ (IsLocked (taken_locks h tx) (written_key request.now) × WhyRule (life_log opening h) request.now why.now) }
     {
         self.is_write_locked(tx, request) && self.is_why(operators, request, why)

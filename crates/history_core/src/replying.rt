@@ -47,13 +47,7 @@ impl Judge {
     }
 
     /// Whether the session may be told so.
-    pub(crate) fn may_say(
-        &self,
-        session: u32,
-        tx: TxId,
-        request: &Request,
-        reply: &Reply,
-    ) -> bool
+    pub(crate) fn may_say(&self, session: u32, tx: TxId, request: &Request, reply: &Reply) -> bool
         ensures { (opening : List Record) → (h : List Entry) → IsJudgeOf opening h self.now → IsTrue result ↔ MaySay opening h session tx request.now reply.now }
     {
         self.phases.is_owner(session, tx) && self.is_reply(tx, request, reply)

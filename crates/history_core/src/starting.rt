@@ -42,11 +42,7 @@ fn read(
 
 impl Judge {
     /// The judge of the empty history behind this opening log, which is read once.
-    pub fn start(
-        alloc: Global,
-        operators: &Operators,
-        opening: &[Record],
-    ) -> Result<Judge, Memory>
+    pub fn start(alloc: Global, operators: &Operators, opening: &[Record]) -> Result<Judge, Memory>
         requires lawful { AreLawful opening.now }
         requires few { length opening.now < 2 ^ 63 }
         ensures { IfOk result (IsJudgeOf opening.now []) }

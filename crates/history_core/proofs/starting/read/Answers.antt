@@ -18,9 +18,10 @@ loop-entered-preserved g c =
     let low : i < length log = omega (arith, c.loop-entered-test.true) in
     let at = c.loop-entered.invariant in
     let size = length_so_far log c.requires.lawful i c.entered-item.result low c.entered-item.is in
-    let few = c.requires.few in
-    (ap (λ (n : ℕ). n + 1) at.0,
-    listing_more log c.requires.lawful i c.entered-item.result low c.entered-item.is (i + 1) (λ l. IsListingOf l c.note.new.self) refl
-    (c.note.ensures.more (take i log) (c.in_ok-prepare.ensures.same (take i log) at.1) (lawful_so_far log c.requires.lawful i c.entered-item.result low c.entered-item.is)
-    (let same = at.0 in omega (arith, same, size)) (omega (arith, size, low, few))),
-    contents_more log c.requires.lawful i c.entered-item.result low c.entered-item.is (i + 1) c.note-in-loop-entered.new.self refl (c.in_ok-note.ensures.ok (current (take i log)) at.2))
+    let few = c.requires.few in (
+      ap (λ (n : ℕ). n + 1) at.0,
+      listing_more log c.requires.lawful i c.entered-item.result low c.entered-item.is (i + 1) (λ l. IsListingOf l c.note.new.self) refl
+          (c.note.ensures.more (take i log) (c.in_ok-prepare.ensures.same (take i log) at.1) (lawful_so_far log c.requires.lawful i c.entered-item.result low c.entered-item.is)
+          (let same = at.0 in omega (arith, same, size)) (omega (arith, size, low, few))),
+      contents_more log c.requires.lawful i c.entered-item.result low c.entered-item.is (i + 1) c.note-in-loop-entered.new.self refl (c.in_ok-note.ensures.ok (current (take i log)) at.2),
+    )

@@ -1,4 +1,4 @@
-use Rattle.std.proofs.Common.{◌≡◌, ◌-◌, suc, ap, refl, arith}
+use Rattle.std.proofs.Common.{◌≡◌, ap, refl, arith}
 use Rattle.wal_record.specs.Chains.{greatest}
 use Rattle.wal_record.specs.declared.analysis.Analysis.{Analysis}
 use Rattle.history_core.proofs.Opened.{begins}
