@@ -1,0 +1,5 @@
+pub mod Searching
+pub mod Deciding
+pub mod Going
+pub mod Opened
+pub mod Entered
