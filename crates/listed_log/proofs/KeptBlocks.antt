@@ -177,6 +177,7 @@ module _ {D : Type 0} (tells : Type 0) (told : D → Kept) (may_leave : D → Ke
       by (faults.LogBad block byte) found why = let old = k.records t why.0 in (found (last_checkpoint old.forgotten) old.stable old.waiting old.blocks).1
       by _ found why = tt
 
-pub needed_left : (first left point needed lsn : ℕ) → (left ≡ first) ⊎ (left ≤ point) → lsn ≡ left → point ≡ needed → (lsn ≡ first) ⊎ (lsn ≤ needed)
-needed_left first left point needed lsn (inl same) is at = inl (is ∙ same)
-needed_left first left point needed lsn (inr low) is at = inr (omega (arith, low, is, at))
+pub needed_left : (first left point needed lsn many durable : ℕ) → (left ≡ first) ⊎ (left ≤ point) → lsn ≡ left → (point ≡ 0) ⊎ ((point ≡ needed) × (many ≤ durable)) → (lsn ≡ first) ⊎ (lsn ≤ needed)
+needed_left first left point needed lsn many durable (inl same) is at = inl (is ∙ same)
+needed_left first left point needed lsn many durable (inr low) is (inl none) = inr (omega (arith, low, is, none))
+needed_left first left point needed lsn many durable (inr low) is (inr at) = inr (omega (arith, low, is, at.0))
