@@ -1,12 +1,11 @@
 -- What the log keeps: where a record stands, and which blocks are forgotten.
-use Rattle.std.proofs.Common.{◌≡◌, ℕ, zero, suc, ◌+◌, ◌<◌, ◌≤◌, List, [], ◌∷◌, ◌++◌, length, get_or, take, drop, Option, Some, None, Bool, refl, sym, ap, ◌∙◌, subst, arith, append_assoc, length-append, inl, inr}
+use Rattle.std.proofs.Common.{◌≡◌, ℕ, zero, suc, ◌+◌, ◌<◌, ◌≤◌, List, [], ◌∷◌, ◌++◌, length, get_or, take, drop, Some, None, Bool, refl, sym, ap, ◌∙◌, subst, arith, append_assoc, length-append, inl, inr}
 use Rattle.std.specs.Prelude.{◌-◌, ◌⊎◌, map, Result, Ok, Err, OnOk, OnErr, IfOk, IfErr, slice_get}
 use Rattle.std.proofs.lemmas.List.{take-append-drop}
 use Rattle.media.specs.Kept.{Kept}
 use Rattle.log_blocks.specs.Log.{Block, IsRun, first_lsn, next_lsn}
 use Rattle.log_blocks.specs.LogState.{LogState, Refused, durable_lsn, firsts, lsn_behind}
 use Rattle.log_blocks.specs.declared.header.Place.{Place}
-use Rattle.log_blocks.proofs.Whole.{sequence_whole}
 use Rattle.log_index.specs.declared.listing.Listing.{Listing}
 use Rattle.log_manager.specs.Managed.{EndBefore, IsAt, IsLogFrom, IsNoBadLog, Managed, ReadRefused, before_lsn, first_kept, recycled}
 use Rattle.log_manager.specs.Records.{AreIn, IsLogOf, checkpoint_in}

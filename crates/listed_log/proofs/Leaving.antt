@@ -1,5 +1,5 @@
 -- What a call leaves of a log: one that goes on, with groups that wait; or a disk that keeps the first of its records.
-use Rattle.std.proofs.Common.{◌≡◌, ℕ, zero, suc, ◌+◌, ◌-◌, ◌<◌, ◌≤◌, List, [], ◌∷◌, ◌++◌, length, get_or, take, drop, Option, Some, None, Bool, true, false, refl, sym, ap, ◌∙◌, subst, arith, append_assoc, append-nil, length-append, length-take, length-drop, take-append-drop, inl, inr}
+use Rattle.std.proofs.Common.{◌≡◌, ℕ, zero, suc, ◌+◌, ◌-◌, ◌<◌, ◌≤◌, List, [], ◌∷◌, ◌++◌, length, get_or, take, drop, None, true, refl, sym, ap, ◌∙◌, subst, arith, append_assoc, append-nil, length-append, length-take, take-append-drop, inl, inr}
 use Rattle.std.specs.Prelude.{◌⊎◌, map, is_some, Result, Ok, Err, OnOk, OnErr, IfErr}
 use Rattle.std.proofs.Math.Seq.{drop-append_seam, take-append-add, take-append_seam}
 use Rattle.std.proofs.lemmas.Grind.{flat_map-append}
@@ -9,12 +9,11 @@ use Rattle.media.specs.Kept.{Kept}
 use Rattle.log_blocks.specs.Batch.{records_in}
 use Rattle.log_blocks.specs.Log.{Block, IsRun, StandsFor, first_lsn, next_lsn}
 use Rattle.log_blocks.specs.LogState.{LogState, Refused, durable_lsn, lsn_behind}
-use Rattle.log_blocks.specs.Opening.{places}
 use Rattle.log_blocks.specs.declared.header.Place.{Place}
 use Rattle.log_blocks.proofs.Progressing.{length-places}
 use Rattle.log_manager.specs.Devices.{IsEnough}
 use Rattle.log_manager.specs.Groups.{EndsBlock, EndsTogether, HoldGroups, records_of}
-use Rattle.log_manager.specs.Managed.{EndBefore, HasMore, Managed, ReadRefused, RecordsLeft, RecycleLeaves, StandsForFrom, StandsForRest, before_lsn, first_kept, records_at, recycled}
+use Rattle.log_manager.specs.Managed.{EndBefore, HasMore, Managed, RecordsLeft, RecycleLeaves, StandsForFrom, StandsForRest, before_lsn, first_kept, records_at, recycled}
 use Rattle.log_manager.specs.Records.{AreIn, AreRecordsOf, IsLogOf, StandsForMoreRecords, checkpoint_in}
 use Rattle.log_manager.proofs.Finding.{first_of, firsts-places, next_of_all}
 use Rattle.log_manager.proofs.Joining.{checkpoint_after-append, in_count, next_count, records_most, records_places}
@@ -146,7 +145,7 @@ module _ {D : Type 0} (told : D → Kept) (may_leave : D → Kept → Type 0) (l
 
     -- ---- a flush that fails
 
-    flush_first : EndsTogether → (k : Kept) (done : ℕ) (s : StandsForMoreRecords (last_checkpoint h.forgotten) (first_kept log) h.stable h.waiting done k) → EndsBlock log.pending s.whole → StandsForFirst rs (durable_lsn log.places) k
+    flush_first : EndsTogether → (k : Kept) (done : ℕ) (s : StandsForMoreRecords (last_checkpoint h.forgotten) (first_kept log) h.stable h.waiting done k) → EndsBlock log.pending s.whole → StandsForFirst rs (durable_lsn log.places + done) k
     flush_first together k done s ends =
         let g = together log.pending w.groups s.whole w.held ends in
         let more = take s.whole h.waiting in
@@ -157,7 +156,7 @@ module _ {D : Type 0} (told : D → Kept) (may_leave : D → Kept → Type 0) (l
           front = front ++ more;
           lost = rest;
           is = is;
-          no_fewer = omega (arith, durable_is, length-append front more);
+          no_fewer = let least = s.no_fewer in let most = s.within in omega (arith, durable_is, length-append front more, length-take s.whole h.waiting, least, most);
           room = subst HasRoom (λ i. parts.0 i ++ sym grouped i) (w.room g.whole);
           stands = record {
             bs = s.stands.bs;
@@ -173,11 +172,11 @@ module _ {D : Type 0} (told : D → Kept) (may_leave : D → Kept → Type 0) (l
           };
         }
 
-    pub keeps_flushed : EndsTogether → (new : LogState D) → RecordsLeft told may_leave (last_checkpoint h.forgotten) h.stable h.waiting log new → KeepsFirst told may_leave rs (durable_lsn log.places) new.device
-    keeps_flushed together new left = record {
+    pub keeps_flushed : EndsTogether → (new : LogState D) → RecordsLeft told may_leave (last_checkpoint h.forgotten) h.stable h.waiting log new → KeepsFirst told may_leave rs (durable_lsn new.places) new.device
+    keeps_flushed together new left = subst (λ (n : ℕ). KeepsFirst told may_leave rs n new.device) (sym left.durable) (record {
       now = flush_first together (told new.device) left.done left.read left.read_whole;
       crash = λ k may. flush_first together k left.done (left.crash k may) (left.crash_whole k may);
-    }
+    })
 
     -- ---- blocks that go, and maybe don't
 
@@ -313,8 +312,9 @@ module _ {D : Type 0} (told : D → Kept) (may_leave : D → Kept → Type 0) (c
   pub flush_leaves : {A : Type 0} → EndsTogether → (result : Result A Fault) → m'.log.next ≡ m.log.next → first_kept m'.log ≡ first_kept m.log
       → OnOk result ((m' ≡ m) ⊎ IsLogOf told may_leave m'.log (last_checkpoint h.forgotten) (h.stable ++ h.waiting) []) → RecordsLeft told may_leave (last_checkpoint h.forgotten) h.stable h.waiting m.log m'.log
       → OnOk result ((m.log.ended ≡ None) × (m'.log.ended ≡ None)) → IfErr result (Refused ⊥ count m.log m'.log) → Done
-  flush_leaves together (Ok x) kept first done left live why = record { runs = λ _. flushed_whole kept first done; ends = λ over. absurd (cc (over, ap is_some live.1)) }
+  flush_leaves together (Ok x) kept first done left live why = record { rises = (flushed_whole kept first done).0; runs = λ _. (flushed_whole kept first done).1; ends = λ over. absurd (cc (over, ap is_some live.1)) }
   flush_leaves together (Err fault) kept first done left live why = record {
+    rises = let more = left.durable in omega (arith, more);
     runs = λ goes. absurd (cc (refused_ends fault why, ap is_some goes));
     ends = λ _. keeps_flushed told may_leave m.log rs h next lawful w together m'.log left;
   }
@@ -337,8 +337,9 @@ module _ {D : Type 0} (told : D → Kept) (may_leave : D → Kept → Type 0) (c
       let after : HoldsEnd told may_leave m'.log rs = record { forgotten = h.forgotten; stable = h.stable; waiting = h.waiting; is = h.is; blocks = now } in
       let places : durable_lsn m'.log.places ≡ durable_lsn m.log.places = ap (λ (x : Managed D). durable_lsn x.log.places) same in
       record {
-        runs = λ _. (omega (arith, places), waits_elsewhere same);
-        ends = λ _. subst (λ (n : ℕ). KeepsFirst told may_leave rs n m'.log.device) places (keeps_durable told may_leave m'.log rs after (ap (λ (x : Managed D). x.log.next) same ∙ next) lawful (waits_elsewhere same));
+        rises = omega (arith, places);
+        runs = λ _. waits_elsewhere same;
+        ends = λ _. (keeps_durable told may_leave m'.log rs after (ap (λ (x : Managed D). x.log.next) same ∙ next) lawful (waits_elsewhere same));
       }
 
   -- ---- blocks that go
@@ -380,14 +381,17 @@ module _ {D : Type 0} (told : D → Kept) (may_leave : D → Kept → Type 0) (c
 
   pub recycle_leaves : {A : Type 0} (result : Result A Fault) (point : ℕ) → point ≤ recycle_point w.stable → EndBefore point m.log.places (before_lsn point m.log.places)
       → OnOk result (m' ≡ record m { log = record m.log { device = m'.log.device; places = drop (before_lsn point m.log.places) m.log.places } })
-      → (m'.log.ended ≡ None → HoldsEnd told may_leave m'.log rs)
+      → OnErr result (m' ≡ record m { log = record m.log { device = m'.log.device; ended = m'.log.ended } }) → (m'.log.ended ≡ None → HoldsEnd told may_leave m'.log rs)
       → RecycleLeaves told may_leave (last_checkpoint h.forgotten) (first_kept m.log) h.stable (recycled point m.log.places) m'.log.device
       → OnOk result ((m.log.ended ≡ None) × (m'.log.ended ≡ None)) → IfErr result (Refused ⊥ count m.log m'.log) → Done
-  recycle_leaves (Ok x) point low ends same after left live why = record { runs = λ goes. recycled_whole point low same (first_left m m' point ends same) (after goes); ends = λ over. absurd (cc (over, ap is_some live.1)) }
-  recycle_leaves (Err fault) point low ends same after left live why = record {
-    runs = λ goes. absurd (cc (refused_ends fault why, ap is_some goes));
-    ends = λ _. keeps_recycled told may_leave m.log rs h next lawful w point low m'.log.device ends left;
-  }
+  recycle_leaves (Ok x) point low ends same kept after left live why = record { rises = (recycled_whole point low same (first_left m m' point ends same) (after live.1)).0; runs = λ goes. (recycled_whole point low same (first_left m m' point ends same) (after goes)).1; ends = λ over. absurd (cc (over, ap is_some live.1)) }
+  recycle_leaves (Err fault) point low ends same kept after left live why =
+      let places : durable_lsn m'.log.places ≡ durable_lsn m.log.places = ap (λ (x : Managed D). durable_lsn x.log.places) kept in
+      record {
+        rises = omega (arith, places);
+        runs = λ goes. absurd (cc (refused_ends fault why, ap is_some goes));
+        ends = λ _. subst (λ (n : ℕ). KeepsFirst told may_leave rs n m'.log.device) (sym places) (keeps_recycled told may_leave m.log rs h next lawful w point low m'.log.device ends left);
+      }
 
 -- ---- the fuse
 

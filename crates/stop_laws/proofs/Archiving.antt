@@ -1,11 +1,11 @@
 -- The last LSN that standing runs cover never falls.
-use Rattle.std.proofs.Common.{◌≡◌, ℕ, zero, suc, eqb, cond, ◌+◌, ◌-◌, ◌<◌, ◌≤◌, List, [], ◌∷◌, ◌++◌, length, filter, Bool, true, false, refl, sym, ap, ◌∙◌, subst, arith, inl, inr}
-use Rattle.std.specs.Prelude.{◌⊎◌, ◌||◌, ◌&&◌, nat_lt, slice_get}
+use Rattle.std.proofs.Common.{◌≡◌, ℕ, suc, eqb, cond, ◌-◌, ◌<◌, ◌≤◌, List, [], ◌∷◌, ◌++◌, length, filter, Bool, true, false, refl, sym, ap, ◌∙◌, subst, arith, inl, inr}
+use Rattle.std.specs.Prelude.{◌⊎◌, ◌||◌, nat_lt, slice_get}
 use Rattle.std.specs.Option.{option_map_or}
 use Rattle.std.proofs.lemmas.Bool.{eqb-true}
 use Rattle.std.proofs.lemmas.Bool.Decides.{nat_tests}
 use Rattle.store_model.proofs.Bools.{both_true}
-use Rattle.wal_record.specs.Sound.{AreLawful, IsLawful, RunRule, is_next_run, is_merge_of}
+use Rattle.wal_record.specs.Sound.{AreLawful, IsLawful, is_next_run, is_merge_of}
 use Rattle.wal_record.specs.Upkeep.{archived, in_range, standing_runs, with_run}
 use Rattle.wal_record.specs.declared.analysis.Run.{Run}
 use Rattle.wal_record.specs.declared.record.Record.{Record}

@@ -1,6 +1,6 @@
 -- What is enough of a log for an opening is enough of a longer one, and what the recycle point leaves is.
-use Rattle.std.proofs.Common.{◌≡◌, ℕ, zero, suc, eqb, cond, ◌+◌, ◌-◌, ◌<◌, ◌≤◌, List, [], ◌∷◌, ◌++◌, length, filter, Bool, true, false, refl, sym, ap, ◌∙◌, subst, arith, inl, inr, append_assoc, append-nil}
-use Rattle.std.specs.Prelude.{◌⊎◌, max, min, fold}
+use Rattle.std.proofs.Common.{◌≡◌, ℕ, zero, suc, eqb, cond, ◌+◌, ◌<◌, ◌≤◌, List, [], ◌∷◌, ◌++◌, length, filter, Bool, true, false, refl, sym, ap, ◌∙◌, subst, arith, append_assoc, append-nil}
+use Rattle.std.specs.Prelude.{min, fold}
 use Rattle.std.specs.List.{All, range_with_len}
 use Rattle.std.proofs.lemmas.Bool.{eqb-true}
 use Rattle.std.proofs.lemmas.Bool.Decides.{nat_tests}

@@ -1,6 +1,6 @@
 -- What of a life's log is safe, from its beginning on: entries join, a call of the disk goes well or fails, a commit is
 -- acknowledged, and the life stops.
-use Rattle.std.proofs.Common.{◌≡◌, ℕ, eqb, ◌+◌, ◌<◌, ◌≤◌, List, [], ◌∷◌, ◌++◌, length, take, drop, Option, Some, None, Bool, true, false, refl, sym, ap, ◌∙◌, subst, arith, append_assoc, append-nil, length-append, length-drop, length-take, take-append-drop}
+use Rattle.std.proofs.Common.{◌≡◌, ℕ, eqb, ◌+◌, ◌≤◌, List, [], ◌∷◌, ◌++◌, length, take, drop, Option, Some, None, Bool, true, false, refl, sym, ap, ◌∙◌, subst, arith, append_assoc, append-nil, length-append, length-take, take-append-drop}
 use Rattle.std.specs.Prelude.{◌||◌, ◌-◌, is_some}
 use Rattle.std.specs.List.{list_any}
 use Rattle.std.proofs.lemmas.List.{append_cancel_left, take-append-le}
@@ -11,7 +11,7 @@ use Rattle.log_manager.specs.Groups.{records_of}
 use Rattle.media.specs.Kept.{Kept}
 use Rattle.store_model.proofs.Bools.{or_left, not_both}
 use Rattle.wal_record.specs.History.{life_log, log_of}
-use Rattle.wal_record.specs.Left.{IsLeft, acknowledges, is_commit_of}
+use Rattle.wal_record.specs.Left.{acknowledges, is_commit_of}
 use Rattle.log_manager.specs.Devices.{StandsForLog}
 use Rattle.wal_record.specs.Sound.{AreLawful, HasRoom, IsLawful}
 use Rattle.std.proofs.lemmas.Bool.{eqb-true}
@@ -84,22 +84,19 @@ module _ {D : Type 0} (told : D → Kept) (may_leave : D → Kept → Type 0) (o
       → (log.ended ≡ None → WaitsInGroups log (life_log opening h) → WaitsInGroups log' (life_log opening h ++ recs)) → IsSafe told may_leave opening h' log'
   safe_records es recs now adds none device places ended joins =
       let whole : life_log opening h' ≡ life_log opening h ++ recs = ap (life_log opening) now ∙ life_append opening h es ∙ ap (λ (rs : List Record). life_log opening h ++ rs) adds in
+      let durable : durable_lsn log'.places ≡ durable_lsn log.places = ap (λ ps. durable_lsn ps) places in
       let within = s.within in
       record {
-        least = s.least;
-        begins = s.begins;
-        within = omega (arith, within, ap length whole, length-append (life_log opening h) recs);
+        begins = let first = s.begins in omega (arith, first, durable);
+        within = omega (arith, within, durable, ap length whole, length-append (life_log opening h) recs);
         acknowledged = λ t acked.
             let before : list_any (acknowledges t) h ≡ true = either (list_any (acknowledges t) h) (list_any (acknowledges t) es) (sym (list_any-append (acknowledges t) h es) ∙ ap (list_any (acknowledges t)) (sym now) ∙ acked) (none t) in
-            ap (λ (rs : List Record). list_any (is_commit_of t) (take s.least rs)) whole ∙ ap (list_any (is_commit_of t)) (take-append-le s.least (life_log opening h) recs within) ∙ s.acknowledged t before;
-        runs = λ goes.
-            let was = s.runs (sym ended ∙ goes) in (
-              was.0 ∙ ap (λ ps. durable_lsn ps) (sym places),
-              subst (WaitsInGroups log') (sym whole) (joins (sym ended ∙ goes) was.1),
-            );
+            (λ i. list_any (is_commit_of t) (take (durable i) (whole i))) ∙ ap (list_any (is_commit_of t)) (take-append-le (durable_lsn log.places) (life_log opening h) recs within) ∙ s.acknowledged t before;
+        runs = λ goes. subst (WaitsInGroups log') (sym whole) (joins (sym ended ∙ goes) (s.runs (sym ended ∙ goes)));
         ends = λ over.
-            let was = s.ends (ap is_some (sym ended) ∙ over) in
-            subst (λ (rs : List Record). KeepsFirst told may_leave rs s.least log'.device) (sym whole) (subst (KeepsFirst told may_leave (life_log opening h ++ recs) s.least) (sym device) (keeps_more told may_leave (life_log opening h) recs s.least log.device was));
+            let was = keeps_more told may_leave (life_log opening h) recs (durable_lsn log.places) log.device (s.ends (ap is_some (sym ended) ∙ over)) in
+            subst (λ (rs : List Record). KeepsFirst told may_leave rs (durable_lsn log'.places) log'.device) (sym whole)
+            (subst (λ (x : ℕ × D). KeepsFirst told may_leave (life_log opening h ++ recs) x.0 x.1) (λ i. (sym durable i, sym device i)) was);
       }
 
   -- an entry that is no record
@@ -110,52 +107,40 @@ module _ {D : Type 0} (told : D → Kept) (may_leave : D → Kept → Type 0) (o
 
   -- ---- a call of the disk
 
-  safe_at : (n : ℕ) → s.least ≤ n → n ≤ length (life_log opening h) → h' ≡ h → (log'.ended ≡ None → (n ≡ durable_lsn log'.places) × WaitsInGroups log' (life_log opening h)) → (is_some log'.ended ≡ true → KeepsFirst told may_leave (life_log opening h) n log'.device)
-      → IsSafe told may_leave opening h' log'
-  safe_at n le within now runs ends =
+  pub safe_call : h' ≡ h → GoesOnOrEnds told may_leave (life_log opening h) log log' → IsSafe told may_leave opening h' log'
+  safe_call now call =
+      let more = call.rises in
       subst (λ (x : List Entry). IsSafe told may_leave opening x log') (sym now) (record {
-        least = n;
-        begins = let b = s.begins in omega (arith, b, le);
-        within = within;
-        acknowledged = λ t acked. among_more (is_commit_of t) s.least n (life_log opening h) le s.within (s.acknowledged t acked);
-        runs = runs;
-        ends = ends;
+        begins = let first = s.begins in omega (arith, first, more);
+        within = within log'.ended refl;
+        acknowledged = λ t acked. among_more (is_commit_of t) (durable_lsn log.places) (durable_lsn log'.places) (life_log opening h) more s.within (s.acknowledged t acked);
+        runs = call.runs;
+        ends = call.ends;
       })
-
-  pub safe_call : h' ≡ h → log.ended ≡ None → GoesOnOrEnds told may_leave (life_log opening h) log log' → IsSafe told may_leave opening h' log'
-  safe_call now goes call = by log'.ended refl
     where
-      was : s.least ≡ durable_lsn log.places
-      was = (s.runs goes).0
-
-      by : (o : Option ℕ) → log'.ended ≡ o → IsSafe told may_leave opening h' log'
-      by None e =
-          let on = call.runs e in
-          let more = on.0 in
-          safe_at (durable_lsn log'.places) (omega (arith, was, more)) (durable_within log' (life_log opening h) on.1) now (λ _. (refl, on.1)) (λ over. absurd (cc (over, ap is_some e)))
-      by (Some at) e =
-          safe_at s.least (omega arith) s.within now (λ goes. absurd (cc (goes, e)))
-          (λ over. subst (λ (n : ℕ). KeepsFirst told may_leave (life_log opening h) n log'.device) (sym was) (call.ends over))
+      within : (o : Option ℕ) → log'.ended ≡ o → durable_lsn log'.places ≤ length (life_log opening h)
+      within None e = durable_within log' (life_log opening h) (call.runs e)
+      within (Some at) e =
+          let k = (call.ends (ap is_some e)).now in
+          let fewer = k.no_fewer in
+          omega (arith, fewer, ap length k.is, length-append k.front k.lost)
 
   -- ---- a commit is acknowledged, which stands in the log, once all is durable
   pub safe_acked : (session tx : ℕ) → h' ≡ h ++ entries.Acked session tx ∷ [] → log' ≡ log → log.ended ≡ None → list_any (is_commit_of tx) (life_log opening h) ≡ true → length (life_log opening h) ≤ durable_lsn log.places
       → IsSafe told may_leave opening h' log'
   safe_acked session tx now same goes there all =
       let whole : life_log opening h' ≡ life_log opening h = ap (life_log opening) now ∙ life_append opening h (entries.Acked session tx ∷ []) ∙ append-nil (life_log opening h) in
-      let was = s.runs goes in
-      let at = was.0 in
       let within = s.within in
-      let size : s.least ≡ length (life_log opening h) = omega (arith, at, within, all) in
-      let full : take s.least (life_log opening h) ≡ life_log opening h =
+      let size : durable_lsn log.places ≡ length (life_log opening h) = omega (arith, within, all) in
+      let full : take (durable_lsn log.places) (life_log opening h) ≡ life_log opening h =
       ap (λ (n : ℕ). take n (life_log opening h)) size ∙ ap (take (length (life_log opening h))) (sym (append-nil (life_log opening h))) ∙ take-append_seam (life_log opening h) [] in
       subst (IsSafe told may_leave opening h') (sym same) (record {
-        least = s.least;
         begins = s.begins;
         within = omega (arith, within, ap length whole);
         acknowledged = λ t acked.
-            ap (λ (rs : List Record). list_any (is_commit_of t) (take s.least rs)) whole
+            ap (λ (rs : List Record). list_any (is_commit_of t) (take (durable_lsn log.places) rs)) whole
             ∙ by t (list_any (acknowledges t) h) refl (sym (list_any-append (acknowledges t) h (entries.Acked session tx ∷ [])) ∙ ap (list_any (acknowledges t)) (sym now) ∙ acked) full;
-        runs = λ _. (at, subst (WaitsInGroups log) (sym whole) was.1);
+        runs = λ _. subst (WaitsInGroups log) (sym whole) (s.runs goes);
         ends = λ over. absurd (cc (over, ap is_some goes));
       })
     where
@@ -166,7 +151,7 @@ module _ {D : Type 0} (told : D → Kept) (may_leave : D → Kept → Type 0) (o
           by_or true e = refl
           by_or false e = absurd cc
 
-      by : (t : ℕ) (b : Bool) → list_any (acknowledges t) h ≡ b → (b || list_any (acknowledges t) (entries.Acked session tx ∷ [])) ≡ true → take s.least (life_log opening h) ≡ life_log opening h → list_any (is_commit_of t) (take s.least (life_log opening h)) ≡ true
+      by : (t : ℕ) (b : Bool) → list_any (acknowledges t) h ≡ b → (b || list_any (acknowledges t) (entries.Acked session tx ∷ [])) ≡ true → take (durable_lsn log.places) (life_log opening h) ≡ life_log opening h → list_any (is_commit_of t) (take (durable_lsn log.places) (life_log opening h)) ≡ true
       by t true e acked full = s.acknowledged t e
       by t false e acked full = ap (list_any (is_commit_of t)) full ∙ subst (λ (n : ℕ). list_any (is_commit_of n) (life_log opening h) ≡ true) (this t acked) there
 
@@ -176,19 +161,18 @@ pub safe_start : {D : Type 0} (told : D → Kept) (may_leave : D → Kept → Ty
 safe_start told may_leave opening log goes durable w =
     let whole : life_log opening [] ≡ opening = append-nil opening in
     record {
-      least = length opening;
-      begins = omega arith;
-      within = omega (arith, ap length whole);
+      begins = omega (arith, durable);
+      within = omega (arith, durable, ap length whole);
       acknowledged = λ t acked. absurd (cc acked);
-      runs = λ _. (durable, subst (WaitsInGroups log) (sym whole) w);
+      runs = λ _. subst (WaitsInGroups log) (sym whole) w;
       ends = λ over. absurd (cc (over, ap is_some goes));
     }
 
 -- ---- and stops
 
-module _ {D : Type 0} (told : D → Kept) (may_leave : D → Kept → Type 0) (opening : List Record) (h : List Entry) (disk : D) (least : ℕ) (begins : length opening ≤ least) (within : least ≤ length (life_log opening h))
-    (acknowledged : HasAcknowledged h (take least (life_log opening h))) (lawful : AreLawful (life_log opening h)) where
-  left_on : (k : Kept) → StandsForFirst (life_log opening h) least k → StandsForLeft opening h k
+module _ {D : Type 0} (told : D → Kept) (may_leave : D → Kept → Type 0) (opening : List Record) (h : List Entry) (disk : D) (least number : ℕ) (begins : length opening ≤ least)
+    (acknowledged : HasAcknowledged h (take least (life_log opening h))) (lawful : AreLawful (life_log opening h)) (low : number ≤ least) where
+  left_on : (k : Kept) → StandsForFirst (life_log opening h) least k → StandsForLeft opening h number k
   left_on k s =
       let fewer = s.no_fewer in
       let split : opening ++ drop (length opening) s.front ≡ s.front = ap (λ (l : List Record). l ++ drop (length opening) s.front) (sym front) ∙ take-append-drop (length opening) s.front in
@@ -204,6 +188,7 @@ module _ {D : Type 0} (told : D → Kept) (may_leave : D → Kept → Type 0) (o
           acknowledged = λ t acked. subst (λ (l : List Record). list_any (is_commit_of t) l ≡ true) (sym split)
               (among_front (is_commit_of t) least s.front s.lost fewer (subst (λ (l : List Record). list_any (is_commit_of t) (take least l) ≡ true) s.is (acknowledged t acked)));
         };
+        no_fewer = omega (arith, fewer, low, ap length split);
         stands = subst (λ (l : List Record). StandsForLog l k) (sym split) s.stands;
       }
     where
@@ -214,5 +199,13 @@ module _ {D : Type 0} (told : D → Kept) (may_leave : D → Kept → Type 0) (o
           let within : length opening ≤ length s.front = omega (arith, begins, fewer) in
           sym (take-append-le (length opening) s.front s.lost within) ∙ ap (take (length opening)) (sym s.is) ∙ take-append_seam opening (log_of h)
 
-  pub leaves_life : KeepsFirst told may_leave (life_log opening h) least disk → LeavesLife told may_leave opening h disk
+  pub leaves_life : KeepsFirst told may_leave (life_log opening h) least disk → LeavesLife told may_leave opening h number disk
   leaves_life k = record { now = left_on (told disk) k.now; crash = λ c left. left_on c (k.crash c left) }
+
+-- a call that leaves the log as it is
+pub goes_on : {D : Type 0} (told : D → Kept) (may_leave : D → Kept → Type 0) (rs : List Record) (old new : LogState D) → old.ended ≡ None → new ≡ old → WaitsInGroups old rs → GoesOnOrEnds told may_leave rs old new
+goes_on told may_leave rs old new goes same w = record {
+  rises = let e = ap (λ (l : LogState _). durable_lsn l.places) same in omega (arith, e);
+  runs = λ _. subst (λ (l : LogState _). WaitsInGroups l rs) (sym same) w;
+  ends = λ over. absurd (cc (over, ap (λ (l : LogState _). is_some l.ended) same, ap is_some goes));
+}

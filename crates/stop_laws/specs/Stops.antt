@@ -39,11 +39,12 @@ pub record WaitsInGroups {D : Type 0} (log : LogState D) (rs : List Record) : Ty
   pub room : (n : ℕ) → HasRoom (stable ++ records_of (take n groups))
   pub enough : IsEnough stable (first_kept log)
 
--- What a call of the disk makes of a log that goes on. It goes on with the same records, and what was durable still is; or it
--- has ended, and the disk keeps at least what was durable.
+-- What a call of the disk makes of a log that goes on. What was durable still is. It goes on with the same records; or it has
+-- ended, and the disk keeps at least the durable ones.
 pub record GoesOnOrEnds {D : Type 0} (told : D → Kept) (may_leave : D → Kept → Type 0) (rs : List Record) (old new : LogState D) : Type 0 where
-  pub runs : new.ended ≡ None → (durable_lsn old.places ≤ durable_lsn new.places) × WaitsInGroups new rs
-  pub ends : is_some new.ended ≡ true → KeepsFirst told may_leave rs (durable_lsn old.places) new.device
+  pub rises : durable_lsn old.places ≤ durable_lsn new.places
+  pub runs : new.ended ≡ None → WaitsInGroups new rs
+  pub ends : is_some new.ended ≡ true → KeepsFirst told may_leave rs (durable_lsn new.places) new.device
 
 -- ---- a life on it
 
@@ -51,25 +52,25 @@ pub record GoesOnOrEnds {D : Type 0} (told : D → Kept) (may_leave : D → Kept
 abbrev pub HasAcknowledged : List Entry → List Record → Type 0
 HasAcknowledged h rs = (t : ℕ) → list_any (acknowledges t) h ≡ true → list_any (is_commit_of t) rs ≡ true
 
--- The first records of the life's log are safe, at least so many: the opening log and each acknowledged commit. As long as the
--- log goes on they are the durable ones. Once it has ended the disk keeps at least these.
+-- The durable records of the life's log have the opening log and each acknowledged commit. Once the log has ended the disk keeps
+-- at least these.
 pub record IsSafe {D : Type 0} (told : D → Kept) (may_leave : D → Kept → Type 0) (opening : List Record) (h : List Entry) (log : LogState D) : Type 0 where
-  pub least : ℕ
-  pub begins : length opening ≤ least
-  pub within : least ≤ length (life_log opening h)
-  pub acknowledged : HasAcknowledged h (take least (life_log opening h))
-  pub runs : log.ended ≡ None → (least ≡ durable_lsn log.places) × WaitsInGroups log (life_log opening h)
-  pub ends : is_some log.ended ≡ true → KeepsFirst told may_leave (life_log opening h) least log.device
+  pub begins : length opening ≤ durable_lsn log.places
+  pub within : durable_lsn log.places ≤ length (life_log opening h)
+  pub acknowledged : HasAcknowledged h (take (durable_lsn log.places) (life_log opening h))
+  pub runs : log.ended ≡ None → WaitsInGroups log (life_log opening h)
+  pub ends : is_some log.ended ≡ true → KeepsFirst told may_leave (life_log opening h) (durable_lsn log.places) log.device
 
 -- ---- a stop
 
--- The kept bytes stand for a log that a stop may leave of the life.
-pub record StandsForLeft (opening : List Record) (h : List Entry) (k : Kept) : Type 0 where
+-- The kept bytes stand for a log that a stop may leave of the life, with at least so many records.
+pub record StandsForLeft (opening : List Record) (h : List Entry) (least : ℕ) (k : Kept) : Type 0 where
   pub own : List Record
   pub left : IsLeft opening h own
+  pub no_fewer : least ≤ length (opening ++ own)
   pub stands : StandsForLog (opening ++ own) k
 
 -- So does what the disk gives now, and whatever a crash leaves that comes now.
-pub record LeavesLife {D : Type 0} (told : D → Kept) (may_leave : D → Kept → Type 0) (opening : List Record) (h : List Entry) (disk : D) : Type 0 where
-  pub now : StandsForLeft opening h (told disk)
-  pub crash : (k : Kept) → may_leave disk k → StandsForLeft opening h k
+pub record LeavesLife {D : Type 0} (told : D → Kept) (may_leave : D → Kept → Type 0) (opening : List Record) (h : List Entry) (least : ℕ) (disk : D) : Type 0 where
+  pub now : StandsForLeft opening h least (told disk)
+  pub crash : (k : Kept) → may_leave disk k → StandsForLeft opening h least k

@@ -1,7 +1,5 @@
-use Rattle.std.proofs.Common.{◌≡◌, ◌-◌, ap, Some}
-use Rattle.wal_record.specs.Chains.{record_with}
-use Rattle.log_manager.specs.Managed.{IsAt, IsNoBadLog, Managed, first_kept}
-use Rattle.log_manager.proofs.Taking.{answer_map}
+use Rattle.std.proofs.Common.{ap}
+use Rattle.log_manager.specs.Managed.{Managed}
 use Rattle.listed_log.proofs.KeptBlocks.{found_in, kept_read}
 use Rattle.listed_log.proofs.Leaving.{read_leaves}
 use Rattle.listed_log.proofs.listed_log.ListedLog.read.Goals as goal

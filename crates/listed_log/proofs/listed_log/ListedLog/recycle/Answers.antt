@@ -1,5 +1,4 @@
-use Rattle.std.proofs.Common.{◌≡◌, ◌≤◌, ℕ, ap, sym, ◌∙◌, subst, inl, inr}
-use Rattle.std.specs.Prelude.{◌⊎◌}
+use Rattle.std.proofs.Common.{ap}
 use Rattle.log_manager.specs.Managed.{Managed, first_kept}
 use Rattle.wal_record.specs.Checkpoints.{recycle_point}
 use Rattle.listed_log.proofs.KeptBlocks.{first_left, kept_recycled, needed_left, stays_durable}
@@ -37,7 +36,7 @@ returns-in-Ok-clause-left g c goes rs k tells runs w =
     let held = k.records tells runs in
     let later = kept_recycled g.L.Disk.tells g.L.Disk.told g.L.Disk.may_leave g.L.Disk.faults goes rs c.args.self.now.log c.recycle_to.new.self c.args.self.now.listing k (ap (λ (m : Managed _). m.log.next) c.in-Ok.ensures.dropped) c.unneeded-point.result c.recycle_to.result drop.records drop.live drop.refused in
     let low = point_low g.L.Disk.told g.L.Disk.may_leave g.L.Disk.faults c.args.self.now.log c.recycle_to.new.self rs k.lawful held k.next runs w c.unneeded-point.result (c.unneeded-point.ensures goes rs k) in
-    recycle_leaves g.L.Disk.told g.L.Disk.may_leave g.L.Disk.faults c.args.self.now.log c.recycle_to.new.self rs k.lawful held k.next runs w c.recycle_to.result c.unneeded-point.result low drop.these drop.dropped
+    recycle_leaves g.L.Disk.told g.L.Disk.may_leave g.L.Disk.faults c.args.self.now.log c.recycle_to.new.self rs k.lawful held k.next runs w c.recycle_to.result c.unneeded-point.result low drop.these drop.dropped drop.same
     (later.records tells) (drop.left tells _ held.stable held.waiting held.blocks) drop.live drop.refused
 
 pub returns-in-Err-clause-left : goal.returns-in-Err-clause-left
@@ -46,5 +45,5 @@ returns-in-Err-clause-left g c goes rs k tells runs w =
     let held = k.records tells runs in
     let later = kept_recycled g.L.Disk.tells g.L.Disk.told g.L.Disk.may_leave g.L.Disk.faults goes rs c.args.self.now.log c.recycle_to.new.self c.args.self.now.listing k (ap (λ (m : Managed _). m.log.next) c.in-Err.ensures.same) c.unneeded-point.result c.recycle_to.result drop.records drop.live drop.refused in
     let low = point_low g.L.Disk.told g.L.Disk.may_leave g.L.Disk.faults c.args.self.now.log c.recycle_to.new.self rs k.lawful held k.next runs w c.unneeded-point.result (c.unneeded-point.ensures goes rs k) in
-    recycle_leaves g.L.Disk.told g.L.Disk.may_leave g.L.Disk.faults c.args.self.now.log c.recycle_to.new.self rs k.lawful held k.next runs w c.recycle_to.result c.unneeded-point.result low drop.these drop.dropped
+    recycle_leaves g.L.Disk.told g.L.Disk.may_leave g.L.Disk.faults c.args.self.now.log c.recycle_to.new.self rs k.lawful held k.next runs w c.recycle_to.result c.unneeded-point.result low drop.these drop.dropped drop.same
     (later.records tells) (drop.left tells _ held.stable held.waiting held.blocks) drop.live drop.refused
