@@ -238,6 +238,7 @@ module _ {D : Type 0} (told : D → Kept) (may_leave : D → Kept → Type 0) (l
               ap (λ (ps : List Place). get_or (map (λ (p : Place). p.first) ps) (suc n) 0) h.blocks.durable.places_are ∙ ap (λ (ns : List ℕ). get_or ns (suc n) 0) (firsts-places start bs) in
               let gone : recycled point log.places ≡ records_in (take (suc n) bs) = gone_is ∙ ap (λ (m : ℕ). records_in (take m bs)) e in
               subst (λ (l : List Record). IsEnough l (first_kept log + recycled point log.places)) parts.0 (enough_at (first_kept log + recycled point log.places) (omega (arith, first_is, bs_first, gone, at, same, least)))
+
       pub keeps_recycled : (device : D) → EndBefore point log.places (before_lsn point log.places) → RecycleLeaves told may_leave (last_checkpoint h.forgotten) (first_kept log) h.stable (recycled point log.places) device → KeepsFirst told may_leave rs (durable_lsn log.places) device
       keeps_recycled device ends left = record { now = by (told device) left.read; crash = λ k may. by k (left.crash k may) }
         where
