@@ -17,3 +17,4 @@ pub mod Lateness
 pub mod Waiting
 pub mod Barring
 pub mod Analysed
+pub mod Stopping
