@@ -10,7 +10,7 @@ use Rattle.log_manager.specs.Devices.{IsEnough}
 use Rattle.log_manager.specs.Groups.{HoldGroups}
 use Rattle.log_manager.specs.Managed.{Managed, first_kept}
 use Rattle.media.specs.Kept.{Kept}
-use Rattle.page_ops.specs.Groups.{declined_entries, group_entries, record_entries, said_entries}
+use Rattle.page_ops.specs.Groups.{group_entries, record_entries, said_entries}
 use Rattle.page_ops.specs.Outcomes.{begun}
 use Rattle.page_ops.specs.Seeing.{IsConsistent}
 use Rattle.page_ops.specs.declared.group.Said.{Said}
@@ -26,7 +26,7 @@ use Rattle.wal_record.proofs.Pushes.{log_more}
 use Rattle.life_history.proofs.Grouped.{log_group}
 use Rattle.log_laws.proofs.Central.{eqb_self}
 use Rattle.stop_laws.specs.Stops.{GoesOnOrEnds, HasAcknowledged, KeepsFirst, WaitsInGroups}
-use Rattle.stop_laws.proofs.Safe.{leaves_life, life_append, logs_append, safe_acked, safe_call, safe_entry, safe_records, safe_still}
+use Rattle.stop_laws.proofs.Safe.{leaves_life, logs_append, safe_acked, safe_call, safe_entry, safe_records, safe_still}
 use Rattle.listed_log.specs.Listed.{IsLogWith}
 use Rattle.journal.specs.Kept.{AreRecords, IsTold}
 use Rattle.journal.specs.Stops.{AreSafe, Leaves}

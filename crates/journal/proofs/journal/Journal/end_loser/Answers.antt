@@ -1,7 +1,7 @@
 use Rattle.log_manager.specs.Managed.{Managed}
 use Rattle.std.specs.Prelude.{None}
 use Rattle.wal_record.specs.declared.record.Record.TheVariants as kinds
-use Rattle.std.proofs.Common.{◌<◌, ◌+◌, ◌^◌, ◌++◌, ◌∷◌, [], refl, sym, ap, arith}
+use Rattle.std.proofs.Common.{◌<◌, ◌+◌, ◌^◌, ◌∷◌, [], refl, ap, arith}
 use Rattle.life_history.specs.Kept.{end_entry}
 use Rattle.journal.proofs.Grouping.{next_of}
 use Rattle.journal.proofs.Living.{kept_loser_end, kept_refused}

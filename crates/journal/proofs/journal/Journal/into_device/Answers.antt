@@ -1,5 +1,4 @@
-use Rattle.std.proofs.Common.{◌≤◌, ℕ, List, sym, subst, arith, ◌∙◌}
-use Rattle.log_blocks.specs.LogState.{durable_lsn}
+use Rattle.std.proofs.Common.{List, subst, arith, ◌∙◌}
 use Rattle.wal_record.specs.declared.entry.Entry.{Entry}
 use Rattle.journal.specs.Stops.{Leaves}
 use Rattle.journal.proofs.Stopping.{leaves}
