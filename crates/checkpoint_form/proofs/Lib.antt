@@ -1,0 +1,3 @@
+mod Along
+mod Items
+mod Sizes

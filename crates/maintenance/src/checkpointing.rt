@@ -1,0 +1,83 @@
+//! Checkpoints.
+ghost use Rattle.std.specs.Prelude.{◌≡◌, ◌≤◌, ◌∷◌, [], List, length, IfErr, IfOk};
+ghost use Rattle.page_ops.specs.Causes.{Ends, FailsToEnter, NoOther};
+ghost use Rattle.page_ops.specs.Claims.{no_claims};
+ghost use Rattle.page_ops.specs.Seeing.{known};
+ghost use Rattle.wal_record.specs.History.{life_log};
+ghost use Rattle.wal_record.specs.declared.record.Record.{Record};
+ghost use Rattle.maintenance.specs.Checkpoints.{FailsToCheckpoint, TakesCheckpoint, checkpoint_group};
+
+use front::Pass;
+use page_ops::{Entered, Entering, Group, Life, Rights};
+use std::alloc::Global;
+use std::sync::Wait;
+use store_model::{Fault, List, Lsn, Memory};
+use wal_record::{Checkpoint, Entry, Record};
+
+/// The group of a Checkpoint, with what the journal fills in left open.
+fn group_of(alloc: Global) -> Result<Group, Memory>
+    ensures { IfOk result (λ group. group ≡ checkpoint_group) }
+{
+    let mut recs = List::new(alloc);
+    recs.push(Record::Checkpoint(Checkpoint {
+        next_tx: 1,
+        commits: 0,
+        limit: 0,
+        pages: List::new(alloc),
+        transactions: List::new(alloc),
+        lost: 0,
+        unrestored: List::new(alloc),
+        runs: List::new(alloc),
+        next_backup: 1,
+        next_run: 1,
+    }))?;
+    Ok(Group {
+        recs,
+        said: None,
+        room: false,
+        lsn: 0,
+    })
+}
+
+/// Enters a Checkpoint, and gives its LSN.
+fn enter_checkpoint<N: Life, J: Entering<N>, R: Wait>(
+    rt: &R,
+    alloc: Global,
+    journal: &mut J,
+    pass: &mut Pass<Entry, N>,
+) -> Result<Lsn, Fault>
+    ensures entered { TakesCheckpoint N.opens N.entries N.session_entries result (known (J.account journal.old) pass.old no_claims) (known (J.account journal.new) pass.new no_claims) }
+    ensures placed { IfOk result (λ lsn. (opening : List Record) → N.opens opening → lsn ≤ length (life_log opening pass.new.log)) }
+    ensures refused { IfErr result (FailsToEnter NoOther) }
+    ensures ends { Ends N.opens N.log_faults N.made (J.account journal.old) (J.account journal.new) pass.new.log result }
+{
+    let mut rights = Rights::none();
+    let Ok(mut group) = group_of(alloc) else {
+        journal.see(rt, &mut rights, pass);
+        return Err(Fault::Memory);
+    };
+    match journal.enter(rt, alloc, &mut group, &mut rights, pass) {
+        Ok(Entered::At(_)) => Ok(group.lsn),
+        Ok(_) => unreachable!(),
+        Err(fault) => Err(fault),
+    }
+}
+
+/// Takes a Checkpoint: enters it, and makes the log durable up to it. Gives its LSN.
+pub fn checkpoint<N: Life, J: Entering<N>, R: Wait>(
+    rt: &R,
+    alloc: Global,
+    journal: &mut J,
+    pass: &mut Pass<Entry, N>,
+) -> Result<Lsn, Fault>
+    ensures entered { TakesCheckpoint N.opens N.entries N.session_entries result (known (J.account journal.old) pass.old no_claims) (known (J.account journal.new) pass.new no_claims) }
+    ensures durable { IfOk result (λ lsn. (opening : List Record) → N.opens opening → lsn ≤ pass.new.durable) }
+    ensures refused { IfErr result FailsToCheckpoint }
+    ensures ends { Ends N.opens N.log_faults N.made (J.account journal.old) (J.account journal.new) pass.new.log result }
+{
+    let lsn = enter_checkpoint(rt, alloc, journal, pass)?;
+    match journal.flush(rt, lsn, pass) {
+        Ok(()) => Ok(lsn),
+        Err(fault) => Err(fault),
+    }
+}
