@@ -18,3 +18,4 @@ pub mod Waiting
 pub mod Barring
 pub mod Analysed
 pub mod Stopping
+pub mod Checkpoints

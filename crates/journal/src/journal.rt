@@ -30,8 +30,9 @@ ghost use Rattle.wal_record.specs.declared.record.Record.TheVariants as kinds;
 ghost use Rattle.journal.specs.Declined.{IsDeclined, IsTaken};
 ghost use Rattle.journal.specs.Kept.{IsTold};
 ghost use Rattle.journal.specs.Stops.{AreSafe};
-ghost use Rattle.journal.specs.Groups.{EndsLoser, EndsSession, EntersFilled, EntersNow, GroupFollows, IsNext, IsNextPage};
+ghost use Rattle.journal.specs.Groups.{EndsLoser, EndsSession, EntersFilled, EntersNow, GroupFollows, IsCheckpointAlone, IsNext, IsNextPage};
 
+use crate::checkpointing::{can_spell, is_checkpoint_alone};
 use crate::ends::{check_open, make_room, note_fault, tell_durable};
 use crate::filling::{append_all, child_of, end_of, in_range, number_of};
 use crate::in_way::loser_in_way;
@@ -54,7 +55,7 @@ use std::collections::BTreeMap;
 use std::marker::{Brand, Model};
 use std::sync::ledger::Book;
 use store_model::{
-    Fault, KeyRange, Lsn, MOST_PAGES, Memory, Mode, Outcome, PageNo, Pos, Request, TxId,
+    Fault, KeyRange, List, Lsn, MOST_PAGES, Memory, Mode, Outcome, PageNo, Pos, Request, TxId,
 };
 use wal_record::{End, Entry, Record};
 
@@ -569,7 +570,7 @@ impl<'a, L: Disk, N: Life> Journal<'a, L, N> {
         if last == 0 || last >= MOST || before >= MOST {
             return Err(Memory);
         }
-        if !is_fit(&self.history, rights, new, recs) || !have_numbers(recs) {
+        if !is_fit(&self.history, rights, new, recs) || !can_spell(recs) {
             return Err(Memory);
         }
         prepare_group(&mut self.restored, recs)?;
@@ -625,6 +626,39 @@ impl<'a, L: Disk, N: Life> Journal<'a, L, N> {
         }
     }
 
+    /// Enters the Checkpoint that the group asks for, which the listing makes. It wants memory also where that has no form in
+    /// which a log can take it, as no lawful log's has.
+    fn enter_checkpoint(
+        &mut self,
+        alloc: Global,
+        group: &mut Group,
+        rights: &mut Rights<N>,
+        counts: &mut Counts<N>,
+    ) -> Result<(), Memory>
+        requires alone { IsCheckpointAlone group.old.recs }
+        requires group { IsGroup group.old }
+        requires speaker { HasSpeaker rights.old.s group.old.said }
+        requires agrees { Agree N.opens self.old rights.old }
+        requires consistent { IsConsistent N.opens self.old }
+        requires follows { (opening : List Record) → N.opens opening → HasNumbers opening self.old → MayFollow opening self.old group.old }
+        ensures none { OnErr result ((self.new ≡ self.old) × (rights.new ≡ rights.old) × (counts.new ≡ counts.old)) }
+        ensures group { OnErr result (group.new ≡ group.old) }
+        ensures entered { OnOk result (EntersNow group.old group.new rights.old rights.new counts.old counts.new self.old self.new) }
+    {
+        let checkpoint = self.log.listing().checkpoint(alloc)?;
+        let mut recs = List::new(alloc);
+        recs.push(Record::Checkpoint(checkpoint))?;
+        let slice = recs.as_slice();
+        match self.enter_filled(alloc, slice, &group.said, &mut None, rights, counts) {
+            Ok(lsn) => {
+                group.recs = recs;
+                group.lsn = lsn;
+                Ok(())
+            }
+            Err(Memory) => Err(Memory),
+        }
+    }
+
     /// Enters the group, where it has a form that can be entered.
     fn write(
         &mut self,
@@ -644,6 +678,9 @@ impl<'a, L: Disk, N: Life> Journal<'a, L, N> {
         ensures group { OnErr result (group.new ≡ group.old) }
         ensures entered { OnOk result (EntersNow group.old group.new rights.old rights.new counts.old counts.new self.old self.new) }
     {
+        if is_checkpoint_alone(group.recs.as_slice()) {
+            return self.enter_checkpoint(alloc, group, rights, counts);
+        }
         if !can_fill(group.recs.as_slice()) {
             return Err(Memory);
         }
@@ -700,7 +737,7 @@ impl<'a, L: Disk, N: Life> Journal<'a, L, N> {
         })
     }
 
-    /// As `Entering::enter`. It says that it wants memory at a checkpoint, at an End beside another record, and at a group
+    /// As `Entering::enter`. It says that it wants memory at an End beside another record, and at a group
     /// whose form it doesn't know: of more than two records, or of two of which the first names a transaction.
     pub fn enter(
         &mut self,

@@ -22,7 +22,7 @@
 //! 2. [`Journal::lock`] locks a range exactly where no other transaction's lock conflicts. Where that of a live one does, it
 //!    enters the refusal, and tells the least holder and the first of its conflicting ranges. Where only losers' do, it tells
 //!    the least of these, and enters nothing. A loser's locks are on the keys of its open writes, and are read off the listing.
-//! 3. [`Journal::enter`] enters a group in any life, told or not: an answer alone, a record of any kind but Checkpoint,
+//! 3. [`Journal::enter`] enters a group in any life, told or not: an answer alone, a record of any kind,
 //!    with its answer or without, or two records that may stand together, such as the split of a page and the write that
 //!    it was made for. An End stands alone; by it the session's transaction is over, and its locks are let go. Whoever asks may also
 //!    undo a write of a loser, or end it: these records belong to no session. It fills the group in by the listing
@@ -49,10 +49,11 @@
 //!    stop may leave of the life (`Leaves`). That has each acknowledged commit and all that passes were told to be durable, and
 //!    is enough for the next opening. [`Journal::fuse`] and [`Journal::refused`] are the disk's.
 //!
-//! A group that isn't built yet is refused as one that wants memory, which the traits allow. Not built: checkpoints.
+//! A group that isn't built yet is refused as one that wants memory, which the traits allow.
 #![tactic(auto)]
 
 mod device;
+mod checkpointing;
 mod ends;
 mod filling;
 mod in_way;
