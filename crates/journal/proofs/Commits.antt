@@ -1,5 +1,5 @@
 -- A commit, as it is entered: what the journal keeps behind each of its calls, and what the caller knows then.
-use Rattle.std.proofs.Common.{◌≡◌, ℕ, cond, ◌+◌, ◌≤◌, ◌<◌, ◌^◌, List, [], ◌∷◌, ◌++◌, length, None, Bool, true, false, refl, sym, ap, ◌∙◌, subst, inl, inr, arith}
+use Rattle.std.proofs.Common.{◌≡◌, ℕ, cond, ◌+◌, ◌≤◌, ◌<◌, ◌^◌, List, [], ◌∷◌, ◌++◌, length, None, Bool, true, false, refl, sym, ap, ◌∙◌, subst, inl, inr, arith, length-append}
 use Rattle.std.specs.Prelude.{◌⊎◌, is_some, is_err, IfErr, OnOk, Result, Ok, Err}
 use Rattle.std.specs.List.{list_any}
 use Rattle.books.specs.Rights.{SessionClaim}
@@ -17,12 +17,12 @@ use Rattle.store_model.specs.declared.fault.Fault.TheVariants as faults
 use Rattle.wal_record.specs.Chains.{finishes, last}
 use Rattle.wal_record.specs.Checkpoints.{commits}
 use Rattle.wal_record.specs.History.{life_log, live_count, Committed, phase}
-use Rattle.wal_record.specs.Sound.{AreLawful}
+use Rattle.wal_record.specs.Sound.{AreLawful, HasRoom}
 use Rattle.wal_record.specs.declared.record.Record.{Record}
 use Rattle.wal_record.specs.declared.record.Record.TheVariants as kinds
 use Rattle.wal_record.specs.declared.entry.Entry.{Entry}
 use Rattle.wal_record.specs.declared.entry.Entry.TheVariants as entries
-use Rattle.wal_record.proofs.Pushes.{phase_push}
+use Rattle.wal_record.proofs.Pushes.{log_more, phase_push}
 use Rattle.log_laws.proofs.Central.{eqb_self}
 use Rattle.claim_laws.proofs.Filling.{last_in}
 use Rattle.page_ops.specs.Causes.{IsOpen}
@@ -34,12 +34,15 @@ use Rattle.page_ops.specs.declared.outcome.Committed as answers
 use Rattle.life_history.specs.Kept.{commit_entry, counted_more}
 use Rattle.life_history.proofs.Entries.{entered_own}
 use Rattle.listed_log.specs.Listed.{IsLogWith}
+use Rattle.stop_laws.specs.Stops.{GoesOnOrEnds, WaitsInGroups}
 use Rattle.journal.specs.Ends.{IsFailed}
+use Rattle.journal.specs.Stops.{AreSafe}
 use Rattle.journal.specs.Kept.{IsOfLife, EndsByFault, IsKept}
 use Rattle.journal.proofs.Committing.{commit_spelled, goes_on, unfinished, commit_lawful, commit_consistent}
 use Rattle.journal.proofs.Ending.{failed}
 use Rattle.journal.proofs.Entering.{IsLive, entered_entry}
 use Rattle.journal.proofs.Locking.{held_still}
+use Rattle.journal.proofs.Stopping.{acked_safe, call_safe, commit_there, group_safe}
 use Rattle.journal.proofs.Living.{life_entry, life_commit, life_flush, ends_acknowledged, ends_failed}
 
 abbrev commit_of : ℕ → ℕ → Record
@@ -113,6 +116,28 @@ module _ {D : Type 0} (opens : List Record → Type 0) (tells : Type 0) (told : 
             life = life_entry opens tells told may_leave h1 h2 m2 m2 s2 s2 t1 mark' life t1 (entries.Acked session x.tx) acked refl (held_still h1 t1 life.locks (entries.Acked session x.tx) (λ u ls. refl)) still;
             ends = ends_acknowledged m.log.ended h0 h1 h2 faults faults' lsn session x.tx prev ends first acked counted m2.log.ended (goes ∙ sym runs);
           }
+
+      -- ---- what of the log is safe
+
+      module _ (safe : AreSafe opens told may_leave h0 m.log) (device : m1.log.device ≡ m.log.device)
+          (joins : (goes : ℕ → Bool) (rs : List Record) → IsLogWith tells told may_leave goes rs m s → tells → m.log.ended ≡ None → WaitsInGroups m.log rs → HasRoom (rs ++ commit_of tx prev ∷ []) → WaitsInGroups m1.log (rs ++ commit_of tx prev ∷ []))
+          (left : (goes : ℕ → Bool) (rs : List Record) → IsLogWith tells told may_leave goes rs m1 s1 → tells → m1.log.ended ≡ None → WaitsInGroups m1.log rs → GoesOnOrEnds told may_leave rs m1.log m2.log) where
+        committed_safe : AreSafe opens told may_leave h1 m1.log
+        committed_safe =
+            group_safe opens tells told may_leave h0 h1 m m1 s k.records k.telling safe lsn (commit_of x.tx prev ∷ []) None (now ∙ ap (λ (y : List Entry). y ++ commit ∷ []) same)
+            (subst (λ (y : List Entry). IsConsistent opens (y ++ commit ∷ [])) same consistent_then) device places ended
+            (subst (λ (n : ℕ). (goes : ℕ → Bool) (rs : List Record) → IsLogWith tells told may_leave goes rs m s → tells → m.log.ended ≡ None → WaitsInGroups m.log rs → HasRoom (rs ++ commit_of n prev ∷ []) → WaitsInGroups m1.log (rs ++ commit_of n prev ∷ [])) own joins)
+
+        pub failed_safe : (h2 : List Entry) → h2 ≡ h1 → AreSafe opens told may_leave h2 m2.log
+        failed_safe h2 still = call_safe opens tells told may_leave h1 h2 m1 m2 s1 committed.records committed.telling committed_safe still (ended ∙ runs) left
+
+        pub acknowledged_safe : (session : ℕ) → m2.log.ended ≡ None → lsn ≤ durable_lsn m2.log.places → (h2 : List Entry) → h2 ≡ h1 ++ entries.Acked session x.tx ∷ [] → AreSafe opens told may_leave h2 m2.log
+        acknowledged_safe session goes durable h2 acked =
+            acked_safe opens told may_leave h1 h2 m2.log m2.log (failed_safe h1 refl) session x.tx acked refl goes (λ opening stands. commit_there opening h h1 lsn x.tx prev now)
+            (λ opening stands.
+            let at = place_is opening stands in
+            let one : length (life_log opening h1) ≡ length (life_log opening h) + 1 = ap (λ (y : List Entry). length (life_log opening y)) now ∙ ap (λ (rs : List Record). length rs) (log_more opening h lsn (commit_of x.tx prev)) ∙ length-append (life_log opening h) (commit_of x.tx prev ∷ []) in
+            omega (arith, at, one, durable))
 
       pub number_is : (number : ℕ) → ((goes : ℕ → Bool) (rs : List Record) → IsLogWith tells told may_leave goes rs m2 s2 → number ≡ commits rs) → (opening : List Record) → opens opening → number ≡ commits (life_log opening h1)
       number_is number counts opening stands = counts (may_go_on opening) (life_log opening h1) ((flushed_life mark (durable_lsn m2.log.places) refl (inl refl)).records opening stands)

@@ -17,3 +17,5 @@ pub mod Lateness
 pub mod Waiting
 pub mod Barring
 pub mod Analysed
+pub mod Stopping
+pub mod Checkpoints

@@ -112,7 +112,7 @@ module _ {D : Type 0} (opens : List Record → Type 0) (tells : Type 0) (told : 
           commits = let c = k.places.commits in omega (arith, c, ap (λ (x : Managed D). x.spare) room);
           numbers = k.places.numbers;
         };
-        durable = λ opening stands tell runs. subst (λ (l : LogState D). mark ≤ durable_lsn l.places) (sym same) (k.durable opening stands tell (ap (λ (l : LogState D). l.ended) (sym same) ∙ runs));
+        durable = λ opening stands tell. subst (λ (l : LogState D). mark ≤ durable_lsn l.places) (sym same) (k.durable opening stands tell);
       }
 
   -- a beginning, or only room for its commit
@@ -152,7 +152,7 @@ module _ {D : Type 0} (opens : List Record → Type 0) (tells : Type 0) (told : 
               let same = live.0 in
               omega (arith, at, low, most, same, few, ap (λ (l : List Record). length l) (log opening), length-append (life_log opening h) recs);
         };
-        durable = λ opening stands tell runs. subst (λ ps. mark ≤ durable_lsn ps) (sym places) (k.durable opening stands tell (sym ended ∙ runs));
+        durable = λ opening stands tell. subst (λ ps. mark ≤ durable_lsn ps) (sym places) (k.durable opening stands tell);
       }
 
   -- ---- a commit
@@ -200,7 +200,7 @@ module _ {D : Type 0} (opens : List Record → Type 0) (tells : Type 0) (told : 
         locks = subst (λ (l : List Entry). AreHeld l t') (sym now) (released t' (entries.Rec lsn r) tx goes free);
         telling = k.telling;
         places = room;
-        durable = λ opening stands tell runs. subst (λ ps. mark ≤ durable_lsn ps) (sym places) (k.durable opening stands tell (sym ended ∙ runs));
+        durable = λ opening stands tell. subst (λ ps. mark ≤ durable_lsn ps) (sym places) (k.durable opening stands tell);
       }
 
   pub life_commit : (t' : RangeLocks) (lsn tx prev : ℕ) → h' ≡ h ++ commit_entry lsn tx prev ∷ [] → table.Releases t t' tx → live_count h' + 1 ≡ live_count h → m'.spare + 1 ≡ m.spare → m'.log.places ≡ m.log.places → m'.log.ended ≡ m.log.ended
@@ -220,9 +220,9 @@ life_flush opens tells told may_leave h m m' s s' t mark mark' durable k runs sa
   locks = k.locks;
   telling = k.telling;
   places = record { commits = subst (λ n. live_count h ≤ n) (sym spare) k.places.commits; numbers = k.places.numbers };
-  durable = λ opening stands tell _.
+  durable = λ opening stands tell.
       let more = rises (may_go_on opening) (life_log opening h) (k.records opening stands) tell runs in
-      let was = k.durable opening stands tell runs in
+      let was = k.durable opening stands tell in
       elim marked [
         | inl old ↦ omega (arith, old, was, more)
         | inr new ↦ omega (arith, new, is)
@@ -308,7 +308,7 @@ module _ {D : Type 0} (opens : List Record → Type 0) (tells : Type 0) (told : 
       locks = k.life.locks;
       telling = k.life.telling;
       places = record { commits = let c = k.life.places.commits in omega (arith, c, spare); numbers = k.life.places.numbers };
-      durable = λ opening stands tell runs. subst (λ ps. mark ≤ durable_lsn ps) (sym places) (k.life.durable opening stands tell (sym ended ∙ runs));
+      durable = λ opening stands tell. subst (λ ps. mark ≤ durable_lsn ps) (sym places) (k.life.durable opening stands tell);
     };
     ends = record {
       acknowledged = λ runs. k.ends.acknowledged (sym ended ∙ runs);
@@ -356,12 +356,27 @@ kept_told opens tells told may_leave h m s t mark mark' durable faults k is mark
     locks = k.life.locks;
     telling = k.life.telling;
     places = k.life.places;
-    durable = λ opening stands tell runs.
-        let was = k.life.durable opening stands tell runs in
+    durable = λ opening stands tell.
+        let was = k.life.durable opening stands tell in
         elim marked [
           | inl old ↦ omega (arith, old, was)
           | inr new ↦ omega (arith, new, is)
         ];
   };
   ends = k.ends;
+}
+
+-- the disk's fuse changes nothing of it
+pub kept_fused : {D : Type 0} (opens : List Record → Type 0) (tells : Type 0) (told : D → Kept) (may_leave : D → Kept → Type 0) (h : List Entry) (m m' : Managed D) (s s' : Listing) (t : RangeLocks) (mark faults : ℕ)
+    → IsKept opens tells told may_leave h m s t mark faults → ((goes : ℕ → Bool) (rs : List Record) → IsLogWith tells told may_leave goes rs m s → IsLogWith tells told may_leave goes rs m' s') → m'.spare ≡ m.spare → m'.log.places ≡ m.log.places → m'.log.ended ≡ m.log.ended
+    → IsKept opens tells told may_leave h m' s' t mark faults
+kept_fused opens tells told may_leave h m m' s s' t mark faults k same spare places ended = record {
+  life = record {
+    records = λ opening stands. same (may_go_on opening) (life_log opening h) (k.life.records opening stands);
+    locks = k.life.locks;
+    telling = k.life.telling;
+    places = record { commits = subst (λ n. live_count h ≤ n) (sym spare) k.life.places.commits; numbers = k.life.places.numbers };
+    durable = λ opening stands tell. subst (λ ps. mark ≤ durable_lsn ps) (sym places) (k.life.durable opening stands tell);
+  };
+  ends = subst (λ (e : Option ℕ). EndsByFault e h faults) (sym ended) k.ends;
 }

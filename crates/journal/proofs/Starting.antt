@@ -43,7 +43,7 @@ kept_start opens tells told may_leave h m s t faults begins goes fresh few recor
         locks = none_held t none;
         telling = telling;
         places = record { commits = omega arith; numbers = λ opening stands. let f = few opening stands in omega (arith, f, ap (λ (l : List Record). length l) (same opening)) };
-        durable = λ opening stands tell runs. omega arith;
+        durable = λ opening stands tell. omega arith;
       };
       ends = record {
         acknowledged = λ _. nothing_waits;

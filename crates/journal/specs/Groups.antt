@@ -74,3 +74,8 @@ pub record EntersNow (asked now : Group) (x x' : Claims) (a a' : Account) (h h' 
   pub holders : SameHolders x x'
   pub made : page_of x'.c ≡ new_place (made_by asked.recs) child (page_of x.c)
   pub numbered : IsSome (made_by asked.recs) → IsTrue (is_child child)
+
+-- the records are a Checkpoint alone
+abbrev pub IsCheckpointAlone : List Record → Type 0
+IsCheckpointAlone (kinds.Checkpoint c ∷ []) = Unit {0}
+IsCheckpointAlone _ = ⊥

@@ -33,7 +33,7 @@ pub record IsOfLife {D : Type 0} (opens : List Record → Type 0) (tells : Type 
   pub locks : AreHeld h t
   pub telling : IsTold opens tells
   pub places : HasPlaces opens h m.spare
-  pub durable : (opening : List Record) → opens opening → tells → m.log.ended ≡ None → mark ≤ durable_lsn m.log.places
+  pub durable : (opening : List Record) → opens opening → tells → mark ≤ durable_lsn m.log.places
 
 -- As long as the log hasn't ended no commit waits, and no fault of its disk was counted. Where it has ended, one was.
 pub record EndsByFault (ended : Option ℕ) (h : List Entry) (faults : ℕ) : Type 0 where

@@ -6,3 +6,4 @@ pub mod Losers
 pub mod Groups
 pub mod Lookups
 pub mod Restored
+pub mod Stops

@@ -6,6 +6,7 @@ ghost use Rattle.listed_log.specs.Listed.{IsLogWith};
 ghost use Rattle.log_blocks.specs.LogState.{durable_lsn};
 ghost use Rattle.log_manager.specs.Managed.{IsNoBadLog, first_kept};
 ghost use Rattle.page_ops.specs.Causes.{IsOpen};
+ghost use Rattle.stop_laws.specs.Stops.{GoesOnOrEnds, WaitsInGroups};
 ghost use Rattle.store_model.specs.declared.fault.Fault.TheVariants as answers;
 ghost use Rattle.wal_record.specs.Checkpoints.{recycle_point};
 ghost use Rattle.wal_record.specs.declared.record.Record.{Record};
@@ -119,6 +120,8 @@ pub(crate) fn find<L: Disk, N: Life>(
     ensures found { (goes : ℕ → Bool) (rs : List Record) → IsLogWith L.tells L.told L.may_leave goes rs log.old.log log.old.listing → L.tells → IfOk result (IsFoundIn rs lsn) × IfErr result IsNoBadLog }
     ensures spelling { IfOk result HasSpelledRecord }
     ensures same { (goes : ℕ → Bool) (rs : List Record) → IsLogWith L.tells L.told L.may_leave goes rs log.old.log log.old.listing → IsLogWith L.tells L.told L.may_leave goes rs log.new.log log.new.listing }
+    ensures left { (goes : ℕ → Bool) (rs : List Record) → IsLogWith L.tells L.told L.may_leave goes rs log.old.log log.old.listing → L.tells → log.old.log.log.ended ≡ None → WaitsInGroups log.old.log.log rs
+        → GoesOnOrEnds L.told L.may_leave rs log.old.log.log log.new.log.log }
     ensures places { (log.new.log.spare ≡ log.old.log.spare) × (log.new.log.log.places ≡ log.old.log.log.places) }
     ensures unread { IfErr result IsUnread }
     ensures ends { EndsCall log.new.log.log.ended faults.old.total faults.new.total counts.old counts.new result }
@@ -154,6 +157,8 @@ pub(crate) fn recycle_log<L: Disk, N: Life>(
     ensures same { (goes : ℕ → Bool) (rs : List Record) → IsLogWith L.tells L.told L.may_leave goes rs log.old.log log.old.listing → IsLogWith L.tells L.told L.may_leave goes rs log.new.log log.new.listing }
     ensures rises { (goes : ℕ → Bool) (rs : List Record) → IsLogWith L.tells L.told L.may_leave goes rs log.old.log log.old.listing
         → L.tells → log.old.log.log.ended ≡ None → durable_lsn log.old.log.log.places ≤ durable_lsn log.new.log.log.places }
+    ensures left { (goes : ℕ → Bool) (rs : List Record) → IsLogWith L.tells L.told L.may_leave goes rs log.old.log log.old.listing → L.tells → log.old.log.log.ended ≡ None → WaitsInGroups log.old.log.log rs
+        → GoesOnOrEnds L.told L.may_leave rs log.old.log.log log.new.log.log }
     ensures spare { log.new.log.spare ≡ log.old.log.spare }
     ensures unread { IfErr result (λ fault. fault ≡ answers.LogFault) }
     ensures ends { EndsCall log.new.log.log.ended faults.old.total faults.new.total counts.old counts.new result }

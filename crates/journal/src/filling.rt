@@ -4,7 +4,8 @@ ghost use Rattle.std.specs.List.{All};
 ghost use Rattle.listed_log.specs.Listed.{IsLogWith, Joins};
 ghost use Rattle.log_manager.specs.Payload.{bytes_of};
 ghost use Rattle.wal_record.specs.Rules.{HasSpelling};
-ghost use Rattle.wal_record.specs.Sound.{AreLawful};
+ghost use Rattle.stop_laws.specs.Stops.{WaitsInGroups};
+ghost use Rattle.wal_record.specs.Sound.{AreLawful, HasRoom};
 ghost use Rattle.wal_record.specs.declared.record.Record.{Record};
 ghost use Rattle.wal_record.specs.declared.record.Record.TheVariants as kinds;
 
@@ -30,6 +31,10 @@ pub(crate) fn append_all<L: Disk>(
     ensures more { (goes : ℕ → Bool) (rs : List Record) → IsLogWith L.tells L.told L.may_leave goes rs log.old.log log.old.listing → AreLawful (rs ++ recs.now) → length rs < 2 ^ 62
         → OnOk result (IsLogWith L.tells L.told L.may_leave goes (rs ++ recs.now) log.new.log log.new.listing) }
     ensures same { (goes : ℕ → Bool) (rs : List Record) → IsLogWith L.tells L.told L.may_leave goes rs log.old.log log.old.listing → OnErr result (IsLogWith L.tells L.told L.may_leave goes rs log.new.log log.new.listing) }
+    ensures groups { (goes : ℕ → Bool) (rs : List Record) → IsLogWith L.tells L.told L.may_leave goes rs log.old.log log.old.listing → L.tells → log.old.log.log.ended ≡ None → WaitsInGroups log.old.log.log rs → HasRoom (rs ++ recs.now)
+        → OnOk result (WaitsInGroups log.new.log.log (rs ++ recs.now)) }
+    ensures kept { OnErr result (log.new.log ≡ log.old.log) }
+    ensures device { log.new.log.log.device ≡ log.old.log.log.device }
     ensures spare { log.new.log.spare ≡ log.old.log.spare }
     ensures disk { (log.new.log.log.places ≡ log.old.log.log.places) × (log.new.log.log.ended ≡ log.old.log.log.ended) }
 {

@@ -3,6 +3,7 @@ ghost use Rattle.std.specs.Prelude.{◌≡◌, ◌+◌, ◌<◌, ◌≤◌, ◌^
 ghost use Rattle.std.specs.List.{All, list_any};
 ghost use Rattle.group_filling.specs.Fitting.{AreInRange};
 ghost use Rattle.log_index.specs.GoingOn.{may_go_on};
+ghost use Rattle.log_blocks.specs.LogState.{durable_lsn};
 ghost use Rattle.log_manager.specs.Payload.{bytes_of};
 ghost use Rattle.listed_log.specs.Listed.{IsLogWith, Joins};
 ghost use Rattle.page_ops.specs.Asking.{HasNumbers, HasRoomFor, IsAskable, IsLate, IsTimely, LacksRoomFor, MayBeDeclined, MayFollow, WasTimely, can_be_late};
@@ -28,8 +29,10 @@ ghost use Rattle.wal_record.specs.declared.record.Record.{Record};
 ghost use Rattle.wal_record.specs.declared.record.Record.TheVariants as kinds;
 ghost use Rattle.journal.specs.Declined.{IsDeclined, IsTaken};
 ghost use Rattle.journal.specs.Kept.{IsTold};
-ghost use Rattle.journal.specs.Groups.{EndsLoser, EndsSession, EntersFilled, EntersNow, GroupFollows, IsNext, IsNextPage};
+ghost use Rattle.journal.specs.Stops.{AreSafe};
+ghost use Rattle.journal.specs.Groups.{EndsLoser, EndsSession, EntersFilled, EntersNow, GroupFollows, IsCheckpointAlone, IsNext, IsNextPage};
 
+use crate::checkpointing::{can_spell, is_checkpoint_alone};
 use crate::ends::{check_open, make_room, note_fault, tell_durable};
 use crate::filling::{append_all, child_of, end_of, in_range, number_of};
 use crate::in_way::loser_in_way;
@@ -52,7 +55,7 @@ use std::collections::BTreeMap;
 use std::marker::{Brand, Model};
 use std::sync::ledger::Book;
 use store_model::{
-    Fault, KeyRange, Lsn, MOST_PAGES, Memory, Mode, Outcome, PageNo, Pos, Request, TxId,
+    Fault, KeyRange, List, Lsn, MOST_PAGES, Memory, Mode, Outcome, PageNo, Pos, Request, TxId,
 };
 use wal_record::{End, Entry, Record};
 
@@ -83,18 +86,19 @@ impl<'a, L: Disk, N: Life> Model for Journal<'a, L, N> {
     ghost use Rattle.journal.specs.Kept.{IsKept};
     ghost use Rattle.journal.specs.Losers.{HasLosers};
     ghost use Rattle.journal.specs.Restored.{AreRestored};
+    ghost use Rattle.journal.specs.Stops.{AreSafe};
 
     ghost Value = { List Entry };
 
     ghost view = { λ j. j.history };
 
-    ghost invariant = { λ j. (j.mark ≡ j.marked) × IsKept N.opens L.tells L.told L.may_leave j.history j.log.log j.log.listing j.locks j.marked j.faults.total × AreRestored j.history j.restored × HasLosers N.opens j.history j.losers };
+    ghost invariant = { λ j. (j.mark ≡ j.marked) × IsKept N.opens L.tells L.told L.may_leave j.history j.log.log j.log.listing j.locks j.marked j.faults.total × AreRestored j.history j.restored × HasLosers N.opens j.history j.losers × AreSafe N.opens L.told L.may_leave j.history j.log.log.log };
 }
 
 impl<'a, L: Disk, N: Life> Journal<'a, L, N> {
-    /// The journal of a life that has just begun, with a log that hasn't ended and that has the records of the opening log, and
-    /// with the losers of that. No fault of the disk was counted, and no pass was told what is durable. An opening log is known
-    /// only where the disk tells what it keeps.
+    /// The journal of a life that has just begun, with a log that hasn't ended and that has the records of the opening log, all
+    /// of them durable, and with the losers of that. No fault of the disk was counted, and passes were told of nothing as durable that isn't: the one
+    /// that goes on is told now. An opening log is known only where the disk tells what it keeps.
     pub fn start(
         alloc: Global,
         log: ListedLog<L>,
@@ -102,22 +106,30 @@ impl<'a, L: Disk, N: Life> Journal<'a, L, N> {
         mark: Mark<Entry, N>,
         faults: Book<LogFaults<N>>,
         losers: Losers,
+        pass: &mut Pass<Entry, N>,
     ) -> Journal<'a, L, N>
         requires goes { log.log.log.ended ≡ None }
         requires begins { history ≡ [] }
-        requires fresh { (mark ≡ 0) × (faults.total ≡ 0) }
+        requires fresh { (mark ≤ durable_lsn log.log.log.places) × (faults.total ≡ 0) }
         requires few { (opening : List Record) → N.opens opening → length opening ≤ 2 ^ 62 }
         requires records { (opening : List Record) → N.opens opening → IsLogWith L.tells L.told L.may_leave (may_go_on opening) opening log.log log.listing }
         requires losers { (opening : List Record) → N.opens opening → losers ≡ map untouched (writes.losers opening) }
         requires telling { IsTold N.opens L.tells }
-        ensures { result ≡ [] }
+        requires safe { AreSafe N.opens L.told L.may_leave [] log.log.log }
+        ensures begins { result ≡ [] }
+        ensures durable { (opening : List Record) → N.opens opening → length opening ≤ pass.new.durable }
+        ensures log { pass.new.log ≡ pass.old.log }
+        ensures before { pass.old.durable ≤ pass.new.durable }
     {
+        let mut mark = mark;
+        let marked = log.durable();
+        mark.store(&history.ground().board, marked, pass);
         Journal {
             log,
             locks: RangeLocks::new(alloc),
             history,
             mark,
-            marked: 0,
+            marked,
             faults,
             made: None,
             restored: BTreeMap::new(alloc),
@@ -558,7 +570,7 @@ impl<'a, L: Disk, N: Life> Journal<'a, L, N> {
         if last == 0 || last >= MOST || before >= MOST {
             return Err(Memory);
         }
-        if !is_fit(&self.history, rights, new, recs) || !have_numbers(recs) {
+        if !is_fit(&self.history, rights, new, recs) || !can_spell(recs) {
             return Err(Memory);
         }
         prepare_group(&mut self.restored, recs)?;
@@ -614,6 +626,39 @@ impl<'a, L: Disk, N: Life> Journal<'a, L, N> {
         }
     }
 
+    /// Enters the Checkpoint that the group asks for, which the listing makes. It wants memory also where that has no form in
+    /// which a log can take it, as no lawful log's has.
+    fn enter_checkpoint(
+        &mut self,
+        alloc: Global,
+        group: &mut Group,
+        rights: &mut Rights<N>,
+        counts: &mut Counts<N>,
+    ) -> Result<(), Memory>
+        requires alone { IsCheckpointAlone group.old.recs }
+        requires group { IsGroup group.old }
+        requires speaker { HasSpeaker rights.old.s group.old.said }
+        requires agrees { Agree N.opens self.old rights.old }
+        requires consistent { IsConsistent N.opens self.old }
+        requires follows { (opening : List Record) → N.opens opening → HasNumbers opening self.old → MayFollow opening self.old group.old }
+        ensures none { OnErr result ((self.new ≡ self.old) × (rights.new ≡ rights.old) × (counts.new ≡ counts.old)) }
+        ensures group { OnErr result (group.new ≡ group.old) }
+        ensures entered { OnOk result (EntersNow group.old group.new rights.old rights.new counts.old counts.new self.old self.new) }
+    {
+        let checkpoint = self.log.listing().checkpoint(alloc)?;
+        let mut recs = List::new(alloc);
+        recs.push(Record::Checkpoint(checkpoint))?;
+        let slice = recs.as_slice();
+        match self.enter_filled(alloc, slice, &group.said, &mut None, rights, counts) {
+            Ok(lsn) => {
+                group.recs = recs;
+                group.lsn = lsn;
+                Ok(())
+            }
+            Err(Memory) => Err(Memory),
+        }
+    }
+
     /// Enters the group, where it has a form that can be entered.
     fn write(
         &mut self,
@@ -633,6 +678,9 @@ impl<'a, L: Disk, N: Life> Journal<'a, L, N> {
         ensures group { OnErr result (group.new ≡ group.old) }
         ensures entered { OnOk result (EntersNow group.old group.new rights.old rights.new counts.old counts.new self.old self.new) }
     {
+        if is_checkpoint_alone(group.recs.as_slice()) {
+            return self.enter_checkpoint(alloc, group, rights, counts);
+        }
         if !can_fill(group.recs.as_slice()) {
             return Err(Memory);
         }
@@ -689,7 +737,7 @@ impl<'a, L: Disk, N: Life> Journal<'a, L, N> {
         })
     }
 
-    /// As `Entering::enter`. It says that it wants memory at a checkpoint, at an End beside another record, and at a group
+    /// As `Entering::enter`. It says that it wants memory at an End beside another record, and at a group
     /// whose form it doesn't know: of more than two records, or of two of which the first names a transaction.
     pub fn enter(
         &mut self,

@@ -14,13 +14,15 @@
 //! life may have begun, the log and its listing are those of the life; the table holds exactly the locks that were taken
 //! and not released; the table of losers is that of the history; there is room for the commit of each live transaction; what passes were told to be durable is; and as
 //! long as the log hasn't ended, no commit waits for its acknowledgement and no fault was counted. What each of the three
-//! keeps of itself is its own invariant. What is promised so far:
+//! keeps of itself is its own invariant. Beside it stands `AreSafe` (`specs/Stops`): the durable records have the opening log
+//! and each acknowledged commit, and those that wait are whole groups; once the log has ended, the disk keeps at least the
+//! durable ones. What is promised so far:
 //!
 //! 1. [`Journal::begin`] begins a transaction, and makes the room in the log that its commit needs.
 //! 2. [`Journal::lock`] locks a range exactly where no other transaction's lock conflicts. Where that of a live one does, it
 //!    enters the refusal, and tells the least holder and the first of its conflicting ranges. Where only losers' do, it tells
 //!    the least of these, and enters nothing. A loser's locks are on the keys of its open writes, and are read off the listing.
-//! 3. [`Journal::enter`] enters a group in any life, told or not: an answer alone, a record of any kind but Checkpoint,
+//! 3. [`Journal::enter`] enters a group in any life, told or not: an answer alone, a record of any kind,
 //!    with its answer or without, or two records that may stand together, such as the split of a page and the write that
 //!    it was made for. An End stands alone; by it the session's transaction is over, and its locks are let go. Whoever asks may also
 //!    undo a write of a loser, or end it: these records belong to no session. It fills the group in by the listing
@@ -42,9 +44,16 @@
 //!    isn't its last open one any more, and the End of a loser that has one. [`losers_of`] gives the losers with which a life
 //!    begins; [`Journal::least_loser`] and [`Journal::losers`] tell those that are left.
 //!
-//! A group that isn't built yet is refused as one that wants memory, which the traits allow. Not built: checkpoints.
+//! 9. [`Journal::start`] tells the first pass that the opening log is durable. [`Journal::into_device`] hands the log disk out
+//!    as the life stops, at any moment, also behind a fault: whatever it keeps then, or after a crash, stands for a log that a
+//!    stop may leave of the life (`Leaves`). That has each acknowledged commit and all that passes were told to be durable, and
+//!    is enough for the next opening. [`Journal::fuse`] and [`Journal::refused`] are the disk's.
+//!
+//! A group that isn't built yet is refused as one that wants memory, which the traits allow.
 #![tactic(auto)]
 
+mod device;
+mod checkpointing;
 mod ends;
 mod filling;
 mod in_way;

@@ -14,7 +14,7 @@ use Rattle.log_manager.specs.Managed.{Managed, HasMore}
 use Rattle.log_manager.specs.Records.{IsLogOf}
 use Rattle.store_model.specs.declared.fault.Fault.{Fault}
 use Rattle.store_model.specs.declared.fault.Fault.TheVariants as faults
-use Rattle.wal_record.specs.Chains.{finishes, last}
+use Rattle.wal_record.specs.Chains.{finishes}
 use Rattle.wal_record.specs.Checkpoints.{last_checkpoint}
 use Rattle.wal_record.specs.Sound.{AreLawful}
 use Rattle.wal_record.specs.declared.record.Record.{Record}

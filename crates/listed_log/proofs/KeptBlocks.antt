@@ -1,12 +1,11 @@
 -- What the log keeps: where a record stands, and which blocks are forgotten.
-use Rattle.std.proofs.Common.{◌≡◌, ℕ, zero, suc, ◌+◌, ◌<◌, ◌≤◌, List, [], ◌∷◌, ◌++◌, length, get_or, take, drop, Option, Some, None, Bool, refl, sym, ap, ◌∙◌, subst, arith, append_assoc, length-append, inl, inr}
+use Rattle.std.proofs.Common.{◌≡◌, ℕ, zero, suc, ◌+◌, ◌<◌, ◌≤◌, List, [], ◌∷◌, ◌++◌, length, get_or, take, drop, Some, None, Bool, refl, sym, ap, ◌∙◌, subst, arith, append_assoc, length-append, inl, inr}
 use Rattle.std.specs.Prelude.{◌-◌, ◌⊎◌, map, Result, Ok, Err, OnOk, OnErr, IfOk, IfErr, slice_get}
 use Rattle.std.proofs.lemmas.List.{take-append-drop}
 use Rattle.media.specs.Kept.{Kept}
 use Rattle.log_blocks.specs.Log.{Block, IsRun, first_lsn, next_lsn}
 use Rattle.log_blocks.specs.LogState.{LogState, Refused, durable_lsn, firsts, lsn_behind}
 use Rattle.log_blocks.specs.declared.header.Place.{Place}
-use Rattle.log_blocks.proofs.Whole.{sequence_whole}
 use Rattle.log_index.specs.declared.listing.Listing.{Listing}
 use Rattle.log_manager.specs.Managed.{EndBefore, IsAt, IsLogFrom, IsNoBadLog, Managed, ReadRefused, before_lsn, first_kept, recycled}
 use Rattle.log_manager.specs.Records.{AreIn, IsLogOf, checkpoint_in}
@@ -177,6 +176,7 @@ module _ {D : Type 0} (tells : Type 0) (told : D → Kept) (may_leave : D → Ke
       by (faults.LogBad block byte) found why = let old = k.records t why.0 in (found (last_checkpoint old.forgotten) old.stable old.waiting old.blocks).1
       by _ found why = tt
 
-pub needed_left : (first left point needed lsn : ℕ) → (left ≡ first) ⊎ (left ≤ point) → lsn ≡ left → point ≡ needed → (lsn ≡ first) ⊎ (lsn ≤ needed)
-needed_left first left point needed lsn (inl same) is at = inl (is ∙ same)
-needed_left first left point needed lsn (inr low) is at = inr (omega (arith, low, is, at))
+pub needed_left : (first left point needed lsn many durable : ℕ) → (left ≡ first) ⊎ (left ≤ point) → lsn ≡ left → (point ≡ 0) ⊎ ((point ≡ needed) × (many ≤ durable)) → (lsn ≡ first) ⊎ (lsn ≤ needed)
+needed_left first left point needed lsn many durable (inl same) is at = inl (is ∙ same)
+needed_left first left point needed lsn many durable (inr low) is (inl none) = inr (omega (arith, low, is, none))
+needed_left first left point needed lsn many durable (inr low) is (inr at) = inr (omega (arith, low, is, at.0))

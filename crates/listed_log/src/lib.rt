@@ -15,7 +15,12 @@
 //! 3. [`ListedLog::flush_to`] makes the log durable up to an LSN. The records stay the same, also where it fails.
 //! 4. All that the listing knows of the records is read off [`ListedLog::listing`].
 //! 5. [`ListedLog::read`] gives the record of an LSN that the log keeps. [`ListedLog::recycle`] forgets the blocks that end
-//!    before the recycle point. The records stay the same, also where these fail.
+//!    before the recycle point, and nothing while records wait. The records stay the same, also where
+//!    these fail.
+//! 6. The records that wait are groups, each whole in one block (`WaitsInGroups` of stop_laws). Behind a call of the disk the
+//!    log goes on so; or it has ended, and what the disk keeps, also after a crash, stands for the first of the records, at
+//!    least the durable ones, with the store's room behind them and enough for the next opening (`GoesOnOrEnds`).
+//! 7. [`ListedLog::fuse`] and [`ListedLog::refused`] are the disk's; [`ListedLog::into_device`] gives it back as it is.
 #![tactic(auto)]
 
 mod keeping;

@@ -9,7 +9,8 @@ ghost use Rattle.log_manager.specs.Payload.{bytes_of};
 ghost use Rattle.log_manager.specs.Records.{IsLogOf};
 ghost use Rattle.wal_record.specs.Chains.{finishes, last};
 ghost use Rattle.wal_record.specs.Rules.{HasSpelling};
-ghost use Rattle.wal_record.specs.Sound.{AreLawful};
+ghost use Rattle.stop_laws.specs.Stops.{GoesOnOrEnds, WaitsInGroups};
+ghost use Rattle.wal_record.specs.Sound.{AreLawful, HasRoom};
 ghost use Rattle.wal_record.specs.declared.record.Record.{Record};
 ghost use Rattle.wal_record.specs.declared.record.Record.TheVariants as kinds;
 ghost use Rattle.listed_log.specs.Listed.{HoldsEnd, IsLogWith, Joins};
@@ -17,7 +18,7 @@ ghost use Rattle.listed_log.specs.Listed.{HoldsEnd, IsLogWith, Joins};
 use crate::noting::{note_all, prepare_all};
 use log_blocks::MOST_BYTES;
 use log_index::Listing;
-use log_manager::LogManager;
+use log_manager::{LogManager, groups_law};
 use media::Disk;
 use std::alloc::Global;
 use store_model::{Fault, Lsn, Memory, TxId};
@@ -92,7 +93,11 @@ impl<L: Disk> ListedLog<L> {
         ensures lsn { IfOk result (λ lsn. lsn ≡ self.old.log.log.next) }
         ensures more { (goes : ℕ → Bool) (rs : List Record) → IsLogWith L.tells L.told L.may_leave goes rs self.old.log self.old.listing → AreLawful (rs ++ recs.now) → length rs < 2 ^ 62
             → OnOk result (IsLogWith L.tells L.told L.may_leave goes (rs ++ recs.now) self.new.log self.new.listing) }
+        // They wait as one group more.
+        ensures groups { (goes : ℕ → Bool) (rs : List Record) → IsLogWith L.tells L.told L.may_leave goes rs self.old.log self.old.listing → L.tells → self.old.log.log.ended ≡ None → WaitsInGroups self.old.log.log rs → HasRoom (rs ++ recs.now)
+            → OnOk result (WaitsInGroups self.new.log.log (rs ++ recs.now)) }
         ensures same { (goes : ℕ → Bool) (rs : List Record) → IsLogWith L.tells L.told L.may_leave goes rs self.old.log self.old.listing → OnErr result (IsLogWith L.tells L.told L.may_leave goes rs self.new.log self.new.listing) }
+        ensures kept { OnErr result (self.new.log ≡ self.old.log) }
         ensures spare { self.new.log.spare ≡ self.old.log.spare }
         ensures disk { (self.new.log.log.device ≡ self.old.log.log.device) × (self.new.log.log.places ≡ self.old.log.log.places) × (self.new.log.log.ended ≡ self.old.log.log.ended) }
         ensures refused { IfErr result (NotAdded self.old.log.log) }
@@ -121,6 +126,8 @@ impl<L: Disk> ListedLog<L> {
         ensures lsn { result ≡ self.old.log.log.next }
         ensures more { (goes : ℕ → Bool) (rs : List Record) → IsLogWith L.tells L.told L.may_leave goes rs self.old.log self.old.listing → AreLawful (rs ++ kinds.Commit (record { tx = tx; prev = prev }) ∷ []) → length rs < 2 ^ 63
             → IsLogWith L.tells L.told L.may_leave goes (rs ++ kinds.Commit (record { tx = tx; prev = prev }) ∷ []) self.new.log self.new.listing }
+        ensures groups { (goes : ℕ → Bool) (rs : List Record) → IsLogWith L.tells L.told L.may_leave goes rs self.old.log self.old.listing → L.tells → self.old.log.log.ended ≡ None → WaitsInGroups self.old.log.log rs
+            → HasRoom (rs ++ kinds.Commit (record { tx = tx; prev = prev }) ∷ []) → WaitsInGroups self.new.log.log (rs ++ kinds.Commit (record { tx = tx; prev = prev }) ∷ []) }
         ensures next { self.new.log.log.next ≡ self.old.log.log.next + 1 }
         ensures spare { self.new.log.spare + 1 ≡ self.old.log.spare }
         ensures disk { (self.new.log.log.device ≡ self.old.log.log.device) × (self.new.log.log.places ≡ self.old.log.log.places) × (self.new.log.log.ended ≡ self.old.log.log.ended) }
@@ -138,12 +145,17 @@ impl<L: Disk> ListedLog<L> {
         // What is stable stays so.
         ensures rises { (goes : ℕ → Bool) (rs : List Record) → IsLogWith L.tells L.told L.may_leave goes rs self.old.log self.old.listing
             → L.tells → self.old.log.log.ended ≡ None → durable_lsn self.old.log.log.places ≤ durable_lsn self.new.log.log.places }
+        // It goes on, or the disk keeps what was stable, and maybe the first of the groups that waited.
+        ensures left { (goes : ℕ → Bool) (rs : List Record) → IsLogWith L.tells L.told L.may_leave goes rs self.old.log self.old.listing → L.tells → self.old.log.log.ended ≡ None → WaitsInGroups self.old.log.log rs
+            → GoesOnOrEnds L.told L.may_leave rs self.old.log.log self.new.log.log }
         ensures spare { self.new.log.spare ≡ self.old.log.spare }
         ensures next { self.new.log.log.next ≡ self.old.log.log.next }
         ensures live { OnOk result ((self.old.log.log.ended ≡ None) × (self.new.log.log.ended ≡ None)) }
         ensures refused { IfErr result (Refused ⊥ L.faults self.old.log.log self.new.log.log) }
         ensures later { L.faults self.old.log.log.device ≤ L.faults self.new.log.log.device }
     {
+        // A crash leaves whole groups.
+        groups_law();
         self.log.flush_to(lsn)
     }
 }

@@ -5,6 +5,7 @@ use Rattle.journal.proofs.Ending.{stopped_ends}
 use Rattle.journal.proofs.Living.{kept_begin}
 use Rattle.journal.proofs.Losing.{losers_begun}
 use Rattle.journal.proofs.Restoring.{restored_begun}
+use Rattle.journal.proofs.Stopping.{begun_safe}
 use Rattle.journal.proofs.journal.Journal.begin.Goals as goal
 
 pub invariant_of-self : goal.invariant_of-self
@@ -14,6 +15,7 @@ invariant_of-self g c =
       kept_begin _ _ _ _ _ _ _ _ _ _ c.self.inside.locks c.self.inside.locks _ _ _ c.self.invariant.1 room.total c.args.s.now.session c.begin.result (ap (λ x. x.log) room.ok) (ap (λ x. x.listing) room.ok) room.few c.begin.ensures.history c.begin.ensures.live,
       restored_begun c.self.inside.history _ c.self.inside.restored c.args.s.now.session c.begin.result c.self.invariant.2 c.begin.ensures.history,
       losers_begun g.N.Life.opens c.self.inside.history _ c.self.inside.losers c.args.s.now.session c.begin.result c.self.invariant.3 c.begin.ensures.history,
+      begun_safe g.N.Life.opens g.L.Disk.told g.L.Disk.may_leave c.self.inside.history _ c.self.inside.log.log.log c.make_room.new.log.log.log c.self.invariant.4 c.args.s.now.session c.begin.result c.begin.ensures.history (ap (λ x. x.log.log) room.ok),
     )
 
 pub returns-in-Err-clause-ends : goal.returns-in-Err-clause-ends

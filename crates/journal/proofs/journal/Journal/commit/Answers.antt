@@ -7,7 +7,7 @@ use Rattle.page_ops.specs.Seeing.{IsConsistent}
 use Rattle.wal_record.specs.History.{live_count}
 use Rattle.wal_record.specs.declared.entry.Entry.{Entry}
 use Rattle.wal_record.specs.declared.entry.Entry.TheVariants as entries
-use Rattle.journal.proofs.Commits.{flush_ended, on_ok, consistent_then, kept_failed, kept_acknowledged, number_is, waits, may_commit, commits_then}
+use Rattle.journal.proofs.Commits.{acknowledged_safe, failed_safe, flush_ended, on_ok, consistent_then, kept_failed, kept_acknowledged, number_is, waits, may_commit, commits_then}
 use Rattle.journal.proofs.Committing.{one_live}
 use Rattle.journal.proofs.Ending.{told_stops, stopped_ends}
 use Rattle.journal.proofs.Entering.{looked}
@@ -60,7 +60,7 @@ invariant_of-self-then-is_err g c =
     let runs = c.in_ok-check_open.ensures.open.0 in
     let l = looked _ _ _ _ _ _ _ _ _ _ h watch.seen watch.pass watch.same (k.ends.acknowledged runs) watch.right c.requires.active in
     let over = flush_ended g.L.Disk.faults c.commit-lsn.new.self.log.log c.flush_to.new.self.log.log c.flush_to.result (sym c.is_err.ensures.value ∙ c.if-is_err.true) c.flush_to.ensures.refused (c.commit-lsn.ensures.disk.2 ∙ runs) in
-    (c.self.invariant.0, kept_failed g.N.Life.opens g.L.Disk.tells g.L.Disk.told g.L.Disk.may_leave c.self.inside.history h c.self.inside.log.log c.commit-lsn.new.self.log c.flush_to.new.self.log c.self.inside.log.listing c.commit-lsn.new.self.listing c.flush_to.new.self.listing c.self.inside.locks c.self.inside.marked k.life watch.same c.watch_session.new.s l c.tx-tx.result c.in_range-prev.result c.commit-lsn.result c.last_of.result c.tx-tx.ensures (subst (λ (n : ℕ). n ≤ 2 ^ 62) (sym (ap (λ x. x.tx) watch.right)) (watch.number c.requires.active)) c.in_range-prev.ensures.low c.last_of.ensures c.in_range-prev.ensures.same c.commit-lsn.ensures.lsn c.commit-lsn.ensures.more c.commit-lsn.ensures.spare c.commit-lsn.ensures.disk.1 c.commit-lsn.ensures.disk.2 c.release_all.new.self c.release_all.ensures.released c.enter_commit.new.self c.enter_commit.ensures.history c.enter_commit.ensures.live runs c.flush_to.ensures.same c.flush_to.ensures.spare c.flush_to.ensures.rises c.note_fault.new.faults.total c.check_open.new.faults.total over c.note_fault.ensures.total c.look.new.self c.look.ensures.same, restored_entry c.self.inside.history _ c.self.inside.restored (commit_entry c.commit-lsn.result c.watch_session.new.s.tx c.in_range-prev.result) c.self.invariant.2 (c.look.ensures.same ∙ c.enter_commit.ensures.history ∙ ap (λ (l : List Entry). l ++ commit_entry c.commit-lsn.result c.watch_session.new.s.tx c.in_range-prev.result ∷ []) watch.same) (λ s. refl), losers_commit g.N.Life.opens c.self.inside.history _ c.self.inside.losers c.self.inside.losers c.self.invariant.3 h c.commit-lsn.result c.watch_session.new.s.tx c.in_range-prev.result watch.same l.consistent l.live (c.look.ensures.same ∙ c.enter_commit.ensures.history))
+    (c.self.invariant.0, kept_failed g.N.Life.opens g.L.Disk.tells g.L.Disk.told g.L.Disk.may_leave c.self.inside.history h c.self.inside.log.log c.commit-lsn.new.self.log c.flush_to.new.self.log c.self.inside.log.listing c.commit-lsn.new.self.listing c.flush_to.new.self.listing c.self.inside.locks c.self.inside.marked k.life watch.same c.watch_session.new.s l c.tx-tx.result c.in_range-prev.result c.commit-lsn.result c.last_of.result c.tx-tx.ensures (subst (λ (n : ℕ). n ≤ 2 ^ 62) (sym (ap (λ x. x.tx) watch.right)) (watch.number c.requires.active)) c.in_range-prev.ensures.low c.last_of.ensures c.in_range-prev.ensures.same c.commit-lsn.ensures.lsn c.commit-lsn.ensures.more c.commit-lsn.ensures.spare c.commit-lsn.ensures.disk.1 c.commit-lsn.ensures.disk.2 c.release_all.new.self c.release_all.ensures.released c.enter_commit.new.self c.enter_commit.ensures.history c.enter_commit.ensures.live runs c.flush_to.ensures.same c.flush_to.ensures.spare c.flush_to.ensures.rises c.note_fault.new.faults.total c.check_open.new.faults.total over c.note_fault.ensures.total c.look.new.self c.look.ensures.same, restored_entry c.self.inside.history _ c.self.inside.restored (commit_entry c.commit-lsn.result c.watch_session.new.s.tx c.in_range-prev.result) c.self.invariant.2 (c.look.ensures.same ∙ c.enter_commit.ensures.history ∙ ap (λ (l : List Entry). l ++ commit_entry c.commit-lsn.result c.watch_session.new.s.tx c.in_range-prev.result ∷ []) watch.same) (λ s. refl), losers_commit g.N.Life.opens c.self.inside.history _ c.self.inside.losers c.self.inside.losers c.self.invariant.3 h c.commit-lsn.result c.watch_session.new.s.tx c.in_range-prev.result watch.same l.consistent l.live (c.look.ensures.same ∙ c.enter_commit.ensures.history), failed_safe g.N.Life.opens g.L.Disk.tells g.L.Disk.told g.L.Disk.may_leave c.self.inside.history h c.self.inside.log.log c.commit-lsn.new.self.log c.flush_to.new.self.log c.self.inside.log.listing c.commit-lsn.new.self.listing c.flush_to.new.self.listing c.self.inside.locks c.self.inside.marked k.life watch.same c.watch_session.new.s l c.tx-tx.result c.in_range-prev.result c.commit-lsn.result c.last_of.result c.tx-tx.ensures (subst (λ (n : ℕ). n ≤ 2 ^ 62) (sym (ap (λ x. x.tx) watch.right)) (watch.number c.requires.active)) c.in_range-prev.ensures.low c.last_of.ensures c.in_range-prev.ensures.same c.commit-lsn.ensures.lsn c.commit-lsn.ensures.more c.commit-lsn.ensures.spare c.commit-lsn.ensures.disk.1 c.commit-lsn.ensures.disk.2 c.release_all.new.self c.release_all.ensures.released c.enter_commit.new.self c.enter_commit.ensures.history c.enter_commit.ensures.live runs c.flush_to.ensures.same c.flush_to.ensures.spare c.flush_to.ensures.rises c.self.invariant.4 c.commit-lsn.ensures.disk.0 c.commit-lsn.ensures.groups c.flush_to.ensures.left c.look.new.self c.look.ensures.same)
 
 pub returns-then-is_err-clause-entered : goal.returns-then-is_err-clause-entered
 returns-then-is_err-clause-entered g c =
@@ -94,6 +94,7 @@ invariant_of-self-2 g c =
           (on_ok c.flush_to.result fine c.flush_to.ensures.live).1 c.durable.ensures c.tell_durable.ensures.number c.look-2.new.self acked (ap live_count last.same ∙ done.live),
       restored_entry c.enter_commit.new.self _ c.self.inside.restored (entries.Acked c.watch_session.new.s.session c.watch_session.new.s.tx) (restored_entry c.self.inside.history _ c.self.inside.restored (commit_entry c.commit-lsn.result c.watch_session.new.s.tx c.in_range-prev.result) c.self.invariant.2 (c.enter_commit.ensures.history ∙ ap (λ (l : List Entry). l ++ commit_entry c.commit-lsn.result c.watch_session.new.s.tx c.in_range-prev.result ∷ []) watch.same) (λ s. refl)) acked (λ s. refl),
       losers_entry g.N.Life.opens c.enter_commit.new.self _ c.self.inside.losers c.self.inside.losers (losers_commit g.N.Life.opens c.self.inside.history _ c.self.inside.losers c.self.inside.losers c.self.invariant.3 h c.commit-lsn.result c.watch_session.new.s.tx c.in_range-prev.result watch.same l.consistent l.live c.enter_commit.ensures.history) (entries.Acked c.watch_session.new.s.session c.watch_session.new.s.tx) acked refl (λ t. refl),
+      acknowledged_safe g.N.Life.opens g.L.Disk.tells g.L.Disk.told g.L.Disk.may_leave c.self.inside.history h c.self.inside.log.log c.commit-lsn.new.self.log c.flush_to.new.self.log c.self.inside.log.listing c.commit-lsn.new.self.listing c.flush_to.new.self.listing c.self.inside.locks c.self.inside.marked k.life watch.same c.watch_session.new.s l c.tx-tx.result c.in_range-prev.result c.commit-lsn.result c.last_of.result c.tx-tx.ensures (subst (λ (n : ℕ). n ≤ 2 ^ 62) (sym (ap (λ x. x.tx) watch.right)) (watch.number c.requires.active)) c.in_range-prev.ensures.low c.last_of.ensures c.in_range-prev.ensures.same c.commit-lsn.ensures.lsn c.commit-lsn.ensures.more c.commit-lsn.ensures.spare c.commit-lsn.ensures.disk.1 c.commit-lsn.ensures.disk.2 c.release_all.new.self c.release_all.ensures.released c.enter_commit.new.self c.enter_commit.ensures.history c.enter_commit.ensures.live runs c.flush_to.ensures.same c.flush_to.ensures.spare c.flush_to.ensures.rises c.self.invariant.4 c.commit-lsn.ensures.disk.0 c.commit-lsn.ensures.groups c.flush_to.ensures.left c.watch_session.new.s.session (on_ok c.flush_to.result fine c.flush_to.ensures.live).1 (on_ok c.flush_to.result fine c.flush_to.ensures.durable) c.look-2.new.self acked,
     )
 
 pub returns-clause-entered : goal.returns-clause-entered

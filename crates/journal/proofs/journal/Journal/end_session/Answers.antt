@@ -1,3 +1,6 @@
+use Rattle.log_manager.specs.Managed.{Managed}
+use Rattle.std.specs.Prelude.{None}
+use Rattle.wal_record.specs.declared.record.Record.TheVariants as kinds
 use Rattle.std.proofs.Common.{◌≡◌, ◌<◌, ◌+◌, ◌++◌, ◌∷◌, [], ℕ, List, refl, sym, ap, ◌∙◌, subst, arith, is_some}
 use Rattle.life_history.specs.Kept.{end_entry}
 use Rattle.page_ops.specs.Claims.{SessionAgrees}
@@ -7,6 +10,7 @@ use Rattle.journal.proofs.Locking.{live_of}
 use Rattle.journal.proofs.Losing.{losers_end}
 use Rattle.journal.proofs.Overs.{goes_on, over_consistent, over_records}
 use Rattle.journal.proofs.Restoring.{restored_entry}
+use Rattle.journal.proofs.Stopping.{group_safe, still_safe}
 use Rattle.journal.proofs.journal.Journal.end_session.Goals as goal
 
 pub enter_end-requires-clause-live : goal.enter_end-requires-clause-live
@@ -28,6 +32,7 @@ invariant_of-self g c =
           (λ opening stands. c.in_err-lsn.ensures.same _ _ (c.self.invariant.1.life.records opening stands)),
       c.self.invariant.2,
       c.self.invariant.3,
+      still_safe g.N.Life.opens g.L.Disk.told g.L.Disk.may_leave c.self.inside.history _ c.self.inside.log.log.log c.append_all.new.log.log.log c.self.invariant.4 refl (ap (λ (m : Managed _). m.log) c.in_err-lsn.ensures.kept),
     )
 
 pub invariant_of-self-2 : goal.invariant_of-self-2
@@ -41,4 +46,6 @@ invariant_of-self-2 g c =
           c.release_all.ensures.released c.enter_end.ensures.live done.spare done.disk.0 done.disk.1 (over_records g.N.Life.opens g.L.Disk.tells g.L.Disk.told g.L.Disk.may_leave c.self.inside.history c.args.self.now c.self.view_is c.self.inside.log.log c.append_all.new.log.log c.self.inside.log.listing c.append_all.new.log.listing c.last-last.result c.in_ok-lsn.lsn c.self.invariant.1.life.records c.last-last.ensures.next (omega (arith, c.if-last-ge-MOST.false)) c.in_ok-lsn.ensures.lsn c.args.end c.requires.follows c.in_ok-lsn.ensures.more),
       restored_entry c.self.inside.history _ c.self.inside.restored (end_entry lsn c.args.end.tx c.args.end.prev) c.self.invariant.2 now (λ s. refl),
       losers_end g.N.Life.opens c.self.inside.history c.enter_end.new.self c.self.inside.losers c.ended-2.new.self c.self.invariant.3 lsn (c.length-before.result + 1) c.args.end.tx c.args.end.prev now c.ended-2.ensures (omega (arith, c.length-before.ensures)),
+      group_safe g.N.Life.opens g.L.Disk.tells g.L.Disk.told g.L.Disk.may_leave c.self.inside.history c.enter_end.new.self c.self.inside.log.log c.append_all.new.log.log c.self.inside.log.listing c.self.invariant.1.life.records c.self.invariant.1.life.telling c.self.invariant.4 lsn (kinds.End c.args.end ∷ []) None now
+          (over_consistent g.N.Life.opens g.L.Disk.tells g.L.Disk.told g.L.Disk.may_leave c.self.inside.history c.args.self.now c.self.view_is c.self.inside.log.log c.append_all.new.log.log c.self.inside.log.listing c.append_all.new.log.listing c.last-last.result c.in_ok-lsn.lsn c.self.invariant.1.life.records c.last-last.ensures.next (omega (arith, c.if-last-ge-MOST.false)) c.in_ok-lsn.ensures.lsn c.args.end c.requires.follows c.args.end.tx refl) done.device done.disk.0 done.disk.1 c.in_ok-lsn.ensures.groups,
     )

@@ -8,6 +8,10 @@ use mathlib.Core.List.{IsPrefix}
 use Rattle.page_ops.specs.Asking.{IsLate}
 use Rattle.page_ops.specs.Seeing.{IsConsistent}
 use Rattle.wal_record.specs.declared.entry.Entry.{Entry}
+use Rattle.journal.specs.Kept.{IsKept}
+use Rattle.journal.proofs.Losing.{losers_same}
+use Rattle.journal.proofs.Restoring.{restored_same}
+use Rattle.journal.proofs.Stopping.{still_safe}
 use Rattle.journal.proofs.journal.Journal.enter.Goals as goal
 
 pub returns-in_err-check_open-clause-ends : goal.returns-in_err-check_open-clause-ends
@@ -57,3 +61,15 @@ returns-in-Ok-clause-entered g c =
 
 pub returns-in-Ok-clause-filled : goal.returns-in-Ok-clause-filled
 returns-in-Ok-clause-filled g c = filled_in _ _ _ _ _ _ _ _ _ _ c.in-Ok.ensures.entered c.see.ensures.rights c.see-in-Ok.ensures.rights
+
+pub invariant_of-self-in-Ok : goal.invariant_of-self-in-Ok
+invariant_of-self-in-Ok g c =
+    let j = c.self-2.inside in
+    let k = c.self-2.invariant in
+    let same = c.see-in-Ok.ensures.same in (
+      k.0,
+      subst (λ (h : List Entry). IsKept g.N.Life.opens g.L.Disk.tells g.L.Disk.told g.L.Disk.may_leave h j.log.log j.log.listing j.locks j.marked j.faults.total) (sym same) k.1,
+      restored_same j.history _ j.restored k.2 same,
+      losers_same g.N.Life.opens j.history _ j.losers j.losers k.3 same,
+      still_safe g.N.Life.opens g.L.Disk.told g.L.Disk.may_leave j.history _ j.log.log.log j.log.log.log k.4 same refl,
+    )

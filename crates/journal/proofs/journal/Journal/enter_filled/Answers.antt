@@ -4,7 +4,8 @@ use Rattle.books.specs.Rights.{PageClaim}
 use Rattle.life_history.specs.Groups.{own_entries, raised}
 use Rattle.page_ops.specs.Claims.{PageAgrees}
 use Rattle.page_ops.specs.Groups.{group_entries}
-use Rattle.page_ops.specs.Seeing.{of_sessions}
+use Rattle.page_ops.specs.Seeing.{IsConsistent, of_sessions}
+use Rattle.log_manager.specs.Managed.{Managed}
 use Rattle.page_ops.specs.declared.group.Said.{Said}
 use Rattle.wal_record.specs.declared.record.Record.{Record}
 use Rattle.wal_record.specs.History.{life_log}
@@ -16,6 +17,7 @@ use Rattle.journal.proofs.Living.{kept_group, kept_refused}
 use Rattle.journal.proofs.Grouping.{next_of, page_agrees}
 use Rattle.journal.proofs.Losing.{losers_group}
 use Rattle.journal.proofs.Restoring.{restored_kept, restored_same}
+use Rattle.journal.proofs.Stopping.{group_safe, still_safe}
 use Rattle.journal.proofs.journal.Journal.enter_filled.Goals as goal
 
 pub enter_group-requires-clause-fresh : goal.enter_group-requires-clause-fresh
@@ -23,7 +25,7 @@ enter_group-requires-clause-fresh g c =
     subst (λ (z : List Entry × Option PageClaim). IfSome z.1 (PageAgrees g.N.Life.opens z.0)) (λ i. (sym c.self.view_is i, sym c.take.ensures.value i)) (page_agrees g.N.Life.opens c.args.self.now c.requires.consistent c.args.new.now c.requires.page)
 
 pub invariant_of-self : goal.invariant_of-self
-invariant_of-self g c = (c.self.invariant.0, c.self.invariant.1, restored_kept c.self.inside.history c.self.inside.restored c.prepare_group.new.places c.self.invariant.2 c.prepare_group.ensures.same, c.self.invariant.3)
+invariant_of-self g c = (c.self.invariant.0, c.self.invariant.1, restored_kept c.self.inside.history c.self.inside.restored c.prepare_group.new.places c.self.invariant.2 c.prepare_group.ensures.same, c.self.invariant.3, c.self.invariant.4)
 
 pub invariant_of-self-in_err-lsn : goal.invariant_of-self-in_err-lsn
 invariant_of-self-in_err-lsn g c =
@@ -33,6 +35,7 @@ invariant_of-self-in_err-lsn g c =
           (λ opening stands. c.in_err-lsn.ensures.same _ _ (c.self.invariant.1.life.records opening stands)),
       restored_kept c.self.inside.history c.self.inside.restored c.prepare_group.new.places c.self.invariant.2 c.prepare_group.ensures.same,
       c.self.invariant.3,
+      still_safe g.N.Life.opens g.L.Disk.told g.L.Disk.may_leave c.self.inside.history _ c.self.inside.log.log.log c.append_all.new.log.log.log c.self.invariant.4 refl (ap (λ (m : Managed _). m.log) c.in_err-lsn.ensures.kept),
     )
 
 pub invariant_of-self-2 : goal.invariant_of-self-2
@@ -51,6 +54,8 @@ invariant_of-self-2 g c =
       restored_same _ _ c.note_group.new.places (c.note_group.ensures c.self.inside.history lsn c.args.said.now (restored_kept c.self.inside.history c.self.inside.restored c.prepare_group.new.places c.self.invariant.2 c.prepare_group.ensures.same) c.length-before.ensures) c.enter_group.ensures.history,
       losers_group g.N.Life.opens c.self.inside.history _ c.self.inside.losers c.note_undone.new.losers c.self.invariant.3 lsn c.args.recs.now c.args.said.now c.enter_group.ensures.history c.note_undone.ensures.txs
           (λ done. c.note_undone.ensures.more c.self.inside.history lsn c.args.said.now done c.length-before.ensures),
+      group_safe g.N.Life.opens g.L.Disk.tells g.L.Disk.told g.L.Disk.may_leave c.self.inside.history c.enter_group.new.self c.self.inside.log.log c.append_all.new.log.log c.self.inside.log.listing k.life.records k.life.telling c.self.invariant.4 lsn c.args.recs.now c.args.said.now c.enter_group.ensures.history
+          (subst (λ (h : List Entry). IsConsistent g.N.Life.opens (h ++ group_entries lsn c.args.recs.now c.args.said.now)) (sym c.self.view_is) follows.consistent) done.device done.disk.0 done.disk.1 done.groups,
     )
 
 pub note_undone-requires-clause-still : goal.note_undone-requires-clause-still

@@ -7,6 +7,7 @@ use Rattle.journal.proofs.Flushing.{ends_flushed, kept_flush}
 use Rattle.journal.proofs.Living.{ends_failed}
 use Rattle.journal.proofs.Losing.{losers_same}
 use Rattle.journal.proofs.Restoring.{restored_same}
+use Rattle.journal.proofs.Stopping.{call_safe}
 use Rattle.journal.proofs.journal.Journal.flush.Goals as goal
 
 pub returns-in_err-check_open-clause-ends : goal.returns-in_err-check_open-clause-ends
@@ -25,6 +26,7 @@ invariant_of-self-then-is_err g c =
           c.self.inside.faults.total c.note_fault.new.faults.total k c.look.ensures.same runs flush.same flush.spare flush.rises refl (inl refl) (ends_failed c.flush_to.new.self.log.log.ended c.self.inside.history c.check_open.new.faults.total c.note_fault.new.faults.total over c.note_fault.ensures.total),
       restored_same c.self.inside.history _ c.self.inside.restored c.self.invariant.2 c.look.ensures.same,
       losers_same g.N.Life.opens c.self.inside.history _ c.self.inside.losers c.self.inside.losers c.self.invariant.3 c.look.ensures.same,
+      call_safe g.N.Life.opens g.L.Disk.tells g.L.Disk.told g.L.Disk.may_leave c.self.inside.history _ c.self.inside.log.log c.flush_to.new.self.log c.self.inside.log.listing k.life.records k.life.telling c.self.invariant.4 c.look.ensures.same runs flush.left,
     )
 
 pub invariant_of-self-2 : goal.invariant_of-self-2
@@ -38,4 +40,5 @@ invariant_of-self-2 g c =
           c.self.inside.faults.total c.check_open.new.faults.total k c.look.ensures.same runs flush.same flush.spare flush.rises c.durable.ensures c.tell_durable.ensures.number (ends_flushed c.self.inside.log.log.log.ended c.flush_to.new.self.log.log.ended c.self.inside.history c.self.inside.faults.total c.check_open.new.faults.total k.ends runs live.1 c.check_open.ensures.total),
       restored_same c.self.inside.history _ c.self.inside.restored c.self.invariant.2 c.look.ensures.same,
       losers_same g.N.Life.opens c.self.inside.history _ c.self.inside.losers c.self.inside.losers c.self.invariant.3 c.look.ensures.same,
+      call_safe g.N.Life.opens g.L.Disk.tells g.L.Disk.told g.L.Disk.may_leave c.self.inside.history _ c.self.inside.log.log c.flush_to.new.self.log c.self.inside.log.listing k.life.records k.life.telling c.self.invariant.4 c.look.ensures.same runs flush.left,
     )

@@ -2,6 +2,7 @@ use Rattle.journal.proofs.Ending.{told_stops, stopped_ends}
 use Rattle.journal.proofs.Living.{kept_call}
 use Rattle.journal.proofs.Losing.{losers_same}
 use Rattle.journal.proofs.Restoring.{restored_same}
+use Rattle.journal.proofs.Stopping.{call_safe}
 use Rattle.journal.proofs.journal.Journal.forget.Goals as goal
 
 pub invariant_of-self : goal.invariant_of-self
@@ -13,6 +14,7 @@ invariant_of-self g c =
           c.check_open.new.faults.total c.recycle_log.new.faults.total k c.look.ensures.same c.check_open.ensures.total c.in-Ok.ensures.open.0 done.same done.spare done.rises c.check_open.new.counts c.recycle_log.new.counts c.recycle_log.result done.ends,
       restored_same c.self.inside.history _ c.self.inside.restored c.self.invariant.2 c.look.ensures.same,
       losers_same g.N.Life.opens c.self.inside.history _ c.self.inside.losers c.self.inside.losers c.self.invariant.3 c.look.ensures.same,
+      call_safe g.N.Life.opens g.L.Disk.tells g.L.Disk.told g.L.Disk.may_leave c.self.inside.history _ c.self.inside.log.log c.recycle_log.new.log.log c.self.inside.log.listing k.life.records k.life.telling c.self.invariant.4 c.look.ensures.same c.in-Ok.ensures.open.0 done.left,
     )
 
 pub returns-in-Err-clause-ends : goal.returns-in-Err-clause-ends

@@ -19,6 +19,7 @@ use Rattle.journal.proofs.Locking.{lock_consistent, refused_consistent, conflict
 use Rattle.journal.proofs.Losing.{losers_entry, losers_same}
 use Rattle.journal.proofs.Restoring.{restored_entry, restored_same}
 use Rattle.journal.proofs.Waiting.{loser_seen, none_seen}
+use Rattle.journal.proofs.Stopping.{entry_safe, still_safe}
 use Rattle.journal.proofs.journal.Journal.lock.Goals as goal
 
 pub returns-in_err-check_open-clause-ends : goal.returns-in_err-check_open-clause-ends
@@ -53,6 +54,7 @@ invariant_of-self-in-Ok g c =
           (own.history ∙ ap (λ (l : List Entry). l ++ e ∷ []) watch.same) refl (held_more c.self.inside.history c.self.inside.locks k.life.locks c.acquire.new.self a gains) (own.live.0 ∙ ap live_count watch.same) (λ t p waits. waits),
       restored_entry c.self.inside.history _ c.self.inside.restored e c.self.invariant.2 (own.history ∙ ap (λ (l : List Entry). l ++ e ∷ []) watch.same) (λ s. refl),
       losers_entry g.N.Life.opens c.self.inside.history _ c.self.inside.losers c.self.inside.losers c.self.invariant.3 e (own.history ∙ ap (λ (l : List Entry). l ++ e ∷ []) watch.same) refl (λ t. refl),
+      entry_safe g.N.Life.opens g.L.Disk.told g.L.Disk.may_leave c.self.inside.history _ c.self.inside.log.log.log c.self.inside.log.log.log c.self.invariant.4 e (own.history ∙ ap (λ (l : List Entry). l ++ e ∷ []) watch.same) refl (λ t. refl) refl,
     )
 
 pub returns-in-Ok-clause-entered : goal.returns-in-Ok-clause-entered
@@ -103,6 +105,7 @@ invariant_of-self-in-Err-Overlap g c =
           (own.history ∙ ap (λ (l : List Entry). l ++ e ∷ []) watch.same) refl (held_refused c.self.inside.history c.self.inside.locks k.life.locks c.acquire.new.self a c.in-Err-Overlap.holder c.in-Err-Overlap.ensures.err) (own.live.0 ∙ ap live_count watch.same) (λ t p waits. waits),
       restored_entry c.self.inside.history _ c.self.inside.restored e c.self.invariant.2 (own.history ∙ ap (λ (l : List Entry). l ++ e ∷ []) watch.same) (λ s. refl),
       losers_entry g.N.Life.opens c.self.inside.history _ c.self.inside.losers c.self.inside.losers c.self.invariant.3 e (own.history ∙ ap (λ (l : List Entry). l ++ e ∷ []) watch.same) refl (λ t. refl),
+      entry_safe g.N.Life.opens g.L.Disk.told g.L.Disk.may_leave c.self.inside.history _ c.self.inside.log.log.log c.self.inside.log.log.log c.self.invariant.4 e (own.history ∙ ap (λ (l : List Entry). l ++ e ∷ []) watch.same) refl (λ t. refl) refl,
     )
 
 pub returns-in-Err-Overlap-clause-entered : goal.returns-in-Err-Overlap-clause-entered
@@ -147,7 +150,7 @@ returns-in-Err-Overlap-clause-conflict g c =
 
 pub invariant_of-self-in-Err-Memory : goal.invariant_of-self-in-Err-Memory
 invariant_of-self-in-Err-Memory g c =
-    (c.self.invariant.0, kept_locks _ _ _ _ _ _ c.self.inside.log.log c.self.inside.log.log c.self.inside.log.listing c.self.inside.log.listing c.self.inside.locks c.acquire.new.self _ _ _ c.self.invariant.1 c.check_open.ensures.total c.watch_session.ensures.same c.in-Err-Memory.ensures.err, restored_same c.self.inside.history _ c.self.inside.restored c.self.invariant.2 c.watch_session.ensures.same, losers_same g.N.Life.opens c.self.inside.history _ c.self.inside.losers c.self.inside.losers c.self.invariant.3 c.watch_session.ensures.same)
+    (c.self.invariant.0, kept_locks _ _ _ _ _ _ c.self.inside.log.log c.self.inside.log.log c.self.inside.log.listing c.self.inside.log.listing c.self.inside.locks c.acquire.new.self _ _ _ c.self.invariant.1 c.check_open.ensures.total c.watch_session.ensures.same c.in-Err-Memory.ensures.err, restored_same c.self.inside.history _ c.self.inside.restored c.self.invariant.2 c.watch_session.ensures.same, losers_same g.N.Life.opens c.self.inside.history _ c.self.inside.losers c.self.inside.losers c.self.invariant.3 c.watch_session.ensures.same, still_safe g.N.Life.opens g.L.Disk.told g.L.Disk.may_leave c.self.inside.history _ c.self.inside.log.log.log c.self.inside.log.log.log c.self.invariant.4 c.watch_session.ensures.same refl)
 
 -- ---- a loser
 

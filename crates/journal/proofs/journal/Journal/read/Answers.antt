@@ -9,6 +9,7 @@ use Rattle.journal.proofs.Living.{kept_call}
 use Rattle.journal.proofs.Lookup.{found_told, unread_told}
 use Rattle.journal.proofs.Losing.{losers_same}
 use Rattle.journal.proofs.Restoring.{restored_same}
+use Rattle.journal.proofs.Stopping.{call_safe}
 use Rattle.journal.proofs.journal.Journal.read.Goals as goal
 
 pub returns-in-Err-clause-ends : goal.returns-in-Err-clause-ends
@@ -24,6 +25,7 @@ invariant_of-self g c =
           c.check_open.new.counts c.find.new.counts c.find.result read.ends,
       restored_same c.self.inside.history _ c.self.inside.restored c.self.invariant.2 c.look.ensures.same,
       losers_same g.N.Life.opens c.self.inside.history _ c.self.inside.losers c.self.inside.losers c.self.invariant.3 c.look.ensures.same,
+      call_safe g.N.Life.opens g.L.Disk.tells g.L.Disk.told g.L.Disk.may_leave c.self.inside.history _ c.self.inside.log.log c.find.new.log.log c.self.inside.log.listing k.life.records k.life.telling c.self.invariant.4 c.look.ensures.same c.in-Ok.ensures.open.0 read.left,
     )
 
 pub returns-in-Ok-clause-seen : goal.returns-in-Ok-clause-seen

@@ -13,6 +13,7 @@ use Rattle.journal.proofs.Living.{kept_entry}
 use Rattle.journal.proofs.Locking.{held_still}
 use Rattle.journal.proofs.Losing.{losers_entry}
 use Rattle.journal.proofs.Restoring.{restored_entry}
+use Rattle.journal.proofs.Stopping.{entry_safe}
 use Rattle.journal.proofs.journal.Journal.refuse.Goals as goal
 
 pub returns-in_err-check_open-clause-ends : goal.returns-in_err-check_open-clause-ends
@@ -39,6 +40,7 @@ invariant_of-self-2 g c =
           (own.history ∙ ap (λ (l : List Entry). l ++ e ∷ []) watch.same) refl (held_still c.self.inside.history c.self.inside.locks k.life.locks e (λ u ls. refl)) (own.live.0 ∙ ap live_count watch.same) (λ t p waits. waits),
       restored_entry c.self.inside.history _ c.self.inside.restored e c.self.invariant.2 (own.history ∙ ap (λ (l : List Entry). l ++ e ∷ []) watch.same) (λ s. refl),
       losers_entry g.N.Life.opens c.self.inside.history _ c.self.inside.losers c.self.inside.losers c.self.invariant.3 e (own.history ∙ ap (λ (l : List Entry). l ++ e ∷ []) watch.same) refl (λ t. refl),
+      entry_safe g.N.Life.opens g.L.Disk.told g.L.Disk.may_leave c.self.inside.history _ c.self.inside.log.log.log c.self.inside.log.log.log c.self.invariant.4 e (own.history ∙ ap (λ (l : List Entry). l ++ e ∷ []) watch.same) refl (λ t. refl) refl,
     )
 
 pub returns-clause-entered : goal.returns-clause-entered

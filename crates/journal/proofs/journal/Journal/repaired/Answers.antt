@@ -8,6 +8,7 @@ use Rattle.journal.proofs.Living.{kept_entry}
 use Rattle.journal.proofs.Locking.{held_still}
 use Rattle.journal.proofs.Losing.{losers_entry}
 use Rattle.journal.proofs.Restoring.{restored_entry}
+use Rattle.journal.proofs.Stopping.{entry_safe}
 use Rattle.journal.proofs.journal.Journal.repaired.Goals as goal
 
 pub invariant_of-self-in-Ok : goal.invariant_of-self-in-Ok
@@ -20,6 +21,7 @@ invariant_of-self-in-Ok g c =
           own.history refl (held_still c.self.inside.history c.self.inside.locks k.life.locks e (λ u ls. refl)) own.live.0 (λ t p waits. waits),
       restored_entry c.self.inside.history _ c.self.inside.restored e c.self.invariant.2 own.history (λ s. refl),
       losers_entry g.N.Life.opens c.self.inside.history _ c.self.inside.losers c.self.inside.losers c.self.invariant.3 e own.history refl (λ t. refl),
+      entry_safe g.N.Life.opens g.L.Disk.told g.L.Disk.may_leave c.self.inside.history _ c.self.inside.log.log.log c.self.inside.log.log.log c.self.invariant.4 e own.history refl (λ t. refl) refl,
     )
 
 pub returns-in-Err-clause-ends : goal.returns-in-Err-clause-ends
