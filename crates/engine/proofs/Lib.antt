@@ -19,3 +19,4 @@ pub mod Changed
 pub mod Written
 pub mod Committed
 pub mod Aborted
+pub mod Shown

@@ -46,5 +46,6 @@ pub use asking::get;
 pub use beginning::{begin, new_session};
 pub use committing::commit;
 pub use scanning::scan;
+pub use seeing::see_session;
 pub use session::Session;
 pub use writing::{del, put};

@@ -1,8 +1,9 @@
 //! A caller's token of a session.
-ghost use Rattle.std.specs.Prelude.{◌≡◌, ◌<◌, false, true};
+ghost use Rattle.std.specs.Prelude.{◌≡◌, ◌<◌, ◌≤◌, false, true};
+ghost use mathlib.Core.List.{IsPrefix};
 
 use books::SessionRight;
-use front::Pass;
+use front::{Board, Pass};
 use page_ops::Life;
 use std::marker::Model;
 use store_model::TxId;
@@ -46,5 +47,24 @@ impl<N: Life> Session<N> {
         ensures none { result ≡ false → self.now.claim.tx ≡ 0 }
     {
         self.transaction() > 0
+    }
+
+    /// Its pass takes in what another one has seen.
+    pub fn meet(&mut self, board: &Board<Entry, N>, pass: &mut Pass<Entry, N>)
+        ensures this { IsPrefix self.old.seen.log self.new.seen.log }
+        ensures other { IsPrefix pass.old.log self.new.seen.log }
+        ensures durable { (self.old.seen.durable ≤ self.new.seen.durable) × (pass.old.durable ≤ self.new.seen.durable) }
+        ensures claim { self.new.claim ≡ self.old.claim }
+        ensures same { pass.new ≡ pass.old }
+    {
+        self.pass.meet(board, pass.copy(board));
+    }
+
+    /// A pass that has seen what its requests saw.
+    pub fn seen(&mut self, board: &Board<Entry, N>) -> Pass<Entry, N>
+        ensures seen { result ≡ self.old.seen }
+        ensures same { self.new ≡ self.old }
+    {
+        self.pass.copy(board)
     }
 }

@@ -1,0 +1,5 @@
+pub mod Asked
+pub mod Began
+pub mod Committed
+pub mod Aborted
+pub mod Sessions
