@@ -1,5 +1,7 @@
 //! The journal of one thread.
-ghost use Rattle.std.specs.Prelude.{◌≡◌};
+ghost use Rattle.std.specs.Prelude.{◌≡◌, ◌≤◌};
+ghost use mathlib.Core.List.{IsPrefix};
+ghost use Rattle.journal.specs.Stops.{Leaves};
 
 use crate::asking;
 use books::PageRight;
@@ -18,6 +20,34 @@ use wal_record::Entry;
 pub struct OwnJournal<'a, L: Disk, N: Life> {
     pub journal: Journal<'a, L, N>,
     pub counts: Counts<N>,
+}
+
+impl<'a, L: Disk, N: Life> OwnJournal<'a, L, N> {
+    /// Arms the log disk's fuse, which lets n more calls pass, or renews it.
+    pub fn fuse(&mut self, n: Option<u64>)
+        ensures same { self.new ≡ self.old }
+    {
+        self.journal.fuse(n);
+    }
+
+    /// How many calls the log disk's fuse has refused.
+    pub fn refused(&self) -> u64 {
+        self.journal.refused()
+    }
+
+    /// The log disk, as it is: the life has stopped. As `Journal::into_device`.
+    pub fn into_device(self, pass: &mut Pass<Entry, N>) -> L
+        ensures left { Leaves N.opens L.told L.may_leave self.entry.journal pass.new.durable result }
+        ensures pass { pass.new.log ≡ self.entry.journal }
+        ensures begins { IsPrefix pass.old.log pass.new.log }
+        ensures before { pass.old.durable ≤ pass.new.durable }
+    {
+        let OwnJournal {
+            journal,
+            mut counts,
+        } = self;
+        journal.into_device(pass, &mut counts)
+    }
 }
 
 impl<'a, L: Disk, N: Life> Entering<N> for OwnJournal<'a, L, N> {
