@@ -1,15 +1,18 @@
 -- An open log, where its disk stood for one: its records, and how many they are.
-use Rattle.std.proofs.Common.{◌≡◌, ◌≢◌, ◌≤◌, ℕ, ◌+◌, List, [], ◌∷◌, ◌++◌, length, refl, sym, ap, ◌∙◌, subst, arith, append-nil, length-append}
+use Rattle.std.proofs.Common.{◌≡◌, ◌≢◌, ◌≤◌, ℕ, suc, ◌+◌, None, List, [], ◌∷◌, ◌++◌, length, refl, sym, ap, ◌∙◌, subst, arith, append-nil, length-append}
 use Rattle.log_blocks.specs.Log.{Block, IsRun, StandsFor, first_lsn, next_lsn}
 use Rattle.log_blocks.specs.LogState.{LogState, AreNumbered, IsDurable, durable_lsn, lsn_behind}
 use Rattle.log_blocks.specs.Opening.{IsBadAt, TellsFault, places}
 use Rattle.log_blocks.specs.declared.header.Place.{Place}
-use Rattle.log_manager.specs.Devices.{DevicesStandFor, HoldEnd}
+use Rattle.log_manager.specs.Devices.{DevicesStandFor, HoldEnd, IsEnough}
 use Rattle.log_manager.specs.Managed.{IsNoBadLog}
 use Rattle.log_manager.specs.Records.{AreRecordsOf, IsLogOf}
 use Rattle.log_manager.proofs.Finding.{next_of_all}
 use Rattle.log_manager.proofs.Joining.{in_count, next_count}
 use Rattle.listed_log.specs.Listed.{HoldsEnd}
+use Rattle.listed_log.proofs.Leaving.{durable_is, first_is, none_waits}
+use Rattle.stop_laws.specs.Stops.{IsSafe}
+use Rattle.stop_laws.proofs.Safe.{safe_start}
 use Rattle.media.specs.Crash.{LeavesOnly}
 use Rattle.media.specs.Kept.{Kept}
 use Rattle.store_model.specs.declared.fault.Fault.{Fault}
@@ -86,3 +89,18 @@ module _ {D : Type 0} (told : D → Kept) (may_leave : D → Kept → Type 0) (d
     is = held.is ∙ ap (λ (l : List Record). held.dropped ++ l) (sym (append-nil held.kept));
     blocks = blocks (last_checkpoint held.dropped) held.kept held.records;
   }
+
+  -- all of it is durable, and enough for the next opening
+  pub begins_safe : (now : LogState D) → now.ended ≡ None → now.next ≡ length opening + 1 → ((before : ℕ) (rs : List Record) → AreRecordsOf before bs rs → IsLogOf told may_leave now before rs []) → IsSafe told may_leave opening [] now
+  begins_safe now goes next blocks =
+      let at : now.next ≡ suc (length opening) = omega (arith, next) in
+      let whole : HoldsEnd told may_leave now opening = record {
+        forgotten = held.dropped;
+        stable = held.kept;
+        waiting = [];
+        is = held.is ∙ ap (λ (l : List Record). held.dropped ++ l) (sym (append-nil held.kept));
+        blocks = blocks (last_checkpoint held.dropped) held.kept held.records;
+      } in
+      let first = first_is told may_leave now opening whole at in
+      let waits = none_waits told may_leave now opening whole at refl stands.sound.room (subst (IsEnough opening) (held.first ∙ sym first) held.enough) in
+      safe_start told may_leave opening now goes (ap length held.is ∙ sym (durable_is told may_leave now opening whole at)) waits

@@ -8,19 +8,22 @@ use Rattle.listed_log.specs.Listed.{IsLogWith}
 use Rattle.media.specs.Kept.{Kept}
 use Rattle.page_ops.specs.Names.{LedgerName}
 use Rattle.page_ops.specs.Seeing.{Account, Counted}
+use Rattle.stop_laws.specs.Stops.{IsSafe}
 use Rattle.wal_record.specs.Sound.{IsSound}
 use Rattle.wal_record.specs.declared.record.Record.{Record}
 use Rattle.opening.specs.declared.reading.WhyNot.{WhyNot}
 use Rattle.opening.specs.declared.reading.WhyNot.TheVariants as causes
 
--- A life may begin with this log: the blocks have it, the listing is its own, and knows the last record of each transaction
--- that may go on. Only of a disk that tells what it keeps is such a log known.
+-- A life may begin with this log: the blocks have it, all of it durable, the listing is its own, and knows the last record of
+-- each transaction that may go on. Only of a disk that tells what it keeps is such a log known.
 pub record MayBegin {D : Type 0} (tells : Type 0) (told : D → Kept) (may_leave : D → Kept → Type 0) (m : Managed D) (s : Listing) (opening : List Record) : Type 0 where
   pub telling : tells
   pub sound : IsSound opening
   pub some : opening ≢ []
   pub few : length opening ≤ 2 ^ 62
   pub records : IsLogWith tells told may_leave (may_go_on opening) opening m s
+  -- all of it is durable, and enough for the next opening
+  pub safe : IsSafe told may_leave opening [] m.log
 
 -- Where the disk stands for this log, it wasn't opened for want of memory, because a device call failed, or because it has no
 -- record; never because a block is bad.

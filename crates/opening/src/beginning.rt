@@ -1,6 +1,7 @@
 //! A life that begins.
-ghost use Rattle.std.specs.Prelude.{◌≡◌, ◌<◌, ◌≤◌, ℕ, List, [], None, max, map, IfOk, IfSome};
+ghost use Rattle.std.specs.Prelude.{◌≡◌, ◌<◌, ◌≤◌, ℕ, List, [], None, length, max, map, IfOk, IfSome};
 ghost use Rattle.life_history.specs.Kept.{AreKept, Begins, IsSmall};
+ghost use Rattle.log_blocks.specs.LogState.{durable_lsn};
 ghost use Rattle.losers.specs.Losers.{untouched};
 ghost use Rattle.opening_rights.specs.Opened.{AreAtHome};
 ghost use Rattle.page_index.specs.Index.{home_of, limit_of};
@@ -96,7 +97,7 @@ pub fn start<'a, L: Disk, N: Life>(
     requires opens { (opening : List Record) → N.opens opening → MayBegin L.tells L.told L.may_leave log.log log.listing opening }
     requires goes { log.log.log.ended ≡ None }
     requires parts { (0 < N.entries.parts) × (0 < N.session_entries.parts) × (0 < N.log_faults.parts) × (0 < N.made.parts) }
-    requires history { (tokens.front ≡ []) × (tokens.mark ≡ 0) }
+    requires history { (tokens.front ≡ []) × (tokens.mark ≤ durable_lsn log.log.log.places) }
     requires books { AreKept N.opens [] (record { pages = tokens.books.pages; sessions = tokens.books.sessions; maint = tokens.books.maint }) }
     requires sessions { tokens.books.sessions ≡ [] }
     requires small { IsSmall next_page (record { pages = tokens.books.pages; sessions = tokens.books.sessions; maint = tokens.books.maint }) }
@@ -107,7 +108,9 @@ pub fn start<'a, L: Disk, N: Life>(
     // The journal has all parts of its ledgers, and in none was anything counted.
     ensures counts { result.journal.counts ≡ all_parts N.entries N.session_entries N.log_faults N.vault_faults N.made }
     ensures vault { result.vault_faults.total ≡ 0 }
-    ensures pass { result.pass ≡ tokens.pass }
+    // The pass that goes on knows that the opening log is durable.
+    ensures pass { (result.pass.log ≡ tokens.pass.log) × (tokens.pass.durable ≤ result.pass.durable) }
+    ensures durable { (opening : List Record) → N.opens opening → length opening ≤ result.pass.durable }
 {
     let Tokens {
         front,
@@ -145,11 +148,10 @@ pub fn start<'a, L: Disk, N: Life>(
         next_tx,
         next_page,
     );
+    let mut pass = pass;
+    let journal = Journal::start(alloc, log, history, mark, faults, losers, &mut pass);
     Begun {
-        journal: OwnJournal {
-            journal: Journal::start(alloc, log, history, mark, faults, losers),
-            counts,
-        },
+        journal: OwnJournal { journal, counts },
         pass,
         vault_faults: vault_book,
         data_faults,

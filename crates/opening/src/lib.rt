@@ -8,8 +8,9 @@
 //! It is three calls. [`read_log`] makes of a disk its log with its listing, before the life has a name: so the name can be
 //! picked by what was found. [`prepare`] makes, of the listing and of what a life begins with, the pages' rights at home,
 //! the right to maintenance and the losers; that is all that may want memory, and the log stays with the caller. [`start`]
-//! makes of these the journal of one thread. `MayBegin` of `specs/Begins` says which logs the life may have begun with:
-//! each log for which the disk stood is one. A disk that is given back still stands for the logs for which it stood.
+//! makes of these the journal of one thread, and tells the pass that goes on that the opening log is durable. `MayBegin` of
+//! `specs/Begins` says which logs the life may have begun with: each log for which the disk stood is one. A disk that is given
+//! back still stands for the logs for which it stood.
 #![tactic(auto)]
 
 mod beginning;

@@ -11,7 +11,7 @@ use Rattle.log_manager.specs.Devices.{DevicesStandFor}
 use Rattle.opening.specs.Begins.{IsForLogFault, IsWhyNot, MayBegin}
 use Rattle.opening.specs.declared.reading.NotOpened.{NotOpened}
 use Rattle.opening.specs.declared.reading.WhyNot.{WhyNot}
-use Rattle.opening.proofs.Begins.{held, holds_end, last_is, next_is, next_kept, none_there, not_bad, some_there, stands_open, stands_still}
+use Rattle.opening.proofs.Begins.{begins_safe, held, holds_end, last_is, next_is, next_kept, none_there, not_bad, some_there, stands_open, stands_still}
 use Rattle.opening.proofs.reading.read_log.Goals as goal
 
 pub returns-in-Err-clause-refused : goal.returns-in-Err-clause-refused
@@ -48,6 +48,8 @@ returns-in-Ok-analyse-clause-begins g c = λ t opening stands.
       few = few;
       records = c.new.ensures.records (may_go_on opening) opening stands.sound.lawful found.0 found.1 at
           (λ _ _. holds_end g.L.Disk.told g.L.Disk.may_leave c.args.disk log opening stands b.0 b.1 same c.one_log.ensures c.start.result.log (λ before rs are. c.start.ensures.records t before b.0 rs now are));
+      safe = begins_safe g.L.Disk.told g.L.Disk.may_leave c.args.disk log opening stands b.0 b.1 same c.one_log.ensures c.start.result.log (ap (λ (m : Managed g.row.L.Denot). m.log.ended) c.start.ensures.same ∙ c.in-Ok-analyse.ensures.live) at
+          (λ before rs are. c.start.ensures.records t before b.0 rs now are);
     })
 
 pub returns-in-Err-analyse-clause-refused : goal.returns-in-Err-analyse-clause-refused
