@@ -111,7 +111,9 @@ pub(crate) fn begin<'a, N: Life>(
         1,
     );
     let page = history.open_page(1);
-    let journal = Journal::start(alloc, log, history, mark, faults, Losers::none(alloc));
+    let mut pass = pass;
+    let losers = Losers::none(alloc);
+    let journal = Journal::start(alloc, log, history, mark, faults, losers, &mut pass);
     Begun {
         journal: OwnJournal { journal, counts },
         pass,

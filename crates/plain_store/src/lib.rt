@@ -9,8 +9,10 @@
 //! page's head in the log. Nothing was counted in the life's ledgers. An opening is refused only for want of memory, and
 //! then each device is handed back as it was.
 //!
-//! The data device is a blank one so far: the images that an earlier life wrote aren't taken over, and each page is
-//! repaired from the log.
+//! The data device may have images that earlier lives wrote (`AreEarlier` of `specs/Opens`): whatever log the life begins
+//! with, each is the page's sealed image in it. The opening log is durable, and the pass of the images is told so before it is
+//! shown them. [`PlainStore::into_devices`] hands the devices back as the life stops: whatever the log disk keeps then, or
+//! after a crash, stands for a log that a stop may leave of the life.
 #![tactic(auto)]
 
 mod opened;

@@ -1,12 +1,12 @@
 //! A store is opened.
-ghost use Rattle.std.specs.Prelude.{◌≡◌, ◌⊎◌, ◌<◌, ℕ, List, [], None, false, IfErr, IfOk};
+ghost use Rattle.std.specs.Prelude.{◌≡◌, ◌⊎◌, ◌<◌, ◌≤◌, ℕ, List, [], None, false, length, IfErr, IfOk};
 ghost use Rattle.buffer_pool.specs.Tables.{frame_of};
 ghost use Rattle.buffer_pool.specs.declared.frame.Frame.TheVariants.{Empty};
 ghost use Rattle.opening.specs.Begins.{MayBegin, all_parts};
 ghost use Rattle.opening_rights.specs.Opened.{AreAtHome};
 ghost use Rattle.page_ops.specs.Causes.{IsUntold};
 ghost use Rattle.wal_record.specs.declared.record.Record.{Record};
-ghost use Rattle.plain_store.specs.Opens.{IsBlank};
+ghost use Rattle.plain_store.specs.Opens.{AreEarlier};
 
 use crate::store::PlainStore;
 use buffer_pool::{PlainPool, PoolRefused};
@@ -26,7 +26,7 @@ pub struct StoreRefused<L, P, S> {
     pub supply: S,
 }
 
-/// A store on this log, with a blank data device and a supply of pages.
+/// A store on this log, with a data device that has images of it, or none, and a supply of pages.
 pub fn open_store<'a, L: Disk, P: PageDevice, S, N: Life>(
     alloc: Global,
     ground: &'a Ground<N>,
@@ -39,9 +39,10 @@ pub fn open_store<'a, L: Disk, P: PageDevice, S, N: Life>(
     requires goes { log.log.log.ended ≡ None }
     // A log with which the life may have begun is known only where the data device tells what was written.
     requires told { P.tells ⊎ IsUntold N.opens }
-    requires blank { P.tells → IsBlank P.told device }
+    // Images that an earlier life wrote are taken over.
+    requires images { P.tells → AreEarlier N.opens P.told device }
     requires parts { (0 < N.entries.parts) × (0 < N.session_entries.parts) × (0 < N.log_faults.parts) × (0 < N.made.parts) }
-    requires history { (tokens.front ≡ []) × (tokens.mark ≡ 0) }
+    requires history { (tokens.front ≡ []) × (tokens.mark ≡ 0) × (tokens.pass.log ≡ []) }
     requires books { (tokens.books.pages ≡ []) × (tokens.books.sessions ≡ []) × (tokens.books.maint ≡ []) }
     // No page is in a frame or in a hand: each right is at home, at the page's head.
     ensures empty { IfOk result (λ s. (page : ℕ) → frame_of s.pages.frames page ≡ Empty) }
@@ -50,7 +51,9 @@ pub fn open_store<'a, L: Disk, P: PageDevice, S, N: Life>(
     // It has all parts of the ledgers, and in none was anything counted.
     ensures account { IfOk result (λ s. s.journal.counts ≡ all_parts N.entries N.session_entries N.log_faults N.vault_faults N.made) }
     ensures vault { IfOk result (λ s. s.vault_faults.total ≡ 0) }
-    ensures pass { IfOk result (λ s. s.pass ≡ tokens.pass) }
+    // The pass that goes on knows that the opening log is durable.
+    ensures pass { IfOk result (λ s. s.pass.log ≡ []) }
+    ensures durable { IfOk result (λ s. (opening : List Record) → N.opens opening → length opening ≤ s.pass.durable) }
     ensures maint { IfOk result (λ s. s.maint ≡ record { number = 0; lsn = 0 }) }
     ensures devices { IfOk result (λ s. (s.pages.images ≡ device) × (s.pages.supply ≡ supply)) }
     ensures refused { IfErr result (λ r. r ≡ record { log = log.log.log.device; device = device; supply = supply }) }
@@ -67,6 +70,10 @@ pub fn open_store<'a, L: Disk, P: PageDevice, S, N: Life>(
         next_tx,
         losers,
     } = prepared;
+    // The images of earlier lives are of the opening log, which is durable.
+    tokens
+        .mark
+        .store(&ground.board, log.durable(), &mut tokens.pass);
     let images = OwnImages::new(ground, device, tokens.pass.copy(&ground.board));
     let pages = match PlainPool::new(alloc, images, supply, index) {
         Ok(pages) => pages,

@@ -1,4 +1,7 @@
 //! A store of one thread.
+ghost use Rattle.std.specs.Prelude.{◌≡◌};
+ghost use Rattle.journal.specs.Stops.{Leaves};
+
 use books::MaintRight;
 use buffer_pool::PlainPool;
 use front::Pass;
@@ -19,4 +22,24 @@ pub struct PlainStore<'a, L: Disk, P: PageDevice, S, N: Life> {
     pub maint: MaintRight<N>,
     pub vault_faults: Book<VaultFaults<N>>,
     pub data_faults: NewLedger<DataFaults<N>>,
+}
+
+impl<'a, L: Disk, P: PageDevice, S, N: Life> PlainStore<'a, L, P, S, N> {
+    /// The life has stopped: its log disk, its data device and its supply, as they are. What the log disk keeps, and what it
+    /// keeps after a crash that comes now, stands for a log that a stop may leave of the life.
+    pub fn into_devices(self) -> (L, P, S)
+        ensures log { Leaves N.opens L.told L.may_leave self.entry.journal.journal self.entry.pass.durable result.0 }
+        ensures device { result.1 ≡ self.entry.pages.images }
+        ensures supply { result.2 ≡ self.entry.pages.supply }
+    {
+        let PlainStore {
+            journal,
+            pages,
+            mut pass,
+            ..
+        } = self;
+        let log = journal.into_device(&mut pass);
+        let (images, supply) = pages.into_parts();
+        (log, images.into_device(), supply)
+    }
 }

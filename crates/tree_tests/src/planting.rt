@@ -147,12 +147,11 @@ pub(crate) fn plant<'a, L: Disk, N: Life>(
         ended: None,
         faults: 0,
     };
-    let (pages, pass) = with_leaf(ground, frames, state, right, pass);
+    let (pages, mut pass) = with_leaf(ground, frames, state, right, pass);
+    let losers = Losers::none(alloc);
+    let journal = Journal::start(alloc, log, history, mark, faults, losers, &mut pass);
     Planted {
-        journal: OwnJournal {
-            journal: Journal::start(alloc, log, history, mark, faults, Losers::none(alloc)),
-            counts,
-        },
+        journal: OwnJournal { journal, counts },
         pages,
         pass,
     }
