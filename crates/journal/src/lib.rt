@@ -52,8 +52,8 @@
 //! A group that isn't built yet is refused as one that wants memory, which the traits allow.
 #![tactic(auto)]
 
-mod device;
 mod checkpointing;
+mod device;
 mod ends;
 mod filling;
 mod in_way;
