@@ -54,9 +54,9 @@ pub fn grow<N: Life, J: Entering<N>, P: Pages<N, J>, R: Wait>(
     let mut rights = Rights::none();
     rights.a = root.right.take();
     let entered = ask(rt, alloc, journal, made, &mut rights, pass);
-    let Some(right) = rights.a.take() else {
-        unreachable!()
-    };
+    let (back, new) = (rights.a.take(), rights.c.take());
+    drop(rights);
+    let Some(right) = back else { unreachable!() };
     root.lsn = right.lsn();
     root.right = Some(right);
     match entered? {
@@ -65,9 +65,7 @@ pub fn grow<N: Life, J: Entering<N>, P: Pages<N, J>, R: Wait>(
         Entered::Late(_) => unreachable!(),
     }
     let Ok(rows) = rows else { unreachable!() };
-    let Some(right) = rights.c.take() else {
-        unreachable!()
-    };
+    let Some(right) = new else { unreachable!() };
     let child = right.page();
     let above = root_above(root.state.level, rows, child);
     let old = mem::replace(&mut root.state, above);

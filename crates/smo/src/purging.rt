@@ -42,9 +42,9 @@ pub fn purge<N: Life, J: Entering<N>, R: Wait>(
     rights.a = leaf.right.take();
     let made = group_of(alloc, leaf.page, leaf.lsn);
     let entered = ask(rt, alloc, journal, made, &mut rights, pass);
-    let Some(right) = rights.a.take() else {
-        unreachable!()
-    };
+    let back = rights.a.take();
+    drop(rights);
+    let Some(right) = back else { unreachable!() };
     leaf.lsn = right.lsn();
     leaf.right = Some(right);
     let Entered::At(pos) = entered? else {

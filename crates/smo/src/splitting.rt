@@ -54,9 +54,9 @@ pub fn split<N: Life, J: Entering<N>, P: Pages<N, J>, R: Wait>(
     let mut rights = Rights::none();
     rights.a = branch.right.take();
     let entered = ask(rt, alloc, journal, made, &mut rights, pass);
-    let Some(right) = rights.a.take() else {
-        unreachable!()
-    };
+    let (back, new) = (rights.a.take(), rights.c.take());
+    drop(rights);
+    let Some(right) = back else { unreachable!() };
     branch.lsn = right.lsn();
     branch.right = Some(right);
     match entered? {
@@ -65,9 +65,7 @@ pub fn split<N: Life, J: Entering<N>, P: Pages<N, J>, R: Wait>(
         Entered::Late(_) => unreachable!(),
     }
     let Ok(upper) = upper else { unreachable!() };
-    let Some(right) = rights.c.take() else {
-        unreachable!()
-    };
+    let Some(right) = new else { unreachable!() };
     let child = right.page();
     keep_lower(alloc, &mut branch.state, child);
     branch.pass = pass.copy(&journal.ground().board);

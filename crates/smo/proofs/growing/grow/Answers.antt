@@ -12,19 +12,19 @@ pub put_made-requires-clause-made : goal.put_made-requires-clause-made
 put_made-requires-clause-made g c =
     let result_is : c.ask-entered.result ≡ Ok (At c.in-At.field-0) = c.in_ok-entered.was ∙ (λ i. Ok (c.in-At.is i)) in
     child_settled _ _ _ c.args.root.now _ c.root.view_is c.root.invariant _ _ c.requires.begins c.requires.root c.requires.foster c.requires.level _ c.group_of-made.ensures.is
-    _ _ _ c.take.ensures.value (c.rights.view_is ∙ c.none-rights.ensures) refl _ _ result_is _ _ _ _ c.ask-entered.ensures.asked c.ask-entered.ensures.holders c.rights-2.view_is c.rights-2.invariant _ _ _ _ c.take-2.ensures.value c.in-Some.is
-    c.take-3.ensures.value c.in-Some-take.is _ _ c.replace-old.ensures.value (c.copy-2.ensures.copy ∙ c.copy.ensures.same)
+    _ _ _ c.take.ensures.value (c.rights.view_is ∙ c.none-rights.ensures) refl _ _ result_is _ _ _ _ c.ask-entered.ensures.asked c.ask-entered.ensures.holders c.rights-2.view_is c.rights-2.invariant _ _ _ _ c.take-back.ensures.value c.in-Some.is
+    c.take-new.ensures.value c.in-Some-new.is _ _ c.replace-old.ensures.value (c.copy-2.ensures.copy ∙ c.copy.ensures.same)
 
 pub invariant_of-root-2 : goal.invariant_of-root-2
 invariant_of-root-2 g c =
     let result_is : c.ask-entered.result ≡ Ok (At c.in-At.field-0) = c.in_ok-entered.was ∙ (λ i. Ok (c.in-At.is i)) in
     root_settled _ _ _ c.args.root.now _ c.root.view_is c.root.invariant _ _ c.requires.begins c.requires.root c.requires.foster c.requires.level _ c.group_of-made.ensures.is
-    _ _ _ c.take.ensures.value (c.rights.view_is ∙ c.none-rights.ensures) refl _ _ result_is _ _ _ _ c.ask-entered.ensures.asked c.ask-entered.ensures.holders c.rights-2.view_is c.rights-2.invariant _ _ _ _ c.take-2.ensures.value c.in-Some.is
-    c.take-3.ensures.value c.in-Some-take.is _ _ _ _ c.lsn-root-inside.ensures c.page-child.ensures (c.replace-old.ensures.after ∙ c.root_above-above.ensures) c.copy.ensures.copy
+    _ _ _ c.take.ensures.value (c.rights.view_is ∙ c.none-rights.ensures) refl _ _ result_is _ _ _ _ c.ask-entered.ensures.asked c.ask-entered.ensures.holders c.rights-2.view_is c.rights-2.invariant _ _ _ _ c.take-back.ensures.value c.in-Some.is
+    c.take-new.ensures.value c.in-Some-new.is _ _ _ _ c.lsn-root-inside.ensures c.page-child.ensures (c.replace-old.ensures.after ∙ c.root_above-above.ensures) c.copy.ensures.copy
 
 pub returns-clause-entered : goal.returns-clause-entered
 returns-clause-entered g c =
     let result_is : c.ask-entered.result ≡ Ok (At c.in-At.field-0) = c.in_ok-entered.was ∙ (λ i. Ok (c.in-At.is i)) in
     grow_entered _ _ _ c.args.root.now _ c.root.view_is c.root.invariant _ _ c.requires.begins c.requires.root c.requires.foster c.requires.level _ c.group_of-made.ensures.is
-    _ _ _ c.take.ensures.value (c.rights.view_is ∙ c.none-rights.ensures) refl _ _ result_is _ _ _ _ c.ask-entered.ensures.asked c.ask-entered.ensures.holders c.rights-2.view_is c.rights-2.invariant _ _ _ _ c.take-2.ensures.value c.in-Some.is
-    c.take-3.ensures.value c.in-Some-take.is _ _ c.page-child.ensures (c.copy-2.ensures.same ∙ c.copy.ensures.same)
+    _ _ _ c.take.ensures.value (c.rights.view_is ∙ c.none-rights.ensures) refl _ _ result_is _ _ _ _ c.ask-entered.ensures.asked c.ask-entered.ensures.holders c.rights-2.view_is c.rights-2.invariant _ _ _ _ c.take-back.ensures.value c.in-Some.is
+    c.take-new.ensures.value c.in-Some-new.is _ _ c.page-child.ensures (c.copy-2.ensures.same ∙ c.copy.ensures.same)
