@@ -1,11 +1,15 @@
 //! The lines of a transcript: how the answer to each command is printed.
 //!
-//! A line is a list of bytes with its end. Its model is those bytes, and the promise of each function is what they are: the
-//! head of the line, which says what was asked, and the answer (`specs/Lines`), with names as they are, numbers in decimals,
-//! and keys, bounds and values as tokens (`specs/Printing`). A request's functions take any request, and its answer is a reply
-//! with the rows of a scan, a conflict, a full store, an operator that gives no value, a device that failed, or a life that had ended. A
-//! byte that may not stand in a token is printed as `%` and two hexadecimal digits, and an empty text as `%`, so what is printed
-//! can be read again as a script reads it ([`token_law`]). A function is refused by want of memory alone.
+//! A line is a list of bytes with its end. Its model is those bytes, and the promise of each function is what they are: a
+//! head, which says what was asked, and the answer behind it (`specs/Lines`). Names stand in it as they are, numbers in
+//! decimals, and keys, bounds and values as tokens (`specs/Printing`). A byte that may not stand in a token is printed as `%`
+//! and two hexadecimal digits, and an empty text as `%`, so what is printed can be read again as a script reads it
+//! ([`token_law`]).
+//!
+//! [`request_lines`] and its kin take any request. A request is answered by a reply, behind which a scan has its rows; or by a
+//! conflict, a full store, an operator that gives no value, a device that failed, or a life that had ended.
+//!
+//! A function is refused by want of memory alone.
 #![tactic(auto)]
 
 ghost use Rattle.std.specs.Prelude.{List, ℕ};
