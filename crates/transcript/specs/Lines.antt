@@ -82,7 +82,7 @@ failed_text device = codes " " ++ device_text device ++ codes " failed\n"
 abbrev pub failed_line : List ℕ → Device → List ℕ
 failed_line head device = head ++ failed_text device
 
--- the life had ended with the fault of this LSN
+-- the life had ended, with the log durable up to this LSN
 abbrev pub ended_line : List ℕ → ℕ → List ℕ
 ended_line head at = head ++ codes " ended " ++ decimal at ++ codes "\n"
 

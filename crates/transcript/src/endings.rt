@@ -57,7 +57,7 @@ pub(crate) fn failed_line(mut head: Vec<u8>, device: Device) -> Result<Vec<u8>, 
     Ok(head)
 }
 
-/// `HEAD ended N`: the life had ended with the fault of this LSN.
+/// `HEAD ended N`: the life had ended, with the log durable up to this LSN.
 pub(crate) fn ended_line(mut head: Vec<u8>, at: Lsn) -> Result<Vec<u8>, AllocError>
     ensures { IfOk result (λ out. out.items ≡ ended_line head.items at) }
 {
