@@ -1,5 +1,5 @@
 //! The pool of one thread.
-ghost use Rattle.std.specs.Prelude.{◌≡◌, false, ℕ, IfErr, IfOk, IfSome, OnErr, OnOk};
+ghost use Rattle.std.specs.Prelude.{◌≡◌, false, ℕ, None, IfErr, IfOk, IfSome, OnErr, OnOk};
 ghost use Rattle.media.specs.Cause.{HasCause};
 ghost use Rattle.page_index.specs.Index.{home_of};
 ghost use Rattle.page_ops.specs.Causes.{FailsToReserve, MeetsNoEnd};
@@ -117,6 +117,7 @@ impl<I: Images<N>, S, N: Life> PlainPool<I, S, N> {
     pub fn lose<R: Wait>(&mut self, rt: &R) -> Result<(), Failed>
         requires none { self.old.out ≡ 0 }
         ensures lost { Loses self.old.frames self.new.frames }
+        ensures empty { I.tells → OnOk result ((page : ℕ) → I.newest self.new.images page ≡ None) }
         ensures others { (self.new.out ≡ self.old.out) × (self.new.reserves ≡ self.old.reserves) × (self.new.supply ≡ self.old.supply) }
         ensures cause { HasCause I.faults self.old.images self.new.images result }
     {
