@@ -117,3 +117,11 @@ pub refused_consistent : (opens : List Record → Type 0) (seen h : List Entry) 
 refused_consistent opens seen h session tx request x0 x own same claim m may = consistent_entry opens h (entries.Declined session tx request outcomes.OpRefused) m.consistent refl refl (λ log. refl) (λ opening stands.
     let law = may opening h stands (subst (λ (y : SessionClaim). IsMoment opens seen (session_alone y) h) claim m) in
     subst (λ (y : ℕ × ℕ). MayDecline opening h y.0 y.1 request outcomes.OpRefused) (λ i. (sym (own ∙ ap (λ (y : SessionClaim). y.session) claim) i, sym (same ∙ ap (λ (y : SessionClaim). y.tx) claim) i)) law)
+
+-- nothing is told of an end
+pub declined_ended : (opens : List Record → Type 0) (asked : Group) (x x' : Claims) (a a' : Account) (h h' : List Entry) (r : Result Entered Fault) → IsDeclined opens asked r x x' a a' h h' → a'.ended ≡ a.ended
+declined_ended opens asked x x' a a' h h' (Ok entered.NoRoom) d = ap (λ (y : Account). y.ended) d.1.counted
+declined_ended opens asked x x' a a' h h' (Ok _) d = absurd d
+declined_ended opens asked x x' a a' h h' (Err faults.Memory) d = ap (λ (y : Account). y.ended) d.counted
+declined_ended opens asked x x' a a' h h' (Err (faults.Full pages pending at)) d = ap (λ (y : Account). y.ended) d.counted
+declined_ended opens asked x x' a a' h h' (Err _) d = absurd d

@@ -18,4 +18,5 @@ pub mod Waiting
 pub mod Barring
 pub mod Analysed
 pub mod Stopping
+pub mod Calls
 pub mod Checkpoints

@@ -6,4 +6,5 @@ pub mod Losers
 pub mod Groups
 pub mod Lookups
 pub mod Restored
+pub mod State
 pub mod Stops

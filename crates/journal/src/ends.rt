@@ -1,10 +1,14 @@
 //! How a life ends: by a fault of its log disk. And what a call does before it enters anything.
-ghost use Rattle.std.specs.Prelude.{◌≡◌, ◌⊎◌, ◌<◌, ◌≤◌, ◌+◌, ◌-◌, ◌^◌, ℕ, List, Bool, Some, None, is_some, true, IfOk, IfErr, OnErr, OnOk};
+ghost use Rattle.std.specs.Prelude.{◌≡◌, ◌⊎◌, ◌<◌, ◌≤◌, ◌+◌, ◌-◌, ◌^◌, ℕ, List, Bool, Some, None, is_some, true, IfOk, IfErr, IsErrAnd, OnErr, OnOk};
 ghost use Rattle.journal.specs.Ends.{EndsCall, IsFailed, IsStopped, IsToldEnd, IsUnread};
 ghost use Rattle.journal.specs.Lookups.{HasSpelledRecord, IsFoundIn};
 ghost use Rattle.listed_log.specs.Listed.{IsLogWith};
 ghost use Rattle.log_blocks.specs.LogState.{durable_lsn};
+ghost use Rattle.log_blocks.specs.Opening.{IsLogFault};
 ghost use Rattle.log_manager.specs.Managed.{IsNoBadLog, first_kept};
+ghost use Rattle.journal.specs.State.{LearnsEnd};
+ghost use Rattle.journal.specs.Stops.{EndsDurably};
+ghost use Rattle.media.specs.Counted.{Blames};
 ghost use Rattle.page_ops.specs.Causes.{IsOpen};
 ghost use Rattle.stop_laws.specs.Stops.{GoesOnOrEnds, WaitsInGroups};
 ghost use Rattle.store_model.specs.declared.fault.Fault.TheVariants as answers;
@@ -33,6 +37,7 @@ pub(crate) fn check_open<L: Disk, N: Life>(
     ensures total { faults.new.total ≡ faults.old.total }
     ensures open { OnOk result ((log.now.log.log.ended ≡ None) × (counts.new ≡ counts.old) × IsOpen counts.old) }
     ensures ended { IfErr result (IsToldEnd N.log_faults counts.old counts.new) }
+    ensures learns { LearnsEnd counts.old counts.new log.now.log.log.ended }
 {
     if let Some(at) = counts.ended() {
         return Err(Fault::Ended { at });
@@ -59,6 +64,7 @@ pub(crate) fn make_room<L: Disk, N: Life>(
     ensures open { OnOk result ((counts.new ≡ counts.old) × IsOpen counts.old) }
     ensures same { OnErr result (log.new ≡ log.old) }
     ensures stopped { IfErr result (IsStopped N.log_faults counts.old counts.new) }
+    ensures learns { LearnsEnd counts.old counts.new log.new.log.log.ended }
 {
     check_open(log, faults, counts)?;
     if log.last() >= MOST {
@@ -77,6 +83,7 @@ pub(crate) fn note_fault<L: Disk, N: Life>(
     requires { is_some log.now.log.log.ended ≡ true }
     ensures total { faults.new.total ≡ faults.old.total + 1 }
     ensures failed { IsFailed counts.old counts.new }
+    ensures end { counts.new.ended ≡ log.now.log.log.ended }
 {
     let Some(at) = log.ended() else {
         unreachable!()
@@ -125,6 +132,9 @@ pub(crate) fn find<L: Disk, N: Life>(
     ensures places { (log.new.log.spare ≡ log.old.log.spare) × (log.new.log.log.places ≡ log.old.log.log.places) }
     ensures unread { IfErr result IsUnread }
     ensures ends { EndsCall log.new.log.log.ended faults.old.total faults.new.total counts.old counts.new result }
+    ensures durable { EndsDurably log.new.log.log }
+    ensures learns { LearnsEnd counts.old counts.new log.new.log.log.ended }
+    ensures fuse { Blames L.passes L.refused L.own log.old.log.log.device log.new.log.log.device (IsErrAnd result IsLogFault) }
 {
     if lsn == 0 || lsn > log.last() {
         return Err(Fault::Memory);
@@ -162,6 +172,9 @@ pub(crate) fn recycle_log<L: Disk, N: Life>(
     ensures spare { log.new.log.spare ≡ log.old.log.spare }
     ensures unread { IfErr result (λ fault. fault ≡ answers.LogFault) }
     ensures ends { EndsCall log.new.log.log.ended faults.old.total faults.new.total counts.old counts.new result }
+    ensures durable { EndsDurably log.new.log.log }
+    ensures learns { LearnsEnd counts.old counts.new log.new.log.log.ended }
+    ensures fuse { Blames L.passes L.refused L.own log.old.log.log.device log.new.log.log.device (IsErrAnd result IsLogFault) }
 {
     match log.recycle() {
         Ok(lsn) => Ok(lsn),

@@ -1,9 +1,10 @@
 //! The value behind the lock, and its calls.
-ghost use Rattle.std.specs.Prelude.{◌≡◌, ◌+◌, ◌<◌, ◌≤◌, ◌^◌, ℕ, suc, List, [], ◌∷◌, ◌++◌, length, map, min, true, false, Some, None, IfSome, IfNone, IsSome, IfOk, IfErr, OnOk, OnErr, IsTrue};
+ghost use Rattle.std.specs.Prelude.{◌≡◌, ◌+◌, ◌<◌, ◌≤◌, ◌^◌, ℕ, suc, List, [], ◌∷◌, ◌++◌, length, map, min, true, false, Some, None, IfSome, IfNone, IsSome, IfOk, IfErr, IsErrAnd, OnOk, OnErr, IsTrue};
 ghost use Rattle.std.specs.List.{All, list_any};
 ghost use Rattle.group_filling.specs.Fitting.{AreInRange};
 ghost use Rattle.log_index.specs.GoingOn.{may_go_on};
 ghost use Rattle.log_blocks.specs.LogState.{durable_lsn};
+ghost use Rattle.log_blocks.specs.Opening.{IsLogFault};
 ghost use Rattle.log_manager.specs.Payload.{bytes_of};
 ghost use Rattle.listed_log.specs.Listed.{IsLogWith, Joins};
 ghost use Rattle.page_ops.specs.Asking.{HasNumbers, HasRoomFor, IsAskable, IsLate, IsTimely, LacksRoomFor, MayBeDeclined, MayFollow, WasTimely, can_be_late};
@@ -29,6 +30,7 @@ ghost use Rattle.wal_record.specs.declared.record.Record.{Record};
 ghost use Rattle.wal_record.specs.declared.record.Record.TheVariants as kinds;
 ghost use Rattle.journal.specs.Declined.{IsDeclined, IsTaken};
 ghost use Rattle.journal.specs.Kept.{IsTold};
+ghost use Rattle.journal.specs.State.{BlamesDisk, IsUntouched, KeepsEnd, LearnsEnd, calls_of};
 ghost use Rattle.journal.specs.Stops.{AreSafe};
 ghost use Rattle.journal.specs.Groups.{EndsLoser, EndsSession, EntersFilled, EntersNow, GroupFollows, IsCheckpointAlone, IsNext, IsNextPage};
 
@@ -62,7 +64,7 @@ use wal_record::{End, Entry, Record};
 /// The bound of the counters, from which on nothing is begun.
 pub(crate) const MOST: u64 = 1 << 62;
 
-/// The log, the locks and the history of a life. Contracts see it as the history.
+/// The log, the locks and the history of a life. Contracts see it as the history, the end, and what the log disk tells of its calls.
 #[derive(Drop)]
 pub struct Journal<'a, L: Disk, N: Life> {
     pub(crate) log: ListedLog<L>,
@@ -81,18 +83,18 @@ pub struct Journal<'a, L: Disk, N: Life> {
 }
 
 impl<'a, L: Disk, N: Life> Model for Journal<'a, L, N> {
-    ghost use Rattle.std.specs.Prelude.{◌≡◌, List};
-    ghost use Rattle.wal_record.specs.declared.entry.Entry.{Entry};
+    ghost use Rattle.std.specs.Prelude.{◌≡◌};
     ghost use Rattle.journal.specs.Kept.{IsKept};
     ghost use Rattle.journal.specs.Losers.{HasLosers};
     ghost use Rattle.journal.specs.Restored.{AreRestored};
-    ghost use Rattle.journal.specs.Stops.{AreSafe};
+    ghost use Rattle.journal.specs.State.{JournalState, calls_of};
+    ghost use Rattle.journal.specs.Stops.{AreSafe, EndsDurably};
 
-    ghost Value = { List Entry };
+    ghost Value = { JournalState };
 
-    ghost view = { λ j. j.history };
+    ghost view = { λ j. record { history = j.history; ended = j.log.log.log.ended; calls = calls_of L.passes L.refused L.own j.log.log.log.device } };
 
-    ghost invariant = { λ j. (j.mark ≡ j.marked) × IsKept N.opens L.tells L.told L.may_leave j.history j.log.log j.log.listing j.locks j.marked j.faults.total × AreRestored j.history j.restored × HasLosers N.opens j.history j.losers × AreSafe N.opens L.told L.may_leave j.history j.log.log.log };
+    ghost invariant = { λ j. (j.mark ≡ j.marked) × IsKept N.opens L.tells L.told L.may_leave j.history j.log.log j.log.listing j.locks j.marked j.faults.total × AreRestored j.history j.restored × HasLosers N.opens j.history j.losers × AreSafe N.opens L.told L.may_leave j.history j.log.log.log × EndsDurably j.log.log.log };
 }
 
 impl<'a, L: Disk, N: Life> Journal<'a, L, N> {
@@ -116,7 +118,9 @@ impl<'a, L: Disk, N: Life> Journal<'a, L, N> {
         requires losers { (opening : List Record) → N.opens opening → losers ≡ map untouched (writes.losers opening) }
         requires telling { IsTold N.opens L.tells }
         requires safe { AreSafe N.opens L.told L.may_leave [] log.log.log }
-        ensures begins { result ≡ [] }
+        ensures begins { result.history ≡ [] }
+        ensures goes { result.ended ≡ None }
+        ensures calls { result.calls ≡ calls_of L.passes L.refused L.own log.log.log.device }
         ensures durable { (opening : List Record) → N.opens opening → length opening ≤ pass.new.durable }
         ensures log { pass.new.log ≡ pass.old.log }
         ensures before { pass.old.durable ≤ pass.new.durable }
@@ -142,7 +146,7 @@ impl<'a, L: Disk, N: Life> Journal<'a, L, N> {
         ensures same { self.new ≡ self.old }
         ensures rights { rights.new ≡ rights.old }
         ensures counts { counts.new ≡ counts.old }
-        ensures pass { pass.new.log ≡ self.old }
+        ensures pass { pass.new.log ≡ self.old.history }
         ensures seen { Enters N.opens N.entries N.session_entries (known counts.old pass.old rights.old) [] (known counts.new pass.new rights.new) }
     {
         self.history.see(rights, pass, counts);
@@ -159,6 +163,8 @@ impl<'a, L: Disk, N: Life> Journal<'a, L, N> {
         ensures new { IfOk result (λ s. (s.entries ≡ 0) × (s.tx ≡ 0) × SessionAgrees pass.new.log s) }
         ensures refused { IfErr result (FailsToEnter NoOther) }
         ensures ends { Ends N.opens N.log_faults N.made counts.old counts.new pass.new.log result }
+        ensures disk { IsUntouched self.old self.new }
+        ensures learns { LearnsEnd counts.old counts.new self.new.ended }
     {
         match check_open(&self.log, &mut self.faults, counts) {
             Ok(()) => self.history.session(pass, counts),
@@ -184,6 +190,8 @@ impl<'a, L: Disk, N: Life> Journal<'a, L, N> {
         ensures crowd { IfErr result (IsCrowd pass.new.log) }
         ensures refused { IfErr result (FailsToEnter OrTooMany) }
         ensures ends { Ends N.opens N.log_faults N.made counts.old counts.new pass.new.log result }
+        ensures disk { IsUntouched self.old self.new }
+        ensures learns { LearnsEnd counts.old counts.new self.new.ended }
     {
         match make_room(&mut self.log, &mut self.faults, counts) {
             Ok(()) => self.history.begin(s, pass, counts),
@@ -211,6 +219,8 @@ impl<'a, L: Disk, N: Life> Journal<'a, L, N> {
         ensures conflict { IfErr result (IsConflict N.opens pass.new.log (held range.now mode)) }
         ensures refused { IfErr result (FailsToEnter OrConflict) }
         ensures ends { Ends N.opens N.log_faults N.made counts.old counts.new pass.new.log result }
+        ensures disk { IsUntouched self.old self.new }
+        ensures learns { LearnsEnd counts.old counts.new self.new.ended }
     {
         self.history.watch_session(s, pass, counts);
         check_open(&self.log, &mut self.faults, counts)?;
@@ -260,6 +270,8 @@ impl<'a, L: Disk, N: Life> Journal<'a, L, N> {
         ensures place { IfOk result (λ pos. pos ≡ length pass.new.log) }
         ensures refused { IfErr result (FailsToEnter NoOther) }
         ensures ends { Ends N.opens N.log_faults N.made counts.old counts.new pass.new.log result }
+        ensures disk { IsUntouched self.old self.new }
+        ensures learns { LearnsEnd counts.old counts.new self.new.ended }
     {
         self.history.watch_session(s, pass, counts);
         check_open(&self.log, &mut self.faults, counts)?;
@@ -285,6 +297,9 @@ impl<'a, L: Disk, N: Life> Journal<'a, L, N> {
         ensures holder { s.new.session ≡ s.old.session }
         ensures refused { IfErr result FailsToFlush }
         ensures ends { Ends N.opens N.log_faults N.made counts.old counts.new pass.new.log result }
+        ensures end { KeepsEnd self.old self.new }
+        ensures learns { LearnsEnd counts.old counts.new self.new.ended }
+        ensures calls { BlamesDisk self.old.calls self.new.calls (IsErrAnd result IsLogFault) }
     {
         self.history.watch_session(s, pass, counts);
         check_open(&self.log, &mut self.faults, counts)?;
@@ -320,12 +335,15 @@ impl<'a, L: Disk, N: Life> Journal<'a, L, N> {
         pass: &mut Pass<Entry, N>,
         counts: &mut Counts<N>,
     ) -> Result<(), Fault>
-        ensures same { self.new ≡ self.old }
-        ensures pass { pass.new.log ≡ self.old }
+        ensures same { self.new.history ≡ self.old.history }
+        ensures pass { pass.new.log ≡ self.old.history }
         ensures seen { Looks N.opens N.entries N.session_entries counts.old pass.old counts.new pass.new }
         ensures durable { OnOk result ((opening : List Record) → N.opens opening → min lsn (length (life_log opening pass.new.log)) ≤ pass.new.durable) }
         ensures refused { IfErr result FailsToFlush }
         ensures ends { Ends N.opens N.log_faults N.made counts.old counts.new pass.new.log result }
+        ensures end { KeepsEnd self.old self.new }
+        ensures learns { LearnsEnd counts.old counts.new self.new.ended }
+        ensures calls { BlamesDisk self.old.calls self.new.calls (IsErrAnd result IsLogFault) }
     {
         self.history.look(pass, counts);
         check_open(&self.log, &mut self.faults, counts)?;
@@ -352,6 +370,7 @@ impl<'a, L: Disk, N: Life> Journal<'a, L, N> {
         ensures counts { counts.new ≡ counts.old }
         ensures seen { Looks N.opens N.entries N.session_entries counts.old pass.old counts.new pass.new }
         ensures count { result ≡ length pass.new.log }
+        ensures disk { IsUntouched self.old self.new }
     {
         self.history.look(pass, counts);
         self.history.length()
@@ -363,6 +382,7 @@ impl<'a, L: Disk, N: Life> Journal<'a, L, N> {
         ensures known { counts.new ≡ record counts.old { ended = result } }
         ensures still { IfSome counts.old.ended (λ at. result ≡ Some at) }
         ensures none { IfNone result (counts.old.log_faults.amount ≡ 0) }
+        ensures learns { LearnsEnd counts.old counts.new self.new.ended }
     {
         let _ = check_open(&self.log, &mut self.faults, counts);
         counts.ended()
@@ -373,6 +393,7 @@ impl<'a, L: Disk, N: Life> Journal<'a, L, N> {
         ensures counts { counts.new ≡ counts.old }
         ensures seen { Looks N.opens N.entries N.session_entries counts.old pass.old counts.new pass.new }
         ensures count { (opening : List Record) → N.opens opening → result ≡ pages (life_log opening pass.new.log) }
+        ensures disk { IsUntouched self.old self.new }
     {
         self.history.look(pass, counts);
         number_of(self.log.listing().pages() as u64)
@@ -383,6 +404,7 @@ impl<'a, L: Disk, N: Life> Journal<'a, L, N> {
         ensures counts { counts.new ≡ counts.old }
         ensures seen { Looks N.opens N.entries N.session_entries counts.old pass.old counts.new pass.new }
         ensures count { (opening : List Record) → N.opens opening → result ≡ pending (life_log opening pass.new.log) }
+        ensures disk { IsUntouched self.old self.new }
     {
         self.history.look(pass, counts);
         number_of(self.log.listing().pending())
@@ -390,7 +412,7 @@ impl<'a, L: Disk, N: Life> Journal<'a, L, N> {
 
     /// How many pages and pending writes there are. It wants memory where these are more than a store can have.
     fn taken(&self) -> Result<Taken, Memory>
-        ensures { IfOk result (IsTaken N.opens self.now) }
+        ensures { IfOk result (IsTaken N.opens self.now.history) }
     {
         let listing = self.log.listing();
         let Ok(pages) = u32::try_from(listing.pages()) else {
@@ -404,9 +426,9 @@ impl<'a, L: Disk, N: Life> Journal<'a, L, N> {
 
     /// Whether there is the room that the group asks for.
     fn has_room(&self, group: &Group, taken: &Taken) -> bool
-        requires { IsTaken N.opens self.now taken.now }
-        ensures room { IsTrue result → (opening : List Record) → N.opens opening → HasRoomFor opening self.now group.now }
-        ensures none { result ≡ false → (group.now.room ≡ true) × ((opening : List Record) → N.opens opening → LacksRoomFor opening self.now group.now) }
+        requires { IsTaken N.opens self.now.history taken.now }
+        ensures room { IsTrue result → (opening : List Record) → N.opens opening → HasRoomFor opening self.now.history group.now }
+        ensures none { result ≡ false → (group.now.room ≡ true) × ((opening : List Record) → N.opens opening → LacksRoomFor opening self.now.history group.now) }
     {
         let needed = match &group.said {
             Some(_) => 2,
@@ -419,7 +441,7 @@ impl<'a, L: Disk, N: Life> Journal<'a, L, N> {
     /// The number of the page that comes next.
     fn next_page(&self) -> Result<PageNo, Memory>
         ensures child { IfOk result (λ page. IsTrue (is_child page)) }
-        ensures next { IfOk result (λ page. (opening : List Record) → N.opens opening → page ≡ suc (pages (life_log opening self.now))) }
+        ensures next { IfOk result (λ page. (opening : List Record) → N.opens opening → page ≡ suc (pages (life_log opening self.now.history))) }
     {
         match u32::try_from(self.log.listing().pages()) {
             Ok(count) if 0 < count && count < MOST_PAGES => Ok(count + 1),
@@ -430,7 +452,7 @@ impl<'a, L: Disk, N: Life> Journal<'a, L, N> {
     /// The right that was opened for a page to come, or one that is opened now.
     fn take_right(&mut self, page: PageNo) -> Option<PageRight<N>>
         requires number { IsTrue (is_page page) }
-        requires fresh { (opening : List Record) → N.opens opening → page_book opening self.old page ≡ 0 }
+        requires fresh { (opening : List Record) → N.opens opening → page_book opening self.old.history page ≡ 0 }
         ensures same { self.new ≡ self.old }
     {
         match self.made.take() {
@@ -441,11 +463,11 @@ impl<'a, L: Disk, N: Life> Journal<'a, L, N> {
 
     /// The right to the page that comes next, where a group makes one.
     fn new_right(&mut self, made: Option<PageNo>) -> Result<Option<PageRight<N>>, Memory>
-        requires consistent { IsConsistent N.opens self.old }
+        requires consistent { IsConsistent N.opens self.old.history }
         ensures same { self.new ≡ self.old }
         ensures none { IfOk result (λ new. made ≡ None → new ≡ None) }
         ensures some { IfOk result (λ new. IsSome made → IsSome new) }
-        ensures right { IfOk result (λ new. IfSome new (IsNextPage N.opens self.old)) }
+        ensures right { IfOk result (λ new. IfSome new (IsNextPage N.opens self.old.history)) }
     {
         if made.is_none() {
             return Ok(None);
@@ -466,10 +488,11 @@ impl<'a, L: Disk, N: Life> Journal<'a, L, N> {
         counts: &mut Counts<N>,
     ) -> Result<Lsn, Memory>
         requires spelled { Each AreInRange (kinds.End end ∷ []) → All HasSpelling (kinds.End end ∷ []) × (length (bytes_of (kinds.End end ∷ [])) ≤ 4194304) }
-        requires agrees { SessionAgrees self.old s.old }
-        requires follows { (lsn : ℕ) → IsNext N.opens self.old lsn → GroupFollows N.opens self.old lsn (kinds.End end ∷ []) None }
-        ensures none { OnErr result ((self.new ≡ self.old) × (s.new ≡ s.old) × (counts.new ≡ counts.old)) }
-        ensures ended { IfOk result (EndsSession end s.old s.new counts.old counts.new self.old self.new) }
+        requires agrees { SessionAgrees self.old.history s.old }
+        requires follows { (lsn : ℕ) → IsNext N.opens self.old.history lsn → GroupFollows N.opens self.old.history lsn (kinds.End end ∷ []) None }
+        ensures none { OnErr result ((self.new.history ≡ self.old.history) × (s.new ≡ s.old) × (counts.new ≡ counts.old)) }
+        ensures ended { IfOk result (EndsSession end s.old s.new counts.old counts.new self.old.history self.new.history) }
+        ensures disk { IsUntouched self.old self.new }
     {
         let (last, over, prev) = (self.log.last(), end.tx, end.prev);
         let before = self.history.length();
@@ -490,10 +513,11 @@ impl<'a, L: Disk, N: Life> Journal<'a, L, N> {
     /// Enters the End of a loser, which stands alone. It belongs to no session.
     fn end_loser(&mut self, alloc: Global, end: End, counts: &mut Counts<N>) -> Result<Lsn, Memory>
         requires spelled { Each AreInRange (kinds.End end ∷ []) → All HasSpelling (kinds.End end ∷ []) × (length (bytes_of (kinds.End end ∷ [])) ≤ 4194304) }
-        requires loser { is_begun self.old end.tx ≡ false }
-        requires follows { (lsn : ℕ) → IsNext N.opens self.old lsn → GroupFollows N.opens self.old lsn (kinds.End end ∷ []) None }
-        ensures none { OnErr result ((self.new ≡ self.old) × (counts.new ≡ counts.old)) }
-        ensures ended { IfOk result (EndsLoser end counts.old counts.new self.old self.new) }
+        requires loser { is_begun self.old.history end.tx ≡ false }
+        requires follows { (lsn : ℕ) → IsNext N.opens self.old.history lsn → GroupFollows N.opens self.old.history lsn (kinds.End end ∷ []) None }
+        ensures none { OnErr result ((self.new.history ≡ self.old.history) × (counts.new ≡ counts.old)) }
+        ensures ended { IfOk result (EndsLoser end counts.old counts.new self.old.history self.new.history) }
+        ensures disk { IsUntouched self.old self.new }
     {
         let (last, loser, prev) = (self.log.last(), end.tx, end.prev);
         let before = self.history.length();
@@ -522,10 +546,11 @@ impl<'a, L: Disk, N: Life> Journal<'a, L, N> {
         counts: &mut Counts<N>,
     ) -> Result<Lsn, Memory>
         requires spelled { Each AreInRange (kinds.End end ∷ []) → All HasSpelling (kinds.End end ∷ []) × (length (bytes_of (kinds.End end ∷ [])) ≤ 4194304) }
-        requires agrees { Agree N.opens self.old rights.old }
-        requires follows { (lsn : ℕ) → IsNext N.opens self.old lsn → GroupFollows N.opens self.old lsn (kinds.End end ∷ []) None }
-        ensures none { OnErr result ((self.new ≡ self.old) × (rights.new ≡ rights.old) × (counts.new ≡ counts.old)) }
-        ensures entered { IfOk result (EntersFilled (kinds.End end ∷ []) None new.now rights.old rights.new counts.old counts.new self.old self.new) }
+        requires agrees { Agree N.opens self.old.history rights.old }
+        requires follows { (lsn : ℕ) → IsNext N.opens self.old.history lsn → GroupFollows N.opens self.old.history lsn (kinds.End end ∷ []) None }
+        ensures none { OnErr result ((self.new.history ≡ self.old.history) × (rights.new ≡ rights.old) × (counts.new ≡ counts.old)) }
+        ensures entered { IfOk result (EntersFilled (kinds.End end ∷ []) None new.now rights.old rights.new counts.old counts.new self.old.history self.new.history) }
+        ensures disk { IsUntouched self.old self.new }
     {
         if new.is_some() {
             return Err(Memory);
@@ -556,12 +581,13 @@ impl<'a, L: Disk, N: Life> Journal<'a, L, N> {
         requires joins { Joins recs.now }
         requires spelled { Each AreInRange recs.now → All HasSpelling recs.now × (length (bytes_of recs.now) ≤ 4194304) }
         requires speaker { HasSpeaker rights.old.s said.now }
-        requires agrees { Agree N.opens self.old rights.old }
-        requires consistent { IsConsistent N.opens self.old }
-        requires page { IfSome new.old (IsNextPage N.opens self.old) }
-        requires follows { (lsn : ℕ) → IsNext N.opens self.old lsn → GroupFollows N.opens self.old lsn recs.now said.now }
-        ensures none { OnErr result ((self.new ≡ self.old) × (rights.new ≡ rights.old) × (counts.new ≡ counts.old)) }
-        ensures entered { IfOk result (EntersFilled recs.now said.now new.old rights.old rights.new counts.old counts.new self.old self.new) }
+        requires agrees { Agree N.opens self.old.history rights.old }
+        requires consistent { IsConsistent N.opens self.old.history }
+        requires page { IfSome new.old (IsNextPage N.opens self.old.history) }
+        requires follows { (lsn : ℕ) → IsNext N.opens self.old.history lsn → GroupFollows N.opens self.old.history lsn recs.now said.now }
+        ensures none { OnErr result ((self.new.history ≡ self.old.history) × (rights.new ≡ rights.old) × (counts.new ≡ counts.old)) }
+        ensures entered { IfOk result (EntersFilled recs.now said.now new.old rights.old rights.new counts.old counts.new self.old.history self.new.history) }
+        ensures disk { IsUntouched self.old self.new }
     {
         if let Some(end) = end_of(recs, said) {
             return self.enter_end(alloc, end, new, rights, counts);
@@ -598,14 +624,15 @@ impl<'a, L: Disk, N: Life> Journal<'a, L, N> {
         requires made { made ≡ groups.made_by group.old.recs }
         requires none { made ≡ None → new.old ≡ None }
         requires some { IsSome made → IsSome new.old }
-        requires page { IfSome new.old (IsNextPage N.opens self.old) }
+        requires page { IfSome new.old (IsNextPage N.opens self.old.history) }
         requires speaker { HasSpeaker rights.old.s group.old.said }
-        requires agrees { Agree N.opens self.old rights.old }
-        requires consistent { IsConsistent N.opens self.old }
-        requires follows { (opening : List Record) → N.opens opening → HasNumbers opening self.old → MayFollow opening self.old group.old }
-        ensures none { OnErr result ((self.new ≡ self.old) × (rights.new ≡ rights.old) × (counts.new ≡ counts.old)) }
+        requires agrees { Agree N.opens self.old.history rights.old }
+        requires consistent { IsConsistent N.opens self.old.history }
+        requires follows { (opening : List Record) → N.opens opening → HasNumbers opening self.old.history → MayFollow opening self.old.history group.old }
+        ensures none { OnErr result ((self.new.history ≡ self.old.history) × (rights.new ≡ rights.old) × (counts.new ≡ counts.old)) }
         ensures group { OnErr result (group.new ≡ group.old) }
-        ensures entered { OnOk result (EntersNow group.old group.new rights.old rights.new counts.old counts.new self.old self.new) }
+        ensures entered { OnOk result (EntersNow group.old group.new rights.old rights.new counts.old counts.new self.old.history self.new.history) }
+        ensures disk { IsUntouched self.old self.new }
     {
         let last = self.log.last();
         if last == 0 || last >= MOST {
@@ -638,12 +665,13 @@ impl<'a, L: Disk, N: Life> Journal<'a, L, N> {
         requires alone { IsCheckpointAlone group.old.recs }
         requires group { IsGroup group.old }
         requires speaker { HasSpeaker rights.old.s group.old.said }
-        requires agrees { Agree N.opens self.old rights.old }
-        requires consistent { IsConsistent N.opens self.old }
-        requires follows { (opening : List Record) → N.opens opening → HasNumbers opening self.old → MayFollow opening self.old group.old }
-        ensures none { OnErr result ((self.new ≡ self.old) × (rights.new ≡ rights.old) × (counts.new ≡ counts.old)) }
+        requires agrees { Agree N.opens self.old.history rights.old }
+        requires consistent { IsConsistent N.opens self.old.history }
+        requires follows { (opening : List Record) → N.opens opening → HasNumbers opening self.old.history → MayFollow opening self.old.history group.old }
+        ensures none { OnErr result ((self.new.history ≡ self.old.history) × (rights.new ≡ rights.old) × (counts.new ≡ counts.old)) }
         ensures group { OnErr result (group.new ≡ group.old) }
-        ensures entered { OnOk result (EntersNow group.old group.new rights.old rights.new counts.old counts.new self.old self.new) }
+        ensures entered { OnOk result (EntersNow group.old group.new rights.old rights.new counts.old counts.new self.old.history self.new.history) }
+        ensures disk { IsUntouched self.old self.new }
     {
         let checkpoint = self.log.listing().checkpoint(alloc)?;
         let mut recs = List::new(alloc);
@@ -669,14 +697,15 @@ impl<'a, L: Disk, N: Life> Journal<'a, L, N> {
     ) -> Result<(), Memory>
         requires group { IsGroup group.old }
         requires speaker { HasSpeaker rights.old.s group.old.said }
-        requires agrees { Agree N.opens self.old rights.old }
-        requires consistent { IsConsistent N.opens self.old }
-        requires askable { (opening : List Record) → N.opens opening → IsAskable opening self.old rights.old.a group.old }
-        requires timely { (opening : List Record) → N.opens opening → Each (IsTimely opening self.old) group.old.recs }
-        requires room { (opening : List Record) → N.opens opening → HasRoomFor opening self.old group.old }
-        ensures none { OnErr result ((self.new ≡ self.old) × (rights.new ≡ rights.old) × (counts.new ≡ counts.old)) }
+        requires agrees { Agree N.opens self.old.history rights.old }
+        requires consistent { IsConsistent N.opens self.old.history }
+        requires askable { (opening : List Record) → N.opens opening → IsAskable opening self.old.history rights.old.a group.old }
+        requires timely { (opening : List Record) → N.opens opening → Each (IsTimely opening self.old.history) group.old.recs }
+        requires room { (opening : List Record) → N.opens opening → HasRoomFor opening self.old.history group.old }
+        ensures none { OnErr result ((self.new.history ≡ self.old.history) × (rights.new ≡ rights.old) × (counts.new ≡ counts.old)) }
         ensures group { OnErr result (group.new ≡ group.old) }
-        ensures entered { OnOk result (EntersNow group.old group.new rights.old rights.new counts.old counts.new self.old self.new) }
+        ensures entered { OnOk result (EntersNow group.old group.new rights.old rights.new counts.old counts.new self.old.history self.new.history) }
+        ensures disk { IsUntouched self.old self.new }
     {
         if is_checkpoint_alone(group.recs.as_slice()) {
             return self.enter_checkpoint(alloc, group, rights, counts);
@@ -702,17 +731,18 @@ impl<'a, L: Disk, N: Life> Journal<'a, L, N> {
         pass: &mut Pass<Entry, N>,
         counts: &mut Counts<N>,
     ) -> Result<Entered, Fault>
-        requires seen { pass.old.log ≡ self.old }
-        requires taken { IsTaken N.opens self.old taken.now }
+        requires seen { pass.old.log ≡ self.old.history }
+        requires taken { IsTaken N.opens self.old.history taken.now }
         requires asked { group.now.room ≡ true }
-        requires lacks { (opening : List Record) → N.opens opening → LacksRoomFor opening self.old group.now }
-        requires declines { (opening : List Record) → N.opens opening → MayBeDeclined opening self.old group.now.said }
+        requires lacks { (opening : List Record) → N.opens opening → LacksRoomFor opening self.old.history group.now }
+        requires declines { (opening : List Record) → N.opens opening → MayBeDeclined opening self.old.history group.now.said }
         requires speaker { HasSpeaker rights.old.s group.now.said }
-        requires agrees { Agree N.opens self.old rights.old }
-        requires consistent { IsConsistent N.opens self.old }
-        ensures declined { IsDeclined N.opens group.now result rights.old rights.new counts.old counts.new self.old self.new }
-        ensures seen { pass.new.log ≡ self.new }
+        requires agrees { Agree N.opens self.old.history rights.old }
+        requires consistent { IsConsistent N.opens self.old.history }
+        ensures declined { IsDeclined N.opens group.now result rights.old rights.new counts.old counts.new self.old.history self.new.history }
+        ensures seen { pass.new.log ≡ self.new.history }
         ensures durable { pass.old.durable ≤ pass.new.durable }
+        ensures disk { IsUntouched self.old self.new }
     {
         let Some(said) = &group.said else {
             return Ok(Entered::NoRoom);
@@ -759,6 +789,8 @@ impl<'a, L: Disk, N: Life> Journal<'a, L, N> {
         ensures group { KeepsGroup result group.old group.new }
         ensures refused { IfErr result (FailsToEnter OrFull) }
         ensures ends { Ends N.opens N.log_faults N.made counts.old counts.new pass.new.log result }
+        ensures disk { IsUntouched self.old self.new }
+        ensures learns { LearnsEnd counts.old counts.new self.new.ended }
     {
         self.history.see(rights, pass, counts);
         check_open(&self.log, &mut self.faults, counts)?;
@@ -782,9 +814,9 @@ impl<'a, L: Disk, N: Life> Journal<'a, L, N> {
 
     /// Where the entry stands that came before a record of the group, if one did.
     fn late(&self, group: &Group) -> Option<Pos>
-        requires consistent { IsConsistent N.opens self.now }
-        ensures none { IfNone result ((opening : List Record) → N.opens opening → Each (WasTimely opening self.now) group.now.recs → Each (IsTimely opening self.now) group.now.recs) }
-        ensures late { IfSome result (λ place. (opening : List Record) → N.opens opening → IsLate opening self.now place group.now.recs) }
+        requires consistent { IsConsistent N.opens self.now.history }
+        ensures none { IfNone result ((opening : List Record) → N.opens opening → Each (WasTimely opening self.now.history) group.now.recs → Each (IsTimely opening self.now.history) group.now.recs) }
+        ensures late { IfSome result (λ place. (opening : List Record) → N.opens opening → IsLate opening self.now.history place group.now.recs) }
         ensures kind { IfSome result (λ place. IsTrue (list_any can_be_late group.now.recs)) }
     {
         let recs = group.recs.as_slice();

@@ -10,7 +10,8 @@
 //! - The table of losers (`losers`) has of each loser of the opening log where its last Undo or End stands, and whether it
 //!   has its End.
 //!
-//! The model is the history. What holds whenever the lock is free is `IsKept` (`specs/Kept`): for each log with which the
+//! Contracts see a journal as its history, its end and what its log disk tells of its calls (`specs/State`). What holds whenever the
+//! lock is free is `IsKept` (`specs/Kept`): for each log with which the
 //! life may have begun, the log and its listing are those of the life; the table holds exactly the locks that were taken
 //! and not released; the table of losers is that of the history; there is room for the commit of each live transaction; what passes were told to be durable is; and as
 //! long as the log hasn't ended, no commit waits for its acknowledgement and no fault was counted. What each of the three
@@ -47,7 +48,12 @@
 //! 9. [`Journal::start`] tells the first pass that the opening log is durable. [`Journal::into_device`] hands the log disk out
 //!    as the life stops, at any moment, also behind a fault: whatever it keeps then, or after a crash, stands for a log that a
 //!    stop may leave of the life (`Leaves`). That has each acknowledged commit and all that passes were told to be durable, and
-//!    is enough for the next opening. [`Journal::fuse`] and [`Journal::refused`] are the disk's.
+//!    is enough for the next opening.
+//!
+//! 10. [`Journal::fuse`] and [`Journal::refused`] are the disk's. Each call says what became of the disk's calls: it made none
+//!    (`IsUntouched`), or it made some, and where it answers `LogFault` the disk failed by itself or an armed fuse refused a call
+//!    (`BlamesDisk`). An end stays (`KeepsEnd`), and counts learn of no other (`LearnsEnd`). [`Journal::end`] tells it: the opening
+//!    log and each acknowledged commit stand up to that LSN, and it is no LSN behind the last record (`IsDurableUpto`).
 //!
 //! A group that isn't built yet is refused as one that wants memory, which the traits allow.
 #![tactic(auto)]

@@ -1,5 +1,6 @@
 //! What is asked of the journal: what is known of its log, records, repairs, and what it may forget.
-ghost use Rattle.std.specs.Prelude.{◌≡◌, ◌+◌, ◌<◌, ◌≤◌, List, [], length, filter, Some, None, IfOk, IfErr, IfSome, IfNone, OnOk};
+ghost use Rattle.std.specs.Prelude.{◌≡◌, ◌+◌, ◌<◌, ◌≤◌, List, [], length, filter, Some, None, IfOk, IfErr, IfSome, IfNone, IsErrAnd, OnOk};
+ghost use Rattle.log_blocks.specs.Opening.{IsLogFault};
 ghost use Rattle.log_index.specs.Listing.{IsListingOf};
 ghost use Rattle.page_ops.specs.Causes.{Ends, FailsToEnter, FailsToFlush, FailsToRead, IsEnd, NoOther, with_one};
 ghost use Rattle.page_ops.specs.Claims.{no_claims};
@@ -10,6 +11,7 @@ ghost use Rattle.wal_record.specs.History.{life_log, log_of};
 ghost use Rattle.wal_record.specs.Sound.{AreLawful};
 ghost use Rattle.wal_record.specs.Upkeep.{written_lsn};
 ghost use Rattle.wal_record.specs.declared.record.Record.{Record};
+ghost use Rattle.journal.specs.State.{BlamesDisk, IsUntouched, KeepsEnd, LearnsEnd};
 
 use crate::ends::{check_open, find, recycle_log, tell_durable};
 use crate::journal::{Journal, MOST};
@@ -33,11 +35,12 @@ impl<'a, L: Disk, N: Life> Journal<'a, L, N> {
     /// Shows the pass the history, and says whether the life goes on.
     pub fn look(&mut self, pass: &mut Pass<Entry, N>, counts: &mut Counts<N>) -> Result<(), Fault>
         ensures same { self.new ≡ self.old }
-        ensures pass { pass.new.log ≡ self.old }
+        ensures pass { pass.new.log ≡ self.old.history }
         ensures seen { Looks N.opens N.entries N.session_entries counts.old pass.old counts.new pass.new }
         ensures counts { OnOk result (counts.new ≡ counts.old) }
         ensures refused { IfErr result IsEnd }
         ensures ends { Ends N.opens N.log_faults N.made counts.old counts.new pass.new.log result }
+        ensures learns { LearnsEnd counts.old counts.new self.new.ended }
     {
         self.history.look(pass, counts);
         if let Err(fault) = check_open(&self.log, &mut self.faults, counts) {
@@ -48,15 +51,15 @@ impl<'a, L: Disk, N: Life> Journal<'a, L, N> {
 
     /// What is known of the life's log.
     pub fn listing(&self) -> &Listing
-        ensures listing { (opening : List Record) → N.opens opening → IsListingOf (life_log opening self.now) result.now }
-        ensures lawful { (opening : List Record) → N.opens opening → AreLawful (life_log opening self.now) }
+        ensures listing { (opening : List Record) → N.opens opening → IsListingOf (life_log opening self.now.history) result.now }
+        ensures lawful { (opening : List Record) → N.opens opening → AreLawful (life_log opening self.now.history) }
     {
         self.log.listing()
     }
 
     /// The least loser of the opening log that has no End yet.
     pub fn least_loser(&self) -> Option<TxId>
-        ensures { (opening : List Record) → N.opens opening → result ≡ first_of (losers_left opening self.now) }
+        ensures { (opening : List Record) → N.opens opening → result ≡ first_of (losers_left opening self.now.history) }
     {
         match self.losers.first_left() {
             Some(loser) => Some(loser.tx),
@@ -66,28 +69,28 @@ impl<'a, L: Disk, N: Life> Journal<'a, L, N> {
 
     /// The losers of the opening log that have no End yet, by rising number.
     pub fn losers(&self, alloc: Global) -> Result<List<TxId>, Memory>
-        ensures { (opening : List Record) → N.opens opening → IfOk result (λ txs. txs ≡ losers_left opening self.now) }
+        ensures { (opening : List Record) → N.opens opening → IfOk result (λ txs. txs ≡ losers_left opening self.now.history) }
     {
         self.losers.left(alloc)
     }
 
     /// How many writes the life has undone.
     pub fn undone(&self) -> u64
-        ensures { result ≡ length (filter is_undo (log_of self.now)) }
+        ensures { result ≡ length (filter is_undo (log_of self.now.history)) }
     {
         self.history.undone()
     }
 
     /// How many pages the life has repaired, counting each time.
     pub fn repairs(&self) -> u64
-        ensures { result ≡ length (filter is_repaired self.now) }
+        ensures { result ≡ length (filter is_repaired self.now.history) }
     {
         self.history.repaired()
     }
 
     /// The LSN of the last record.
     pub fn last(&self) -> Lsn
-        ensures { (opening : List Record) → N.opens opening → result ≡ length (life_log opening self.now) }
+        ensures { (opening : List Record) → N.opens opening → result ≡ length (life_log opening self.now.history) }
     {
         self.log.last()
     }
@@ -119,12 +122,15 @@ impl<'a, L: Disk, N: Life> Journal<'a, L, N> {
         pass: &mut Pass<Entry, N>,
         counts: &mut Counts<N>,
     ) -> Result<Found, Fault>
-        ensures same { self.new ≡ self.old }
-        ensures pass { pass.new.log ≡ self.old }
+        ensures same { self.new.history ≡ self.old.history }
+        ensures pass { pass.new.log ≡ self.old.history }
         ensures seen { Looks N.opens N.entries N.session_entries counts.old pass.old counts.new pass.new }
         ensures found { IfOk result (IsFound N.opens pass.new.log lsn) }
         ensures refused { IfErr result (FailsToRead N.opens) }
         ensures ends { Ends N.opens N.log_faults N.made counts.old counts.new pass.new.log result }
+        ensures end { KeepsEnd self.old self.new }
+        ensures learns { LearnsEnd counts.old counts.new self.new.ended }
+        ensures calls { BlamesDisk self.old.calls self.new.calls (IsErrAnd result IsLogFault) }
     {
         self.history.look(pass, counts);
         match check_open(&self.log, &mut self.faults, counts) {
@@ -145,6 +151,8 @@ impl<'a, L: Disk, N: Life> Journal<'a, L, N> {
         ensures none { IfOk result (λ pos. IfNone pos ((opening : List Record) → N.opens opening → written_lsn (life_log opening pass.new.log) right.now.page ≡ 0)) }
         ensures refused { IfErr result (FailsToEnter NoOther) }
         ensures ends { Ends N.opens N.log_faults N.made counts.old counts.new pass.new.log result }
+        ensures disk { IsUntouched self.old self.new }
+        ensures learns { LearnsEnd counts.old counts.new self.new.ended }
     {
         match check_open(&self.log, &mut self.faults, counts) {
             Ok(()) => {
@@ -178,6 +186,9 @@ impl<'a, L: Disk, N: Life> Journal<'a, L, N> {
         ensures durable { OnOk result ((opening : List Record) → N.opens opening → length (life_log opening pass.new.log) ≤ pass.new.durable) }
         ensures refused { IfErr result FailsToFlush }
         ensures ends { Ends N.opens N.log_faults N.made counts.old counts.new pass.new.log result }
+        ensures end { KeepsEnd self.old self.new }
+        ensures learns { LearnsEnd counts.old counts.new self.new.ended }
+        ensures calls { BlamesDisk self.old.calls self.new.calls (IsErrAnd result IsLogFault) }
     {
         let last = self.log.last();
         match self.flush(last, pass, counts) {
@@ -188,12 +199,15 @@ impl<'a, L: Disk, N: Life> Journal<'a, L, N> {
 
     /// Forgets what nothing needs of the log.
     fn forget(&mut self, pass: &mut Pass<Entry, N>, counts: &mut Counts<N>) -> Result<Lsn, Fault>
-        ensures same { self.new ≡ self.old }
+        ensures same { self.new.history ≡ self.old.history }
         ensures seen { Looks N.opens N.entries N.session_entries counts.old pass.old counts.new pass.new }
-        ensures pass { pass.new.log ≡ self.old }
+        ensures pass { pass.new.log ≡ self.old.history }
         ensures kept { IfOk result (λ lsn. (opening : List Record) → N.opens opening → lsn ≤ recycle_point (life_log opening pass.new.log)) }
         ensures refused { IfErr result FailsToFlush }
         ensures ends { Ends N.opens N.log_faults N.made counts.old counts.new pass.new.log result }
+        ensures end { KeepsEnd self.old self.new }
+        ensures learns { LearnsEnd counts.old counts.new self.new.ended }
+        ensures calls { BlamesDisk self.old.calls self.new.calls (IsErrAnd result IsLogFault) }
     {
         self.history.look(pass, counts);
         match check_open(&self.log, &mut self.faults, counts) {
@@ -214,6 +228,8 @@ impl<'a, L: Disk, N: Life> Journal<'a, L, N> {
         ensures made { counts.new.made ≡ with_one counts.old.made result }
         ensures refused { IfErr result IsEnd }
         ensures ends { Ends N.opens N.log_faults N.made counts.old counts.new pass.new.log result }
+        ensures disk { IsUntouched self.old self.new }
+        ensures learns { LearnsEnd counts.old counts.new self.new.ended }
     {
         match check_open(&self.log, &mut self.faults, counts) {
             Ok(()) => {

@@ -1,9 +1,10 @@
 //! What the log keeps of its records: read, and forgotten.
-ghost use Rattle.std.specs.Prelude.{◌≡◌, ◌⊎◌, ◌-◌, ◌^◌, ◌<◌, ◌≤◌, ℕ, List, Bool, None, Some, OnOk, IfOk, IfErr, length, min};
+ghost use Rattle.std.specs.Prelude.{◌≡◌, ◌⊎◌, ◌-◌, ◌^◌, ◌<◌, ◌≤◌, ℕ, List, Bool, None, Some, OnOk, IfOk, IfErr, IsErrAnd, length, min};
 ghost use Rattle.log_blocks.specs.LogState.{Refused, durable_lsn};
+ghost use Rattle.log_blocks.specs.Opening.{IsLogFault};
 ghost use Rattle.log_manager.specs.Managed.{IsNoBadLog, ReadRefused, first_kept};
 ghost use Rattle.stop_laws.specs.Stops.{GoesOnOrEnds, KeepsFirst, WaitsInGroups};
-ghost use Rattle.media.specs.Counted.{Armed};
+ghost use Rattle.media.specs.Counted.{Armed, Blames};
 ghost use Rattle.wal_record.specs.Chains.{record_with};
 ghost use Rattle.wal_record.specs.Checkpoints.{recycle_point};
 ghost use Rattle.wal_record.specs.Rules.{HasSpelling};
@@ -36,6 +37,7 @@ impl<L: Disk> ListedLog<L> {
         ensures live { OnOk result ((self.old.log.log.ended ≡ None) × (self.new.log.log.ended ≡ None)) }
         ensures refused { IfErr result (ReadRefused L.faults self.old.log.log self.new.log.log) }
         ensures later { L.faults self.old.log.log.device ≤ L.faults self.new.log.log.device }
+        ensures fuse { Blames L.passes L.refused L.own self.old.log.log.device self.new.log.log.device (IsErrAnd result IsLogFault) }
     {
         self.log.read(alloc, lsn)
     }
@@ -59,6 +61,7 @@ impl<L: Disk> ListedLog<L> {
         ensures live { OnOk result ((self.old.log.log.ended ≡ None) × (self.new.log.log.ended ≡ None)) }
         ensures refused { IfErr result (Refused ⊥ L.faults self.old.log.log self.new.log.log) }
         ensures later { L.faults self.old.log.log.device ≤ L.faults self.new.log.log.device }
+        ensures fuse { Blames L.passes L.refused L.own self.old.log.log.device self.new.log.log.device (IsErrAnd result IsLogFault) }
     {
         let point = self.unneeded();
         match self.log.recycle_to(point) {

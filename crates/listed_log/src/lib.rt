@@ -20,7 +20,8 @@
 //! 6. The records that wait are groups, each whole in one block (`WaitsInGroups` of stop_laws). Behind a call of the disk the
 //!    log goes on so; or it has ended, and what the disk keeps, also after a crash, stands for the first of the records, at
 //!    least the durable ones, with the store's room behind them and enough for the next opening (`GoesOnOrEnds`).
-//! 7. [`ListedLog::fuse`] and [`ListedLog::refused`] are the disk's; [`ListedLog::into_device`] gives it back as it is.
+//! 7. [`ListedLog::fuse`] and [`ListedLog::refused`] are the disk's; [`ListedLog::into_device`] gives it back as it is. Where a
+//!    call answers `LogFault`, the disk failed by itself, or an armed fuse refused a call of it (`Blames` of media).
 #![tactic(auto)]
 
 mod keeping;

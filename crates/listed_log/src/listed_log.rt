@@ -1,12 +1,14 @@
 //! The log and its listing.
-ghost use Rattle.std.specs.Prelude.{◌≡◌, ◌+◌, ◌-◌, ◌<◌, ◌≤◌, ◌^◌, ◌++◌, ◌∷◌, [], ℕ, List, length, None, Bool, true, false, OnOk, OnErr, IfOk, IfErr};
+ghost use Rattle.std.specs.Prelude.{◌≡◌, ◌+◌, ◌-◌, ◌<◌, ◌≤◌, ◌^◌, ◌++◌, ◌∷◌, [], ℕ, List, length, None, Bool, true, false, OnOk, OnErr, IfOk, IfErr, IsErrAnd};
 ghost use Rattle.std.specs.List.{All, list_any};
 ghost use Rattle.log_blocks.specs.LogState.{Refused, durable_lsn};
+ghost use Rattle.log_blocks.specs.Opening.{IsLogFault};
 ghost use Rattle.log_index.specs.GoingOn.{KnowsLast};
 ghost use Rattle.log_index.specs.Listing.{IsListingOf};
 ghost use Rattle.log_manager.specs.Managed.{NotAdded};
 ghost use Rattle.log_manager.specs.Payload.{bytes_of};
 ghost use Rattle.log_manager.specs.Records.{IsLogOf};
+ghost use Rattle.media.specs.Counted.{Blames};
 ghost use Rattle.wal_record.specs.Chains.{finishes, last};
 ghost use Rattle.wal_record.specs.Rules.{HasSpelling};
 ghost use Rattle.stop_laws.specs.Stops.{GoesOnOrEnds, WaitsInGroups};
@@ -153,6 +155,8 @@ impl<L: Disk> ListedLog<L> {
         ensures live { OnOk result ((self.old.log.log.ended ≡ None) × (self.new.log.log.ended ≡ None)) }
         ensures refused { IfErr result (Refused ⊥ L.faults self.old.log.log self.new.log.log) }
         ensures later { L.faults self.old.log.log.device ≤ L.faults self.new.log.log.device }
+        // Where the disk failed, it did so by itself, or a fuse that was armed refused the call; else none refused one.
+        ensures fuse { Blames L.passes L.refused L.own self.old.log.log.device self.new.log.log.device (IsErrAnd result IsLogFault) }
     {
         // A crash leaves whole groups.
         groups_law();

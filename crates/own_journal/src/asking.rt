@@ -1,5 +1,7 @@
 //! Questions that the listing answers.
-ghost use Rattle.std.specs.Prelude.{◌≡◌, List, IfOk, IfErr, IfSome};
+ghost use Rattle.std.specs.Prelude.{◌≡◌, List, IfOk, IfErr, IfSome, IsErrAnd};
+ghost use Rattle.journal.specs.State.{BlamesDisk, KeepsEnd, LearnsEnd};
+ghost use Rattle.log_blocks.specs.Opening.{IsLogFault};
 ghost use Rattle.page_ops.specs.Causes.{Ends, FailsToEnter, FailsToRead, NoOther};
 ghost use Rattle.page_ops.specs.Outcomes.{IsListed, IsSurvey, IsWork};
 ghost use Rattle.page_ops.specs.Seeing.{Looks};
@@ -32,6 +34,8 @@ pub(crate) fn listed<L: Disk, N: Life>(
     ensures listed { IfOk result (IsListed N.opens pass.new.log page) }
     ensures refused { IfErr result (FailsToEnter NoOther) }
     ensures ends { Ends N.opens N.log_faults N.made counts.old counts.new pass.new.log result }
+    ensures same { journal.new ≡ journal.old }
+    ensures learns { LearnsEnd counts.old counts.new journal.new.ended }
 {
     match journal.look(pass, counts) {
         Ok(()) => {
@@ -59,6 +63,9 @@ pub(crate) fn last_open<L: Disk, N: Life>(
     ensures spelling { IfOk result (λ found. IfSome found HasSpelling) }
     ensures refused { IfErr result (FailsToRead N.opens) }
     ensures ends { Ends N.opens N.log_faults N.made counts.old counts.new pass.new.log result }
+    ensures end { KeepsEnd journal.old journal.new }
+    ensures learns { LearnsEnd counts.old counts.new journal.new.ended }
+    ensures calls { BlamesDisk journal.old.calls journal.new.calls (IsErrAnd result IsLogFault) }
 {
     let lsn = journal.listing().undo_next(tx);
     if lsn == 0 {
@@ -85,6 +92,8 @@ pub(crate) fn survey<L: Disk, N: Life>(
     ensures survey { IfOk result (IsSurvey N.opens pass.new) }
     ensures refused { IfErr result (FailsToEnter NoOther) }
     ensures ends { Ends N.opens N.log_faults N.made counts.old counts.new pass.new.log result }
+    ensures same { journal.new ≡ journal.old }
+    ensures learns { LearnsEnd counts.old counts.new journal.new.ended }
 {
     if let Err(fault) = journal.look(pass, counts) {
         return Err(fault);
@@ -121,6 +130,8 @@ pub(crate) fn work<L: Disk, N: Life>(
     ensures work { IfOk result (IsWork N.opens pass.new) }
     ensures refused { IfErr result (FailsToEnter NoOther) }
     ensures ends { Ends N.opens N.log_faults N.made counts.old counts.new pass.new.log result }
+    ensures same { journal.new ≡ journal.old }
+    ensures learns { LearnsEnd counts.old counts.new journal.new.ended }
 {
     if let Err(fault) = journal.look(pass, counts) {
         return Err(fault);

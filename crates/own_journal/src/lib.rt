@@ -6,6 +6,9 @@
 //!
 //! Each call is one call of the journal, or one look at it and then what its listing tells: the ends of a page's traces,
 //! and whether its segment is unrestored. Such questions take no memory, and cost at most the logarithm of what is listed.
+//!
+//! Where a thread's counts know of an end, it is the journal's (`knows`, which holds of each [`OwnJournal`]). So the LSN of an
+//! answer `Ended` is what [`OwnJournal::end`] tells.
 #![tactic(auto)]
 
 mod asking;

@@ -1,7 +1,9 @@
 //! The journal of one thread.
-ghost use Rattle.std.specs.Prelude.{◌≡◌, ◌≤◌};
+ghost use Rattle.std.specs.Prelude.{◌≡◌, ◌≤◌, ◌-◌, ◌^◌, ℕ, List, min, IfSome};
 ghost use mathlib.Core.List.{IsPrefix};
-ghost use Rattle.journal.specs.Stops.{Leaves};
+ghost use Rattle.journal.specs.State.{ArmsDisk, KnowsEnd, calls_of};
+ghost use Rattle.journal.specs.Stops.{IsDurableUpto, Leaves};
+ghost use Rattle.wal_record.specs.declared.record.Record.{Record};
 
 use crate::asking;
 use books::PageRight;
@@ -15,32 +17,45 @@ use std::sync::Wait;
 use store_model::{Fault, Lsn, PageNo, Pos};
 use wal_record::Entry;
 
-/// A journal and the shares of the one thread that calls it.
+/// A journal and the shares of the one thread that calls it. Where these know of an end, it is the journal's.
 #[derive(Drop)]
 pub struct OwnJournal<'a, L: Disk, N: Life> {
     pub journal: Journal<'a, L, N>,
     pub counts: Counts<N>,
+    pub ghost knows: { KnowsEnd counts journal },
 }
 
 impl<'a, L: Disk, N: Life> OwnJournal<'a, L, N> {
     /// Arms the log disk's fuse, which lets n more calls pass, or renews it.
     pub fn fuse(&mut self, n: Option<u64>)
-        ensures same { self.new ≡ self.old }
+        ensures same { (self.new.journal.history ≡ self.old.journal.history) × (self.new.journal.ended ≡ self.old.journal.ended) × (self.new.counts ≡ self.old.counts) }
+        ensures calls { ArmsDisk L.fuses n self.old.journal.calls self.new.journal.calls }
     {
         self.journal.fuse(n);
     }
 
     /// How many calls the log disk's fuse has refused.
-    pub fn refused(&self) -> u64 {
+    pub fn refused(&self) -> u64
+        ensures { result ≡ min self.now.journal.calls.refused (2 ^ 64 - 1) }
+    {
         self.journal.refused()
+    }
+
+    /// The LSN up to which the log was durable as the life ended, if it has ended. As `Journal::end`.
+    pub fn end(&self) -> Option<Lsn>
+        ensures end { result ≡ self.now.journal.ended }
+        ensures durable { (opening : List Record) → N.opens opening → IfSome self.now.journal.ended (IsDurableUpto opening self.now.journal.history) }
+    {
+        self.journal.end()
     }
 
     /// The log disk, as it is: the life has stopped. As `Journal::into_device`.
     pub fn into_device(self, pass: &mut Pass<Entry, N>) -> L
-        ensures left { Leaves N.opens L.told L.may_leave self.entry.journal pass.new.durable result }
-        ensures pass { pass.new.log ≡ self.entry.journal }
+        ensures left { Leaves N.opens L.told L.may_leave self.entry.journal.history pass.new.durable result }
+        ensures pass { pass.new.log ≡ self.entry.journal.history }
         ensures begins { IsPrefix pass.old.log pass.new.log }
         ensures before { pass.old.durable ≤ pass.new.durable }
+        ensures calls { calls_of L.passes L.refused L.own result ≡ self.entry.journal.calls }
     {
         let OwnJournal {
             journal,

@@ -1,5 +1,6 @@
 use Rattle.std.proofs.Common.{sym, ◌∙◌, subst}
 use Rattle.log_index.specs.Listing.{IsListingOf}
+use Rattle.journal.proofs.Calls.{durable_open}
 use Rattle.journal.proofs.Lookup.{run_of}
 use Rattle.journal.proofs.ends.find.Goals as goal
 
@@ -11,3 +12,6 @@ returns-in-Ok-clause-found g c goes rs k tells = c.in-Ok.ensures.found tells goe
 
 pub returns-after-matches-clause-found : goal.returns-after-matches-clause-found
 returns-after-matches-clause-found g c goes rs k tells = c.in-Err.ensures.found tells goes rs k
+
+pub returns-in-Ok-clause-durable : goal.returns-in-Ok-clause-durable
+returns-in-Ok-clause-durable g c = durable_open c.read.new.self.log.log c.in-Ok.ensures.live.1

@@ -6,6 +6,7 @@ use Rattle.journal.proofs.Living.{kept_begin}
 use Rattle.journal.proofs.Losing.{losers_begun}
 use Rattle.journal.proofs.Restoring.{restored_begun}
 use Rattle.journal.proofs.Stopping.{begun_safe}
+use Rattle.journal.proofs.Calls.{durable_same}
 use Rattle.journal.proofs.journal.Journal.begin.Goals as goal
 
 pub invariant_of-self : goal.invariant_of-self
@@ -16,6 +17,7 @@ invariant_of-self g c =
       restored_begun c.self.inside.history _ c.self.inside.restored c.args.s.now.session c.begin.result c.self.invariant.2 c.begin.ensures.history,
       losers_begun g.N.Life.opens c.self.inside.history _ c.self.inside.losers c.args.s.now.session c.begin.result c.self.invariant.3 c.begin.ensures.history,
       begun_safe g.N.Life.opens g.L.Disk.told g.L.Disk.may_leave c.self.inside.history _ c.self.inside.log.log.log c.make_room.new.log.log.log c.self.invariant.4 c.args.s.now.session c.begin.result c.begin.ensures.history (ap (λ x. x.log.log) room.ok),
+      durable_same c.self.inside.log.log.log c.make_room.new.log.log.log c.self.invariant.5 (ap (λ x. x.log.log.places) room.ok) (ap (λ x. x.log.log.ended) room.ok),
     )
 
 pub returns-in-Err-clause-ends : goal.returns-in-Err-clause-ends

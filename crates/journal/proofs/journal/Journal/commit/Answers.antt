@@ -1,9 +1,10 @@
-use Rattle.std.proofs.Common.{◌++◌, ◌∷◌, [], ◌≡◌, ◌≤◌, ◌^◌, ℕ, List, length, refl, sym, ap, ◌∙◌, subst, arith}
+use Rattle.std.proofs.Common.{◌++◌, ◌∷◌, [], ◌≡◌, ◌≤◌, ◌^◌, ℕ, List, length, refl, sym, ap, ◌∙◌, subst, arith, inl, inr}
+use Rattle.journal.specs.State.{calls_of}
 use Rattle.std.proofs.lemmas.Result.{err_from_is_err_and}
 use Rattle.life_history.specs.Kept.{commit_entry}
 use Rattle.log_index.specs.Listing.{IsListingOf}
 use Rattle.page_ops.specs.Causes.{IsOpen}
-use Rattle.page_ops.specs.Seeing.{IsConsistent}
+use Rattle.page_ops.specs.Seeing.{Account, IsConsistent}
 use Rattle.wal_record.specs.History.{live_count}
 use Rattle.wal_record.specs.declared.entry.Entry.{Entry}
 use Rattle.wal_record.specs.declared.entry.Entry.TheVariants as entries
@@ -13,6 +14,7 @@ use Rattle.journal.proofs.Ending.{told_stops, stopped_ends}
 use Rattle.journal.proofs.Entering.{looked}
 use Rattle.journal.proofs.Losing.{losers_commit, losers_entry}
 use Rattle.journal.proofs.Restoring.{restored_entry}
+use Rattle.journal.proofs.Calls.{blames_since, calls_is, durable_flush, end_fresh, ended_is, fault_blames, fine_blames, no_calls, told_quiet}
 use Rattle.journal.proofs.journal.Journal.commit.Goals as goal
 
 pub returns-in_err-check_open-clause-ends : goal.returns-in_err-check_open-clause-ends
@@ -60,7 +62,7 @@ invariant_of-self-then-is_err g c =
     let runs = c.in_ok-check_open.ensures.open.0 in
     let l = looked _ _ _ _ _ _ _ _ _ _ h watch.seen watch.pass watch.same (k.ends.acknowledged runs) watch.right c.requires.active in
     let over = flush_ended g.L.Disk.faults c.commit-lsn.new.self.log.log c.flush_to.new.self.log.log c.flush_to.result (sym c.is_err.ensures.value ∙ c.if-is_err.true) c.flush_to.ensures.refused (c.commit-lsn.ensures.disk.2 ∙ runs) in
-    (c.self.invariant.0, kept_failed g.N.Life.opens g.L.Disk.tells g.L.Disk.told g.L.Disk.may_leave c.self.inside.history h c.self.inside.log.log c.commit-lsn.new.self.log c.flush_to.new.self.log c.self.inside.log.listing c.commit-lsn.new.self.listing c.flush_to.new.self.listing c.self.inside.locks c.self.inside.marked k.life watch.same c.watch_session.new.s l c.tx-tx.result c.in_range-prev.result c.commit-lsn.result c.last_of.result c.tx-tx.ensures (subst (λ (n : ℕ). n ≤ 2 ^ 62) (sym (ap (λ x. x.tx) watch.right)) (watch.number c.requires.active)) c.in_range-prev.ensures.low c.last_of.ensures c.in_range-prev.ensures.same c.commit-lsn.ensures.lsn c.commit-lsn.ensures.more c.commit-lsn.ensures.spare c.commit-lsn.ensures.disk.1 c.commit-lsn.ensures.disk.2 c.release_all.new.self c.release_all.ensures.released c.enter_commit.new.self c.enter_commit.ensures.history c.enter_commit.ensures.live runs c.flush_to.ensures.same c.flush_to.ensures.spare c.flush_to.ensures.rises c.note_fault.new.faults.total c.check_open.new.faults.total over c.note_fault.ensures.total c.look.new.self c.look.ensures.same, restored_entry c.self.inside.history _ c.self.inside.restored (commit_entry c.commit-lsn.result c.watch_session.new.s.tx c.in_range-prev.result) c.self.invariant.2 (c.look.ensures.same ∙ c.enter_commit.ensures.history ∙ ap (λ (l : List Entry). l ++ commit_entry c.commit-lsn.result c.watch_session.new.s.tx c.in_range-prev.result ∷ []) watch.same) (λ s. refl), losers_commit g.N.Life.opens c.self.inside.history _ c.self.inside.losers c.self.inside.losers c.self.invariant.3 h c.commit-lsn.result c.watch_session.new.s.tx c.in_range-prev.result watch.same l.consistent l.live (c.look.ensures.same ∙ c.enter_commit.ensures.history), failed_safe g.N.Life.opens g.L.Disk.tells g.L.Disk.told g.L.Disk.may_leave c.self.inside.history h c.self.inside.log.log c.commit-lsn.new.self.log c.flush_to.new.self.log c.self.inside.log.listing c.commit-lsn.new.self.listing c.flush_to.new.self.listing c.self.inside.locks c.self.inside.marked k.life watch.same c.watch_session.new.s l c.tx-tx.result c.in_range-prev.result c.commit-lsn.result c.last_of.result c.tx-tx.ensures (subst (λ (n : ℕ). n ≤ 2 ^ 62) (sym (ap (λ x. x.tx) watch.right)) (watch.number c.requires.active)) c.in_range-prev.ensures.low c.last_of.ensures c.in_range-prev.ensures.same c.commit-lsn.ensures.lsn c.commit-lsn.ensures.more c.commit-lsn.ensures.spare c.commit-lsn.ensures.disk.1 c.commit-lsn.ensures.disk.2 c.release_all.new.self c.release_all.ensures.released c.enter_commit.new.self c.enter_commit.ensures.history c.enter_commit.ensures.live runs c.flush_to.ensures.same c.flush_to.ensures.spare c.flush_to.ensures.rises c.self.invariant.4 c.commit-lsn.ensures.disk.0 c.commit-lsn.ensures.groups c.flush_to.ensures.left c.look.new.self c.look.ensures.same)
+    (c.self.invariant.0, kept_failed g.N.Life.opens g.L.Disk.tells g.L.Disk.told g.L.Disk.may_leave c.self.inside.history h c.self.inside.log.log c.commit-lsn.new.self.log c.flush_to.new.self.log c.self.inside.log.listing c.commit-lsn.new.self.listing c.flush_to.new.self.listing c.self.inside.locks c.self.inside.marked k.life watch.same c.watch_session.new.s l c.tx-tx.result c.in_range-prev.result c.commit-lsn.result c.last_of.result c.tx-tx.ensures (subst (λ (n : ℕ). n ≤ 2 ^ 62) (sym (ap (λ x. x.tx) watch.right)) (watch.number c.requires.active)) c.in_range-prev.ensures.low c.last_of.ensures c.in_range-prev.ensures.same c.commit-lsn.ensures.lsn c.commit-lsn.ensures.more c.commit-lsn.ensures.spare c.commit-lsn.ensures.disk.1 c.commit-lsn.ensures.disk.2 c.release_all.new.self c.release_all.ensures.released c.enter_commit.new.self c.enter_commit.ensures.history c.enter_commit.ensures.live runs c.flush_to.ensures.same c.flush_to.ensures.spare c.flush_to.ensures.rises c.note_fault.new.faults.total c.check_open.new.faults.total over c.note_fault.ensures.total c.look.new.self c.look.ensures.same, restored_entry c.self.inside.history _ c.self.inside.restored (commit_entry c.commit-lsn.result c.watch_session.new.s.tx c.in_range-prev.result) c.self.invariant.2 (c.look.ensures.same ∙ c.enter_commit.ensures.history ∙ ap (λ (l : List Entry). l ++ commit_entry c.commit-lsn.result c.watch_session.new.s.tx c.in_range-prev.result ∷ []) watch.same) (λ s. refl), losers_commit g.N.Life.opens c.self.inside.history _ c.self.inside.losers c.self.inside.losers c.self.invariant.3 h c.commit-lsn.result c.watch_session.new.s.tx c.in_range-prev.result watch.same l.consistent l.live (c.look.ensures.same ∙ c.enter_commit.ensures.history), failed_safe g.N.Life.opens g.L.Disk.tells g.L.Disk.told g.L.Disk.may_leave c.self.inside.history h c.self.inside.log.log c.commit-lsn.new.self.log c.flush_to.new.self.log c.self.inside.log.listing c.commit-lsn.new.self.listing c.flush_to.new.self.listing c.self.inside.locks c.self.inside.marked k.life watch.same c.watch_session.new.s l c.tx-tx.result c.in_range-prev.result c.commit-lsn.result c.last_of.result c.tx-tx.ensures (subst (λ (n : ℕ). n ≤ 2 ^ 62) (sym (ap (λ x. x.tx) watch.right)) (watch.number c.requires.active)) c.in_range-prev.ensures.low c.last_of.ensures c.in_range-prev.ensures.same c.commit-lsn.ensures.lsn c.commit-lsn.ensures.more c.commit-lsn.ensures.spare c.commit-lsn.ensures.disk.1 c.commit-lsn.ensures.disk.2 c.release_all.new.self c.release_all.ensures.released c.enter_commit.new.self c.enter_commit.ensures.history c.enter_commit.ensures.live runs c.flush_to.ensures.same c.flush_to.ensures.spare c.flush_to.ensures.rises c.self.invariant.4 c.commit-lsn.ensures.disk.0 c.commit-lsn.ensures.groups c.flush_to.ensures.left c.look.new.self c.look.ensures.same, durable_flush g.L.Disk.faults c.commit-lsn.new.self.log.log c.flush_to.new.self.log.log c.flush_to.result (c.commit-lsn.ensures.disk.2 ∙ runs) c.flush_to.ensures.live c.flush_to.ensures.refused)
 
 pub returns-then-is_err-clause-entered : goal.returns-then-is_err-clause-entered
 returns-then-is_err-clause-entered g c =
@@ -95,6 +97,7 @@ invariant_of-self-2 g c =
       restored_entry c.enter_commit.new.self _ c.self.inside.restored (entries.Acked c.watch_session.new.s.session c.watch_session.new.s.tx) (restored_entry c.self.inside.history _ c.self.inside.restored (commit_entry c.commit-lsn.result c.watch_session.new.s.tx c.in_range-prev.result) c.self.invariant.2 (c.enter_commit.ensures.history ∙ ap (λ (l : List Entry). l ++ commit_entry c.commit-lsn.result c.watch_session.new.s.tx c.in_range-prev.result ∷ []) watch.same) (λ s. refl)) acked (λ s. refl),
       losers_entry g.N.Life.opens c.enter_commit.new.self _ c.self.inside.losers c.self.inside.losers (losers_commit g.N.Life.opens c.self.inside.history _ c.self.inside.losers c.self.inside.losers c.self.invariant.3 h c.commit-lsn.result c.watch_session.new.s.tx c.in_range-prev.result watch.same l.consistent l.live c.enter_commit.ensures.history) (entries.Acked c.watch_session.new.s.session c.watch_session.new.s.tx) acked refl (λ t. refl),
       acknowledged_safe g.N.Life.opens g.L.Disk.tells g.L.Disk.told g.L.Disk.may_leave c.self.inside.history h c.self.inside.log.log c.commit-lsn.new.self.log c.flush_to.new.self.log c.self.inside.log.listing c.commit-lsn.new.self.listing c.flush_to.new.self.listing c.self.inside.locks c.self.inside.marked k.life watch.same c.watch_session.new.s l c.tx-tx.result c.in_range-prev.result c.commit-lsn.result c.last_of.result c.tx-tx.ensures (subst (λ (n : ℕ). n ≤ 2 ^ 62) (sym (ap (λ x. x.tx) watch.right)) (watch.number c.requires.active)) c.in_range-prev.ensures.low c.last_of.ensures c.in_range-prev.ensures.same c.commit-lsn.ensures.lsn c.commit-lsn.ensures.more c.commit-lsn.ensures.spare c.commit-lsn.ensures.disk.1 c.commit-lsn.ensures.disk.2 c.release_all.new.self c.release_all.ensures.released c.enter_commit.new.self c.enter_commit.ensures.history c.enter_commit.ensures.live runs c.flush_to.ensures.same c.flush_to.ensures.spare c.flush_to.ensures.rises c.self.invariant.4 c.commit-lsn.ensures.disk.0 c.commit-lsn.ensures.groups c.flush_to.ensures.left c.watch_session.new.s.session (on_ok c.flush_to.result fine c.flush_to.ensures.live).1 (on_ok c.flush_to.result fine c.flush_to.ensures.durable) c.look-2.new.self acked,
+      durable_flush g.L.Disk.faults c.commit-lsn.new.self.log.log c.flush_to.new.self.log.log c.flush_to.result (c.commit-lsn.ensures.disk.2 ∙ runs) c.flush_to.ensures.live c.flush_to.ensures.refused,
     )
 
 pub returns-clause-entered : goal.returns-clause-entered
@@ -116,3 +119,36 @@ returns-clause-entered g c =
     commits_then g.N.Life.opens g.N.Life.entries g.N.Life.session_entries g.N.Life.log_faults _ _ _ c.enter_commit.new.counts _ _ _ _ _ h c.enter_commit.new.self c.commit-lsn.result c.in_range-prev.result watch.seen watch.counts c.in_ok-check_open.ensures.open.1 watch.right (watch.pass ∙ sym watch.same)
     first c.enter_commit.ensures.counts c.enter_commit.ensures.counted whole c.enter_commit.ensures.agrees c.acknowledge.new.counts _ c.look-2.new.pass _ _ c.acknowledge.new.self _ acked done.counts last.counts done.consistent done.agrees (tell.log ∙ last.pass)
     (omega (arith, last.durable, tell.before)) (c.length.ensures ∙ ap (λ (y : List Entry). length y) last.same) number (omega (arith, least, c.durable.ensures, tell.told))
+
+-- ---- the log disk
+
+pub returns-in_err-check_open-clause-calls : goal.returns-in_err-check_open-clause-calls
+returns-in_err-check_open-clause-calls g c =
+    let p = err_from_is_err_and c.from_residual.result c.from_residual.ensures.1 in
+    rw (p.1, p.2) (no_calls _ _ _ (sym (calls_is _ _ c.self.view_is)) (told_quiet g.N.Life.log_faults _ _ _ c.in_err-check_open.ensures.ended))
+
+pub returns-then-is_err-clause-end : goal.returns-then-is_err-clause-end
+returns-then-is_err-clause-end g c = end_fresh _ _ (sym (ended_is _ _ c.self.view_is) ∙ c.in_ok-check_open.ensures.open.0)
+
+pub returns-clause-end : goal.returns-clause-end
+returns-clause-end g c = end_fresh _ _ (sym (ended_is _ _ c.self.view_is) ∙ c.in_ok-check_open.ensures.open.0)
+
+pub returns-then-is_err-clause-learns : goal.returns-then-is_err-clause-learns
+returns-then-is_err-clause-learns g c = inr (ap (λ (a : Account). a.ended) c.look.ensures.counts ∙ c.note_fault.ensures.end)
+
+pub returns-clause-learns : goal.returns-clause-learns
+returns-clause-learns g c =
+    let before = c.in_ok-check_open.ensures.open.1 ∙ c.watch_session.ensures.counts in
+    inl (ap (λ (a : Account). a.ended) c.look-2.ensures.counts ∙ ap (λ (a : Account). a.ended) c.acknowledge.ensures.counts ∙ ap (λ (a : Account). a.ended) c.enter_commit.ensures.counts ∙ ap (λ (a : Account). a.ended) before)
+
+pub returns-then-is_err-clause-calls : goal.returns-then-is_err-clause-calls
+returns-then-is_err-clause-calls g c =
+    let added = c.commit-lsn.ensures.disk in
+    let flush = c.flush_to.ensures in
+    let failed = fault_blames g.L.Disk.passes g.L.Disk.refused g.L.Disk.own g.L.Disk.faults c.commit-lsn.new.self.log.log c.flush_to.new.self.log.log c.flush_to.result (sym c.is_err.ensures.value ∙ c.if-is_err.true) flush.refused (added.2 ∙ c.in_ok-check_open.ensures.open.0) flush.fuse in
+    blames_since g.L.Disk.passes g.L.Disk.refused g.L.Disk.own _ _ _ (ap (calls_of g.L.Disk.passes g.L.Disk.refused g.L.Disk.own) added.0 ∙ calls_is _ _ c.self.view_is) _ failed
+
+pub returns-clause-calls : goal.returns-clause-calls
+returns-clause-calls g c =
+    let fine = fine_blames g.L.Disk.passes g.L.Disk.refused g.L.Disk.own g.L.Disk.faults c.commit-lsn.new.self.log.log c.flush_to.new.self.log.log c.flush_to.result (sym c.is_err.ensures.value ∙ c.if-is_err.false) c.flush_to.ensures.fuse in
+    blames_since g.L.Disk.passes g.L.Disk.refused g.L.Disk.own _ _ _ (ap (calls_of g.L.Disk.passes g.L.Disk.refused g.L.Disk.own) c.commit-lsn.ensures.disk.0 ∙ calls_is _ _ c.self.view_is) _ fine

@@ -9,11 +9,12 @@ use Rattle.journal.proofs.Losing.{losers_end}
 use Rattle.journal.proofs.Overs.{over_consistent, over_records}
 use Rattle.journal.proofs.Restoring.{restored_entry}
 use Rattle.journal.proofs.Stopping.{group_safe, still_safe}
+use Rattle.journal.proofs.Calls.{durable_same, history_is}
 use Rattle.journal.proofs.journal.Journal.end_loser.Goals as goal
 
 pub enter_loser_end-requires-clause-consistent : goal.enter_loser_end-requires-clause-consistent
 enter_loser_end-requires-clause-consistent g c =
-    over_consistent g.N.Life.opens g.L.Disk.tells g.L.Disk.told g.L.Disk.may_leave c.self.inside.history c.args.self.now c.self.view_is c.self.inside.log.log c.append_all.new.log.log c.self.inside.log.listing c.append_all.new.log.listing c.last-last.result c.in_ok-lsn.lsn c.self.invariant.1.life.records c.last-last.ensures.next (omega (arith, c.if-last-ge-MOST.false)) c.in_ok-lsn.ensures.lsn c.args.end c.requires.follows c.args.end.tx refl
+    over_consistent g.N.Life.opens g.L.Disk.tells g.L.Disk.told g.L.Disk.may_leave c.self.inside.history c.args.self.now.history (history_is _ _ c.self.view_is) c.self.inside.log.log c.append_all.new.log.log c.self.inside.log.listing c.append_all.new.log.listing c.last-last.result c.in_ok-lsn.lsn c.self.invariant.1.life.records c.last-last.ensures.next (omega (arith, c.if-last-ge-MOST.false)) c.in_ok-lsn.ensures.lsn c.args.end c.requires.follows c.args.end.tx refl
 
 pub invariant_of-self : goal.invariant_of-self
 invariant_of-self g c =
@@ -24,6 +25,7 @@ invariant_of-self g c =
       c.self.invariant.2,
       c.self.invariant.3,
       still_safe g.N.Life.opens g.L.Disk.told g.L.Disk.may_leave c.self.inside.history _ c.self.inside.log.log.log c.append_all.new.log.log.log c.self.invariant.4 refl (ap (λ (m : Managed _). m.log) c.in_err-lsn.ensures.kept),
+      durable_same c.self.inside.log.log.log c.append_all.new.log.log.log c.self.invariant.5 done.disk.0 done.disk.1,
     )
 
 pub invariant_of-self-2 : goal.invariant_of-self-2
@@ -38,9 +40,10 @@ invariant_of-self-2 g c =
           c.release_all.ensures.released c.enter_loser_end.ensures.live
           (next_of g.N.Life.opens g.L.Disk.tells g.L.Disk.told g.L.Disk.may_leave c.self.inside.history c.self.inside.log.log c.self.inside.log.listing _ _ k.life.records c.last-last.ensures.next low c.in_ok-lsn.ensures.lsn)
           done.spare done.disk.0 done.disk.1
-          (over_records g.N.Life.opens g.L.Disk.tells g.L.Disk.told g.L.Disk.may_leave c.self.inside.history c.args.self.now c.self.view_is c.self.inside.log.log c.append_all.new.log.log c.self.inside.log.listing c.append_all.new.log.listing c.last-last.result lsn k.life.records c.last-last.ensures.next low c.in_ok-lsn.ensures.lsn c.args.end c.requires.follows c.in_ok-lsn.ensures.more),
+          (over_records g.N.Life.opens g.L.Disk.tells g.L.Disk.told g.L.Disk.may_leave c.self.inside.history c.args.self.now.history (history_is _ _ c.self.view_is) c.self.inside.log.log c.append_all.new.log.log c.self.inside.log.listing c.append_all.new.log.listing c.last-last.result lsn k.life.records c.last-last.ensures.next low c.in_ok-lsn.ensures.lsn c.args.end c.requires.follows c.in_ok-lsn.ensures.more),
       restored_entry c.self.inside.history _ c.self.inside.restored (end_entry lsn c.args.end.tx c.args.end.prev) c.self.invariant.2 now (λ s. refl),
       losers_end g.N.Life.opens c.self.inside.history c.enter_loser_end.new.self c.self.inside.losers c.ended.new.self c.self.invariant.3 lsn (c.length-before.result + 1) c.args.end.tx c.args.end.prev now c.ended.ensures (omega (arith, c.length-before.ensures)),
       group_safe g.N.Life.opens g.L.Disk.tells g.L.Disk.told g.L.Disk.may_leave c.self.inside.history c.enter_loser_end.new.self c.self.inside.log.log c.append_all.new.log.log c.self.inside.log.listing c.self.invariant.1.life.records c.self.invariant.1.life.telling c.self.invariant.4 lsn (kinds.End c.args.end ∷ []) None now
-          (over_consistent g.N.Life.opens g.L.Disk.tells g.L.Disk.told g.L.Disk.may_leave c.self.inside.history c.args.self.now c.self.view_is c.self.inside.log.log c.append_all.new.log.log c.self.inside.log.listing c.append_all.new.log.listing c.last-last.result c.in_ok-lsn.lsn c.self.invariant.1.life.records c.last-last.ensures.next (omega (arith, c.if-last-ge-MOST.false)) c.in_ok-lsn.ensures.lsn c.args.end c.requires.follows c.args.end.tx refl) done.device done.disk.0 done.disk.1 c.in_ok-lsn.ensures.groups,
+          (over_consistent g.N.Life.opens g.L.Disk.tells g.L.Disk.told g.L.Disk.may_leave c.self.inside.history c.args.self.now.history (history_is _ _ c.self.view_is) c.self.inside.log.log c.append_all.new.log.log c.self.inside.log.listing c.append_all.new.log.listing c.last-last.result c.in_ok-lsn.lsn c.self.invariant.1.life.records c.last-last.ensures.next (omega (arith, c.if-last-ge-MOST.false)) c.in_ok-lsn.ensures.lsn c.args.end c.requires.follows c.args.end.tx refl) done.device done.disk.0 done.disk.1 c.in_ok-lsn.ensures.groups,
+      durable_same c.self.inside.log.log.log c.append_all.new.log.log.log c.self.invariant.5 done.disk.0 done.disk.1,
     )

@@ -1,17 +1,18 @@
-use Rattle.std.proofs.Common.{List, refl, sym, ◌∙◌, subst}
+use Rattle.std.proofs.Common.{List, refl, sym, ap, ◌∙◌, subst, inl}
 use Rattle.std.proofs.lemmas.Result.{err_from_is_err_and}
-use Rattle.journal.proofs.Declining.{declined_group, full_of}
+use Rattle.journal.proofs.Declining.{declined_ended, declined_group, full_of}
 use Rattle.journal.proofs.Ending.{told_stops, stopped_ends}
 use Rattle.journal.proofs.Entering.{entered_group, filled_in}
 use Rattle.journal.proofs.Lateness.{was_timely}
 use mathlib.Core.List.{IsPrefix}
 use Rattle.page_ops.specs.Asking.{IsLate}
-use Rattle.page_ops.specs.Seeing.{IsConsistent}
+use Rattle.page_ops.specs.Seeing.{Account, IsConsistent}
 use Rattle.wal_record.specs.declared.entry.Entry.{Entry}
 use Rattle.journal.specs.Kept.{IsKept}
 use Rattle.journal.proofs.Losing.{losers_same}
 use Rattle.journal.proofs.Restoring.{restored_same}
 use Rattle.journal.proofs.Stopping.{still_safe}
+use Rattle.journal.proofs.Calls.{calls_is, ended_is, history_is}
 use Rattle.journal.proofs.journal.Journal.enter.Goals as goal
 
 pub returns-in_err-check_open-clause-ends : goal.returns-in_err-check_open-clause-ends
@@ -42,21 +43,21 @@ returns-then-not-has_room-clause-entered g c =
     let see = c.see.ensures in
     let done = c.decline-declined.ensures in
     let again = c.see-then-not-has_room.ensures in
-    declined_group _ _ _ c.args.group.now _ _ _ _ _ _ _ _ _ c.see.new.self c.decline-declined.new.self _ _ _ _ see.seen see.counts c.in_ok-check_open.ensures.open.1 see.rights (see.pass ∙ sym see.same) done.durable again.seen again.counts
-    (again.pass ∙ c.self-then-not-has_room.view_is) c.decline-declined.result done.declined
+    declined_group _ _ _ c.args.group.now _ _ _ _ _ _ _ _ _ c.see.new.self c.decline-declined.new.self.history _ _ _ _ see.seen see.counts c.in_ok-check_open.ensures.open.1 see.rights (see.pass ∙ sym see.same) done.durable again.seen again.counts
+    (again.pass ∙ (history_is _ _ c.self-then-not-has_room.view_is)) c.decline-declined.result done.declined
 
 pub returns-then-not-has_room-clause-full : goal.returns-then-not-has_room-clause-full
 returns-then-not-has_room-clause-full g c =
     let done = c.decline-declined.ensures in
     let again = c.see-then-not-has_room.ensures in
     let lacks = c.if-not-has_room.ensures.none refl in
-    full_of g.N.Life.opens c.args.group.now _ _ _ _ c.see.new.self c.decline-declined.new.self _ c.decline-declined.result done.declined (again.pass ∙ c.self-then-not-has_room.view_is) lacks.0 lacks.1
+    full_of g.N.Life.opens c.args.group.now _ _ _ _ c.see.new.self c.decline-declined.new.self.history _ c.decline-declined.result done.declined (again.pass ∙ (history_is _ _ c.self-then-not-has_room.view_is)) lacks.0 lacks.1
 
 pub returns-in-Ok-clause-entered : goal.returns-in-Ok-clause-entered
 returns-in-Ok-clause-entered g c =
     let see = c.see.ensures in
     let again = c.see-in-Ok.ensures in
-    entered_group _ _ _ _ _ _ _ _ _ _ _ _ _ _ _ _ _ _ _ _ see.seen see.counts c.in_ok-check_open.ensures.open.1 see.rights (see.pass ∙ sym see.same) c.in-Ok.ensures.entered again.seen again.counts (again.pass ∙ c.self-2.view_is)
+    entered_group _ _ _ _ _ _ _ _ _ _ _ _ _ _ _ _ _ _ _ _ see.seen see.counts c.in_ok-check_open.ensures.open.1 see.rights (see.pass ∙ sym see.same) c.in-Ok.ensures.entered again.seen again.counts (again.pass ∙ (history_is _ _ c.self-2.view_is))
     (c.if-not-has_room.ensures.room refl)
 
 pub returns-in-Ok-clause-filled : goal.returns-in-Ok-clause-filled
@@ -72,4 +73,32 @@ invariant_of-self-in-Ok g c =
       restored_same j.history _ j.restored k.2 same,
       losers_same g.N.Life.opens j.history _ j.losers j.losers k.3 same,
       still_safe g.N.Life.opens g.L.Disk.told g.L.Disk.may_leave j.history _ j.log.log.log j.log.log.log k.4 same refl,
+      k.5,
     )
+
+-- ---- the log disk
+
+pub returns-then-not-has_room-clause-disk : goal.returns-then-not-has_room-clause-disk
+returns-then-not-has_room-clause-disk g c =
+    let done = c.decline-declined.ensures.disk in
+    record {
+      ended = ended_is _ _ c.self-then-not-has_room.view_is ∙ done.ended ∙ ended_is _ _ c.self.view_is;
+      calls = calls_is _ _ c.self-then-not-has_room.view_is ∙ done.calls ∙ calls_is _ _ c.self.view_is;
+    }
+
+pub returns-then-not-has_room-clause-learns : goal.returns-then-not-has_room-clause-learns
+returns-then-not-has_room-clause-learns g c =
+    let same = declined_ended g.N.Life.opens c.args.group.now _ _ _ _ _ _ c.decline-declined.result c.decline-declined.ensures.declined in
+    inl (ap (λ (a : Account). a.ended) c.see-then-not-has_room.ensures.counts ∙ same ∙ ap (λ (a : Account). a.ended) (c.in_ok-check_open.ensures.open.1 ∙ c.see.ensures.counts))
+
+pub returns-in-Ok-clause-disk : goal.returns-in-Ok-clause-disk
+returns-in-Ok-clause-disk g c =
+    let done = c.in-Ok.ensures.disk in
+    record {
+      ended = ended_is _ _ c.self-2.view_is ∙ done.ended ∙ ended_is _ _ c.self.view_is;
+      calls = calls_is _ _ c.self-2.view_is ∙ done.calls ∙ calls_is _ _ c.self.view_is;
+    }
+
+pub returns-in-Ok-clause-learns : goal.returns-in-Ok-clause-learns
+returns-in-Ok-clause-learns g c =
+    inl (ap (λ (a : Account). a.ended) c.see-in-Ok.ensures.counts ∙ ap (λ (a : Account). a.ended) c.in-Ok.ensures.entered.counted ∙ ap (λ (a : Account). a.ended) (c.in_ok-check_open.ensures.open.1 ∙ c.see.ensures.counts))

@@ -8,6 +8,7 @@ use Rattle.journal.proofs.Living.{ends_failed}
 use Rattle.journal.proofs.Losing.{losers_same}
 use Rattle.journal.proofs.Restoring.{restored_same}
 use Rattle.journal.proofs.Stopping.{call_safe}
+use Rattle.journal.proofs.Calls.{blames_since, calls_is, durable_flush, end_fresh, ended_is, fault_blames, fine_blames, no_calls, told_quiet}
 use Rattle.journal.proofs.journal.Journal.flush.Goals as goal
 
 pub returns-in_err-check_open-clause-ends : goal.returns-in_err-check_open-clause-ends
@@ -27,6 +28,7 @@ invariant_of-self-then-is_err g c =
       restored_same c.self.inside.history _ c.self.inside.restored c.self.invariant.2 c.look.ensures.same,
       losers_same g.N.Life.opens c.self.inside.history _ c.self.inside.losers c.self.inside.losers c.self.invariant.3 c.look.ensures.same,
       call_safe g.N.Life.opens g.L.Disk.tells g.L.Disk.told g.L.Disk.may_leave c.self.inside.history _ c.self.inside.log.log c.flush_to.new.self.log c.self.inside.log.listing k.life.records k.life.telling c.self.invariant.4 c.look.ensures.same runs flush.left,
+      durable_flush g.L.Disk.faults c.self.inside.log.log.log c.flush_to.new.self.log.log c.flush_to.result runs flush.live flush.refused,
     )
 
 pub invariant_of-self-2 : goal.invariant_of-self-2
@@ -41,4 +43,27 @@ invariant_of-self-2 g c =
       restored_same c.self.inside.history _ c.self.inside.restored c.self.invariant.2 c.look.ensures.same,
       losers_same g.N.Life.opens c.self.inside.history _ c.self.inside.losers c.self.inside.losers c.self.invariant.3 c.look.ensures.same,
       call_safe g.N.Life.opens g.L.Disk.tells g.L.Disk.told g.L.Disk.may_leave c.self.inside.history _ c.self.inside.log.log c.flush_to.new.self.log c.self.inside.log.listing k.life.records k.life.telling c.self.invariant.4 c.look.ensures.same runs flush.left,
+      durable_flush g.L.Disk.faults c.self.inside.log.log.log c.flush_to.new.self.log.log c.flush_to.result runs flush.live flush.refused,
     )
+
+pub returns-in_err-check_open-clause-calls : goal.returns-in_err-check_open-clause-calls
+returns-in_err-check_open-clause-calls g c =
+    let p = err_from_is_err_and c.from_residual.result c.from_residual.ensures.1 in
+    rw (p.1, p.2) (no_calls _ _ _ (sym (calls_is _ _ c.self.view_is)) (told_quiet g.N.Life.log_faults _ _ _ c.in_err-check_open.ensures.ended))
+
+pub returns-then-is_err-clause-end : goal.returns-then-is_err-clause-end
+returns-then-is_err-clause-end g c = end_fresh _ _ (sym (ended_is _ _ c.self.view_is) ∙ c.in_ok-check_open.ensures.open.0)
+
+pub returns-clause-end : goal.returns-clause-end
+returns-clause-end g c = end_fresh _ _ (sym (ended_is _ _ c.self.view_is) ∙ c.in_ok-check_open.ensures.open.0)
+
+pub returns-then-is_err-clause-calls : goal.returns-then-is_err-clause-calls
+returns-then-is_err-clause-calls g c =
+    let flush = c.flush_to.ensures in
+    let failed = fault_blames g.L.Disk.passes g.L.Disk.refused g.L.Disk.own g.L.Disk.faults c.self.inside.log.log.log c.flush_to.new.self.log.log c.flush_to.result (sym c.is_err.ensures.value ∙ c.if-is_err.true) flush.refused c.in_ok-check_open.ensures.open.0 flush.fuse in
+    blames_since g.L.Disk.passes g.L.Disk.refused g.L.Disk.own _ _ _ (calls_is _ _ c.self.view_is) _ failed
+
+pub returns-clause-calls : goal.returns-clause-calls
+returns-clause-calls g c =
+    let fine = fine_blames g.L.Disk.passes g.L.Disk.refused g.L.Disk.own g.L.Disk.faults c.self.inside.log.log.log c.flush_to.new.self.log.log c.flush_to.result (sym c.is_err.ensures.value ∙ c.if-is_err.false) c.flush_to.ensures.fuse in
+    blames_since g.L.Disk.passes g.L.Disk.refused g.L.Disk.own _ _ _ (calls_is _ _ c.self.view_is) _ fine

@@ -55,6 +55,7 @@ invariant_of-self-in-Ok g c =
       restored_entry c.self.inside.history _ c.self.inside.restored e c.self.invariant.2 (own.history ∙ ap (λ (l : List Entry). l ++ e ∷ []) watch.same) (λ s. refl),
       losers_entry g.N.Life.opens c.self.inside.history _ c.self.inside.losers c.self.inside.losers c.self.invariant.3 e (own.history ∙ ap (λ (l : List Entry). l ++ e ∷ []) watch.same) refl (λ t. refl),
       entry_safe g.N.Life.opens g.L.Disk.told g.L.Disk.may_leave c.self.inside.history _ c.self.inside.log.log.log c.self.inside.log.log.log c.self.invariant.4 e (own.history ∙ ap (λ (l : List Entry). l ++ e ∷ []) watch.same) refl (λ t. refl) refl,
+      c.self.invariant.5,
     )
 
 pub returns-in-Ok-clause-entered : goal.returns-in-Ok-clause-entered
@@ -106,6 +107,7 @@ invariant_of-self-in-Err-Overlap g c =
       restored_entry c.self.inside.history _ c.self.inside.restored e c.self.invariant.2 (own.history ∙ ap (λ (l : List Entry). l ++ e ∷ []) watch.same) (λ s. refl),
       losers_entry g.N.Life.opens c.self.inside.history _ c.self.inside.losers c.self.inside.losers c.self.invariant.3 e (own.history ∙ ap (λ (l : List Entry). l ++ e ∷ []) watch.same) refl (λ t. refl),
       entry_safe g.N.Life.opens g.L.Disk.told g.L.Disk.may_leave c.self.inside.history _ c.self.inside.log.log.log c.self.inside.log.log.log c.self.invariant.4 e (own.history ∙ ap (λ (l : List Entry). l ++ e ∷ []) watch.same) refl (λ t. refl) refl,
+      c.self.invariant.5,
     )
 
 pub returns-in-Err-Overlap-clause-entered : goal.returns-in-Err-Overlap-clause-entered
@@ -150,7 +152,7 @@ returns-in-Err-Overlap-clause-conflict g c =
 
 pub invariant_of-self-in-Err-Memory : goal.invariant_of-self-in-Err-Memory
 invariant_of-self-in-Err-Memory g c =
-    (c.self.invariant.0, kept_locks _ _ _ _ _ _ c.self.inside.log.log c.self.inside.log.log c.self.inside.log.listing c.self.inside.log.listing c.self.inside.locks c.acquire.new.self _ _ _ c.self.invariant.1 c.check_open.ensures.total c.watch_session.ensures.same c.in-Err-Memory.ensures.err, restored_same c.self.inside.history _ c.self.inside.restored c.self.invariant.2 c.watch_session.ensures.same, losers_same g.N.Life.opens c.self.inside.history _ c.self.inside.losers c.self.inside.losers c.self.invariant.3 c.watch_session.ensures.same, still_safe g.N.Life.opens g.L.Disk.told g.L.Disk.may_leave c.self.inside.history _ c.self.inside.log.log.log c.self.inside.log.log.log c.self.invariant.4 c.watch_session.ensures.same refl)
+    (c.self.invariant.0, kept_locks _ _ _ _ _ _ c.self.inside.log.log c.self.inside.log.log c.self.inside.log.listing c.self.inside.log.listing c.self.inside.locks c.acquire.new.self _ _ _ c.self.invariant.1 c.check_open.ensures.total c.watch_session.ensures.same c.in-Err-Memory.ensures.err, restored_same c.self.inside.history _ c.self.inside.restored c.self.invariant.2 c.watch_session.ensures.same, losers_same g.N.Life.opens c.self.inside.history _ c.self.inside.losers c.self.inside.losers c.self.invariant.3 c.watch_session.ensures.same, still_safe g.N.Life.opens g.L.Disk.told g.L.Disk.may_leave c.self.inside.history _ c.self.inside.log.log.log c.self.inside.log.log.log c.self.invariant.4 c.watch_session.ensures.same refl, c.self.invariant.5)
 
 -- ---- a loser
 

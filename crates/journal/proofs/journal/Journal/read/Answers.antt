@@ -4,6 +4,7 @@ use Rattle.page_ops.specs.Causes.{IsOpen}
 use Rattle.page_ops.specs.Claims.{no_claims}
 use Rattle.page_ops.specs.Seeing.{Account, Enters, known}
 use Rattle.wal_record.specs.History.{life_log}
+use Rattle.journal.proofs.Calls.{blames_since, calls_is, end_fresh, ended_is, no_calls, told_quiet}
 use Rattle.journal.proofs.Ending.{called, called_ends, told_stops, stopped_ends}
 use Rattle.journal.proofs.Living.{kept_call}
 use Rattle.journal.proofs.Lookup.{found_told, unread_told}
@@ -26,6 +27,7 @@ invariant_of-self g c =
       restored_same c.self.inside.history _ c.self.inside.restored c.self.invariant.2 c.look.ensures.same,
       losers_same g.N.Life.opens c.self.inside.history _ c.self.inside.losers c.self.inside.losers c.self.invariant.3 c.look.ensures.same,
       call_safe g.N.Life.opens g.L.Disk.tells g.L.Disk.told g.L.Disk.may_leave c.self.inside.history _ c.self.inside.log.log c.find.new.log.log c.self.inside.log.listing k.life.records k.life.telling c.self.invariant.4 c.look.ensures.same c.in-Ok.ensures.open.0 read.left,
+      read.durable,
     )
 
 pub returns-in-Ok-clause-seen : goal.returns-in-Ok-clause-seen
@@ -50,3 +52,12 @@ pub returns-in-Ok-clause-refused : goal.returns-in-Ok-clause-refused
 returns-in-Ok-clause-refused g c =
     let k = c.self.invariant.1.life in
     unread_told g.N.Life.opens c.look.new.pass.log c.self.inside.history c.look.ensures.pass c.args.lsn c.find.result c.find.ensures.unread (λ opening stands. c.find.ensures.found _ (life_log opening c.self.inside.history) (k.records opening stands) (k.telling opening stands))
+
+pub returns-in-Ok-clause-end : goal.returns-in-Ok-clause-end
+returns-in-Ok-clause-end g c = end_fresh _ _ (sym (ended_is _ _ c.self.view_is) ∙ c.in-Ok.ensures.open.0)
+
+pub returns-in-Ok-clause-calls : goal.returns-in-Ok-clause-calls
+returns-in-Ok-clause-calls g c = blames_since g.L.Disk.passes g.L.Disk.refused g.L.Disk.own _ _ _ (calls_is _ _ c.self.view_is) _ c.find.ensures.fuse
+
+pub returns-in-Err-clause-calls : goal.returns-in-Err-clause-calls
+returns-in-Err-clause-calls g c = no_calls _ _ _ (sym (calls_is _ _ c.self.view_is)) (told_quiet g.N.Life.log_faults _ _ _ c.in-Err.ensures.ended)

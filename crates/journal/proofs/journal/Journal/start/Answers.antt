@@ -4,6 +4,7 @@ use Rattle.journal.proofs.Losing.{losers_start}
 use Rattle.journal.proofs.Starting.{kept_start}
 use Rattle.journal.proofs.Restoring.{restored_nothing}
 use Rattle.journal.proofs.Stopping.{still_safe}
+use Rattle.journal.proofs.Calls.{durable_open}
 use Rattle.journal.proofs.journal.Journal.start.Goals as goal
 
 pub invariant_of-result : goal.invariant_of-result
@@ -13,6 +14,7 @@ invariant_of-result g c = (
   restored_nothing _ c.new-2.result c.requires.begins c.new-2.ensures.empty,
   losers_start g.N.Life.opens _ c.args.losers c.requires.begins c.requires.losers,
   still_safe g.N.Life.opens g.L.Disk.told g.L.Disk.may_leave [] c.args.history c.args.log.log.log c.args.log.log.log c.requires.safe c.requires.begins refl,
+  durable_open c.args.log.log.log c.requires.goes,
 )
 
 pub returns-clause-durable : goal.returns-clause-durable

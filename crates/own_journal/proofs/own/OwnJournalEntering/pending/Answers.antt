@@ -1,0 +1,5 @@
+use Rattle.journal.proofs.Calls.{knows_untouched, learnt_same}
+use Rattle.own_journal.proofs.own.OwnJournalEntering.pending.Goals as goal
+
+pub invariant_of-self : goal.invariant_of-self
+invariant_of-self g c = record { knows = knows_untouched c.args.self.now.counts c.pending.new.counts c.args.self.now.journal c.pending.new.self c.args.self.now.knows c.pending.ensures.disk (learnt_same _ _ _ c.pending.ensures.counts) }
