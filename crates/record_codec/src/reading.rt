@@ -8,6 +8,7 @@ ghost use Rattle.wal_record.specs.Reading.{Read, as_kind, record_at, format_at, 
 ghost use Rattle.state_codec.specs.declared.fault.FieldFault.TheVariants as faults;
 ghost use Rattle.state_codec.specs.Gives.{Gives, Fails};
 ghost use Rattle.record_codec.specs.Gives.{Tells, IsFound};
+ghost use Rattle.record_codec.specs.Row.{Begins};
 
 use crate::fault::RecordFault;
 use crate::lists::{page_heads_at, page_lsns_at, runs_at, segments_at, transactions_at};
@@ -16,6 +17,7 @@ use state_codec::{
     new_value_at, next_at, number_at, page_at, state_at, u8_at, u32_at, u64_at,
 };
 use std::alloc::Global;
+use store_model::{Lsn, PageNo, TxId};
 use wal_record::{
     Adopt, Apply, BackupDone, Checkpoint, Commit, End, Format, Grow, Lost, Purge, Record, Restored,
     RunDone, Split, Undo, Write, Written,
@@ -29,27 +31,29 @@ fn format_at(bytes: &[u8]) -> Result<(Record, &[u8]), FieldFault>
     Ok((Record::Format(Format { limit }), rest))
 }
 
-#[tactic(auto, unfolding(wal_record::specs::Reading::write_at))]
-fn write_at(bytes: &[u8]) -> Result<(Write, &[u8]), FieldFault>
-    ensures { Gives (λ x. (x.0, x.1.now)) result (write_at bytes.now) }
+/// What a Write begins with: its transaction and its page, each with the record before.
+#[derive(Clone, Copy)]
+struct Head {
+    tx: TxId,
+    prev: Lsn,
+    page: PageNo,
+    page_prev: Lsn,
+}
+
+fn head_at(bytes: &[u8]) -> Result<(Head, &[u8]), FieldFault>
+    ensures { Begins result bytes.now }
 {
     let (tx, rest) = number_at(bytes)?;
     let (prev, rest) = lsn_or_none_at(rest)?;
     let (page, rest) = page_at(rest)?;
     let (page_prev, rest) = lsn_or_none_at(rest)?;
-    let (key, rest) = key_at(rest)?;
-    let (old, rest) = maybe_value_at(rest)?;
-    let (new, rest) = new_value_at(&old, rest)?;
-    let found = Write {
+    let head = Head {
         tx,
         prev,
         page,
         page_prev,
-        key,
-        old,
-        new,
     };
-    Ok((found, rest))
+    Ok((head, rest))
 }
 
 #[tactic(auto, unfolding(wal_record::specs::Reading::apply_at))]
@@ -300,21 +304,45 @@ fn fault_in(bytes: &[u8], fault: FieldFault) -> RecordFault
     }
 }
 
-// A record of a row has room for a key and values, and whoever passes it on copies them: several hundred instructions
-// each time, where not even its kind is known. So each kind of them is made where it is told.
+// A record of a row has room for a key and values, and whoever passes it on copies them: the dearer the less is known
+// there of its kind. So each of these kinds is read and told by a call of its own.
 
 /// A Write and its length, or where the first fault is.
+#[inline(never)]
 fn write_told(bytes: &[u8], rest: &[u8]) -> Result<(Record, usize), RecordFault>
     requires { record_at bytes.now ≡ as_kind kinds.Write (write_at rest.now) }
     ensures { Tells result (record_at bytes.now) (length bytes.now) }
 {
-    match write_at(rest) {
-        Ok((found, after)) => Ok((Record::Write(found), bytes.len() - after.len())),
-        Err(fault) => Err(fault_in(bytes, fault)),
-    }
+    let (head, rest) = match head_at(rest) {
+        Ok(read) => read,
+        Err(fault) => return Err(fault_in(bytes, fault)),
+    };
+    let (key, rest) = match key_at(rest) {
+        Ok(read) => read,
+        Err(fault) => return Err(fault_in(bytes, fault)),
+    };
+    let (old, rest) = match maybe_value_at(rest) {
+        Ok(read) => read,
+        Err(fault) => return Err(fault_in(bytes, fault)),
+    };
+    let (new, after) = match new_value_at(&old, rest) {
+        Ok(read) => read,
+        Err(fault) => return Err(fault_in(bytes, fault)),
+    };
+    let found = Write {
+        tx: head.tx,
+        prev: head.prev,
+        page: head.page,
+        page_prev: head.page_prev,
+        key,
+        old,
+        new,
+    };
+    Ok((Record::Write(found), bytes.len() - after.len()))
 }
 
 /// An Apply and its length, or where the first fault is.
+#[inline(never)]
 fn apply_told(bytes: &[u8], rest: &[u8]) -> Result<(Record, usize), RecordFault>
     requires { record_at bytes.now ≡ as_kind kinds.Apply (apply_at rest.now) }
     ensures { Tells result (record_at bytes.now) (length bytes.now) }
@@ -326,6 +354,7 @@ fn apply_told(bytes: &[u8], rest: &[u8]) -> Result<(Record, usize), RecordFault>
 }
 
 /// An Undo and its length, or where the first fault is.
+#[inline(never)]
 fn undo_told(bytes: &[u8], rest: &[u8]) -> Result<(Record, usize), RecordFault>
     requires { record_at bytes.now ≡ as_kind kinds.Undo (undo_at rest.now) }
     ensures { Tells result (record_at bytes.now) (length bytes.now) }
