@@ -213,6 +213,7 @@ fn page_heads_items<'a>(
     Ok((found, rest))
 }
 
+#[inline(never)]
 #[tactic(auto, unfolding(wal_record::specs::Reading::list_at))]
 pub fn page_heads_at(alloc: Global, bytes: &[u8]) -> Result<(List<PageHead>, &[u8]), FieldFault>
     ensures { Gives (λ x. (x.0, x.1.now)) result (list_at w32 any_number page_head_at bytes.now) }

@@ -1,12 +1,14 @@
 //! Reading a record.
-ghost use Rattle.std.specs.Prelude.{◌≡◌, ◌++◌, ℕ, List, length, take, IfOk};
+ghost use Rattle.std.specs.Prelude.{◌≡◌, ◌≢◌, ◌≤◌, ◌++◌, ◌∷◌, ℕ, List, length, take, Err, IfOk};
 ghost use Rattle.wal_record.specs.declared.record.Record.{Record};
 ghost use Rattle.wal_record.specs.declared.record.Record.TheVariants as kinds;
 ghost use Rattle.wal_record.specs.Rules.{HasSpelling};
 ghost use Rattle.wal_record.specs.Spelling.{spelling};
-ghost use Rattle.wal_record.specs.Reading.{as_kind, record_at, format_at, write_at, apply_at, undo_at, commit_at, end_at, adopt_at, purge_at, written_at, run_done_at, lost_at, restored_at, checkpoint_at, backup_done_at, split_at, grow_at};
-ghost use Rattle.state_codec.specs.Gives.{Gives};
+ghost use Rattle.wal_record.specs.Reading.{Read, as_kind, record_at, format_at, write_at, apply_at, undo_at, commit_at, end_at, adopt_at, purge_at, written_at, run_done_at, lost_at, restored_at, checkpoint_at, backup_done_at, split_at, grow_at};
+ghost use Rattle.state_codec.specs.declared.fault.FieldFault.TheVariants as faults;
+ghost use Rattle.state_codec.specs.Gives.{Gives, Fails};
 ghost use Rattle.record_codec.specs.Gives.{Tells, IsFound};
+ghost use Rattle.record_codec.specs.Row.{Begins};
 
 use crate::fault::RecordFault;
 use crate::lists::{page_heads_at, page_lsns_at, runs_at, segments_at, transactions_at};
@@ -15,6 +17,7 @@ use state_codec::{
     new_value_at, next_at, number_at, page_at, state_at, u8_at, u32_at, u64_at,
 };
 use std::alloc::Global;
+use store_model::{Lsn, PageNo, TxId};
 use wal_record::{
     Adopt, Apply, BackupDone, Checkpoint, Commit, End, Format, Grow, Lost, Purge, Record, Restored,
     RunDone, Split, Undo, Write, Written,
@@ -28,32 +31,34 @@ fn format_at(bytes: &[u8]) -> Result<(Record, &[u8]), FieldFault>
     Ok((Record::Format(Format { limit }), rest))
 }
 
-#[tactic(auto, unfolding(wal_record::specs::Reading::write_at))]
-fn write_at(bytes: &[u8]) -> Result<(Record, &[u8]), FieldFault>
-    ensures { Gives (λ x. (x.0, x.1.now)) result (as_kind kinds.Write (write_at bytes.now)) }
+/// What a Write begins with: its transaction and its page, each with the record before.
+#[derive(Clone, Copy)]
+struct Head {
+    tx: TxId,
+    prev: Lsn,
+    page: PageNo,
+    page_prev: Lsn,
+}
+
+fn head_at(bytes: &[u8]) -> Result<(Head, &[u8]), FieldFault>
+    ensures { Begins result bytes.now }
 {
     let (tx, rest) = number_at(bytes)?;
     let (prev, rest) = lsn_or_none_at(rest)?;
     let (page, rest) = page_at(rest)?;
     let (page_prev, rest) = lsn_or_none_at(rest)?;
-    let (key, rest) = key_at(rest)?;
-    let (old, rest) = maybe_value_at(rest)?;
-    let (new, rest) = new_value_at(&old, rest)?;
-    let found = Write {
+    let head = Head {
         tx,
         prev,
         page,
         page_prev,
-        key,
-        old,
-        new,
     };
-    Ok((Record::Write(found), rest))
+    Ok((head, rest))
 }
 
 #[tactic(auto, unfolding(wal_record::specs::Reading::apply_at))]
-fn apply_at(bytes: &[u8]) -> Result<(Record, &[u8]), FieldFault>
-    ensures { Gives (λ x. (x.0, x.1.now)) result (as_kind kinds.Apply (apply_at bytes.now)) }
+fn apply_at(bytes: &[u8]) -> Result<(Apply, &[u8]), FieldFault>
+    ensures { Gives (λ x. (x.0, x.1.now)) result (apply_at bytes.now) }
 {
     let (tx, rest) = number_at(bytes)?;
     let (prev, rest) = lsn_or_none_at(rest)?;
@@ -73,12 +78,12 @@ fn apply_at(bytes: &[u8]) -> Result<(Record, &[u8]), FieldFault>
         argument,
         old,
     };
-    Ok((Record::Apply(found), rest))
+    Ok((found, rest))
 }
 
 #[tactic(auto, unfolding(wal_record::specs::Reading::undo_at))]
-fn undo_at(bytes: &[u8]) -> Result<(Record, &[u8]), FieldFault>
-    ensures { Gives (λ x. (x.0, x.1.now)) result (as_kind kinds.Undo (undo_at bytes.now)) }
+fn undo_at(bytes: &[u8]) -> Result<(Undo, &[u8]), FieldFault>
+    ensures { Gives (λ x. (x.0, x.1.now)) result (undo_at bytes.now) }
 {
     let (tx, rest) = number_at(bytes)?;
     let (prev, rest) = lsn_or_none_at(rest)?;
@@ -96,7 +101,7 @@ fn undo_at(bytes: &[u8]) -> Result<(Record, &[u8]), FieldFault>
         restores,
         undo_next,
     };
-    Ok((Record::Undo(found), rest))
+    Ok((found, rest))
 }
 
 #[tactic(auto, unfolding(wal_record::specs::Reading::commit_at))]
@@ -258,19 +263,16 @@ fn grow_at(alloc: Global, bytes: &[u8]) -> Result<(Record, &[u8]), FieldFault>
     Ok((Record::Grow(found), rest))
 }
 
-/// The record in front.
+/// The record behind the byte of its kind. Records of a row are read apart.
 #[tactic(auto, unfolding(wal_record::specs::Reading::record_at))]
-fn record_at(alloc: Global, bytes: &[u8]) -> Result<(Record, &[u8]), FieldFault>
-    ensures { Gives (λ x. (x.0, x.1.now)) result (record_at bytes.now) }
+fn record_at(alloc: Global, kind: u8, rest: &[u8]) -> Result<(Record, &[u8]), FieldFault>
+    requires no_write { kind ≢ 2 }
+    requires no_apply { kind ≢ 3 }
+    requires no_undo { kind ≢ 4 }
+    ensures { Gives (λ x. (x.0, x.1.now)) result (record_at (kind ∷ rest.now)) }
 {
-    let [kind, rest @ ..] = bytes else {
-        return Err(FieldFault::Bad { left: 0 });
-    };
-    match *kind {
+    match kind {
         1 => format_at(rest),
-        2 => write_at(rest),
-        3 => apply_at(rest),
-        4 => undo_at(rest),
         5 => commit_at(rest),
         6 => end_at(rest),
         7 => split_at(alloc, rest),
@@ -283,20 +285,118 @@ fn record_at(alloc: Global, bytes: &[u8]) -> Result<(Record, &[u8]), FieldFault>
         14 => run_done_at(rest),
         15 => lost_at(rest),
         16 => restored_at(rest),
-        _ => Err(FieldFault::Bad { left: bytes.len() }),
+        _ => Err(FieldFault::Bad {
+            left: 1 + rest.len(),
+        }),
+    }
+}
+
+/// The fault at its byte.
+fn fault_in(bytes: &[u8], fault: FieldFault) -> RecordFault
+    requires { (left : ℕ) → fault ≡ faults.Bad left → left ≤ length bytes.now }
+    ensures { (read : Read Record) → Fails fault read → Tells (Err result) read (length bytes.now) }
+{
+    match fault {
+        FieldFault::Memory => RecordFault::Memory,
+        FieldFault::Bad { left } => RecordFault::Bad {
+            byte: bytes.len() - left,
+        },
+    }
+}
+
+// A record of a row has room for a key and values, and whoever passes it on copies them: the dearer the less is known
+// there of its kind. So each of these kinds is read and told by a call of its own.
+
+/// A Write and its length, or where the first fault is.
+#[inline(never)]
+fn write_told(bytes: &[u8], rest: &[u8]) -> Result<(Record, usize), RecordFault>
+    requires { record_at bytes.now ≡ as_kind kinds.Write (write_at rest.now) }
+    ensures { Tells result (record_at bytes.now) (length bytes.now) }
+{
+    let (head, rest) = match head_at(rest) {
+        Ok(read) => read,
+        Err(fault) => return Err(fault_in(bytes, fault)),
+    };
+    let (key, rest) = match key_at(rest) {
+        Ok(read) => read,
+        Err(fault) => return Err(fault_in(bytes, fault)),
+    };
+    let (old, rest) = match maybe_value_at(rest) {
+        Ok(read) => read,
+        Err(fault) => return Err(fault_in(bytes, fault)),
+    };
+    let (new, after) = match new_value_at(&old, rest) {
+        Ok(read) => read,
+        Err(fault) => return Err(fault_in(bytes, fault)),
+    };
+    let found = Write {
+        tx: head.tx,
+        prev: head.prev,
+        page: head.page,
+        page_prev: head.page_prev,
+        key,
+        old,
+        new,
+    };
+    Ok((Record::Write(found), bytes.len() - after.len()))
+}
+
+/// An Apply and its length, or where the first fault is.
+#[inline(never)]
+fn apply_told(bytes: &[u8], rest: &[u8]) -> Result<(Record, usize), RecordFault>
+    requires { record_at bytes.now ≡ as_kind kinds.Apply (apply_at rest.now) }
+    ensures { Tells result (record_at bytes.now) (length bytes.now) }
+{
+    match apply_at(rest) {
+        Ok((found, after)) => Ok((Record::Apply(found), bytes.len() - after.len())),
+        Err(fault) => Err(fault_in(bytes, fault)),
+    }
+}
+
+/// An Undo and its length, or where the first fault is.
+#[inline(never)]
+fn undo_told(bytes: &[u8], rest: &[u8]) -> Result<(Record, usize), RecordFault>
+    requires { record_at bytes.now ≡ as_kind kinds.Undo (undo_at rest.now) }
+    ensures { Tells result (record_at bytes.now) (length bytes.now) }
+{
+    match undo_at(rest) {
+        Ok((found, after)) => Ok((Record::Undo(found), bytes.len() - after.len())),
+        Err(fault) => Err(fault_in(bytes, fault)),
+    }
+}
+
+/// A record of another kind and its length, or where the first fault is.
+fn other_told(
+    alloc: Global,
+    bytes: &[u8],
+    kind: u8,
+    rest: &[u8],
+) -> Result<(Record, usize), RecordFault>
+    requires parts { bytes.now ≡ kind ∷ rest.now }
+    requires no_write { kind ≢ 2 }
+    requires no_apply { kind ≢ 3 }
+    requires no_undo { kind ≢ 4 }
+    ensures { Tells result (record_at bytes.now) (length bytes.now) }
+{
+    match record_at(alloc, kind, rest) {
+        Ok((found, rest)) => Ok((found, bytes.len() - rest.len())),
+        Err(fault) => Err(fault_in(bytes, fault)),
     }
 }
 
 /// The record in front and its length, or where the first fault is.
+#[tactic(auto, unfolding(wal_record::specs::Reading::record_at))]
 fn told(alloc: Global, bytes: &[u8]) -> Result<(Record, usize), RecordFault>
     ensures { Tells result (record_at bytes.now) (length bytes.now) }
 {
-    match record_at(alloc, bytes) {
-        Ok((found, rest)) => Ok((found, bytes.len() - rest.len())),
-        Err(FieldFault::Memory) => Err(RecordFault::Memory),
-        Err(FieldFault::Bad { left }) => Err(RecordFault::Bad {
-            byte: bytes.len() - left,
-        }),
+    let [kind, rest @ ..] = bytes else {
+        return Err(RecordFault::Bad { byte: 0 });
+    };
+    match *kind {
+        2 => write_told(bytes, rest),
+        3 => apply_told(bytes, rest),
+        4 => undo_told(bytes, rest),
+        kind => other_told(alloc, bytes, kind, rest),
     }
 }
 
