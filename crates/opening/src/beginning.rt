@@ -1,5 +1,6 @@
 //! A life that begins.
 ghost use Rattle.std.specs.Prelude.{◌≡◌, ◌<◌, ◌≤◌, ℕ, List, [], None, length, max, map, IfOk, IfSome};
+ghost use Rattle.journal.specs.State.{calls_of};
 ghost use Rattle.life_history.specs.Kept.{AreKept, Begins, IsSmall};
 ghost use Rattle.log_blocks.specs.LogState.{durable_lsn};
 ghost use Rattle.losers.specs.Losers.{untouched};
@@ -104,7 +105,8 @@ pub fn start<'a, L: Disk, N: Life>(
     requires number { 1 ≤ next_tx }
     requires next { (opening : List Record) → N.opens opening → Begins opening next_tx }
     requires losers { (opening : List Record) → N.opens opening → losers ≡ map untouched (writes.losers opening) }
-    ensures begins { result.journal.journal ≡ [] }
+    ensures begins { (result.journal.journal.history ≡ []) × (result.journal.journal.ended ≡ None) }
+    ensures calls { result.journal.journal.calls ≡ calls_of L.passes L.refused L.own log.log.log.device }
     // The journal has all parts of its ledgers, and in none was anything counted.
     ensures counts { result.journal.counts ≡ all_parts N.entries N.session_entries N.log_faults N.vault_faults N.made }
     ensures vault { result.vault_faults.total ≡ 0 }

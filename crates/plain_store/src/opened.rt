@@ -2,6 +2,7 @@
 ghost use Rattle.std.specs.Prelude.{◌≡◌, ◌⊎◌, ◌<◌, ◌≤◌, ℕ, List, [], None, false, length, IfErr, IfOk};
 ghost use Rattle.buffer_pool.specs.Tables.{frame_of};
 ghost use Rattle.buffer_pool.specs.declared.frame.Frame.TheVariants.{Empty};
+ghost use Rattle.journal.specs.State.{calls_of};
 ghost use Rattle.opening.specs.Begins.{MayBegin, all_parts};
 ghost use Rattle.opening_rights.specs.Opened.{AreAtHome};
 ghost use Rattle.page_ops.specs.Causes.{IsUntold};
@@ -48,6 +49,9 @@ pub fn open_store<'a, L: Disk, P: PageDevice, S, N: Life>(
     ensures empty { IfOk result (λ s. (page : ℕ) → frame_of s.pages.frames page ≡ Empty) }
     ensures none { IfOk result (λ s. (s.pages.out ≡ 0) × (s.pages.reserves ≡ false)) }
     ensures homes { IfOk result (λ s. (opening : List Record) → N.opens opening → AreAtHome opening s.pages.frames.index) }
+    // The life has just begun, and of the log disk's calls is known what was known before.
+    ensures begins { IfOk result (λ s. (s.journal.journal.history ≡ []) × (s.journal.journal.ended ≡ None)) }
+    ensures calls { IfOk result (λ s. s.journal.journal.calls ≡ calls_of L.passes L.refused L.own log.log.log.device) }
     // It has all parts of the ledgers, and in none was anything counted.
     ensures account { IfOk result (λ s. s.journal.counts ≡ all_parts N.entries N.session_entries N.log_faults N.vault_faults N.made) }
     ensures vault { IfOk result (λ s. s.vault_faults.total ≡ 0) }

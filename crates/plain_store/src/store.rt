@@ -1,5 +1,6 @@
 //! A store of one thread.
 ghost use Rattle.std.specs.Prelude.{◌≡◌};
+ghost use Rattle.journal.specs.State.{calls_of};
 ghost use Rattle.journal.specs.Stops.{Leaves};
 
 use books::MaintRight;
@@ -28,7 +29,8 @@ impl<'a, L: Disk, P: PageDevice, S, N: Life> PlainStore<'a, L, P, S, N> {
     /// The life has stopped: its log disk, its data device and its supply, as they are. What the log disk keeps, and what it
     /// keeps after a crash that comes now, stands for a log that a stop may leave of the life.
     pub fn into_devices(self) -> (L, P, S)
-        ensures log { Leaves N.opens L.told L.may_leave self.entry.journal.journal self.entry.pass.durable result.0 }
+        ensures log { Leaves N.opens L.told L.may_leave self.entry.journal.journal.history self.entry.pass.durable result.0 }
+        ensures calls { calls_of L.passes L.refused L.own result.0 ≡ self.entry.journal.journal.calls }
         ensures device { result.1 ≡ self.entry.pages.images }
         ensures supply { result.2 ≡ self.entry.pages.supply }
     {
