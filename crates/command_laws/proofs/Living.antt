@@ -5,12 +5,13 @@ use Rattle.std.specs.List.{All, AllByRecursion, IsDistinct, list_any}
 use Rattle.std.proofs.Math.Nat.{le-max_left, le-max_right}
 use Rattle.std.proofs.lemmas.Bool.{eqb-true, or_cases}
 use Rattle.std.proofs.lemmas.Cmp.{nat_eq_equiv}
-use Rattle.std.proofs.lemmas.List.{length-map, map-append}
+use Rattle.std.proofs.lemmas.List.{length-map, map-append, nil_from_length}
 use Rattle.std.proofs.lemmas.List.Elements.{All-append, All-cons, All-head, All-nil, All-tail}
 use Rattle.std.proofs.lemmas.List.Folds.{list_any-append}
 use Rattle.std.proofs.lemmas.Map.Keys.{IsDistinct-cons, IsDistinct-head, IsDistinct-tail}
 use Rattle.std.proofs.lemmas.Map.Made.{length-le_from_is_member}
 use Rattle.script.specs.Word.{same_text}
+use Rattle.store_model.specs.Along.{along}
 use Rattle.store_model.proofs.Bools.{false_unless, not_both, or_left, or_right}
 use Rattle.store_model.specs.declared.reply.Outcome.{Outcome}
 use Rattle.store_model.specs.declared.reply.Outcome.TheVariants as outcomes
@@ -61,7 +62,8 @@ live_before t (e ∷ es) h none is =
     let more = live_before t es (h ++ e ∷ []) (All-tail BeginsNone e es none) (subst (λ (l : List Entry). phase l t ≡ Live) (sym (append_assoc h (e ∷ []) es)) is) in
     step_live t (phase h t) e (All-head BeginsNone e es none) (sym (phase_push h e t) ∙ more)
 
-all_weaker : (P Q : Entry → Type 0) → ((e : Entry) → P e → Q e) → (es : List Entry) → All P es → All Q es
+-- what each has of which P holds
+pub all_weaker : (P Q : Entry → Type 0) → ((e : Entry) → P e → Q e) → (es : List Entry) → All P es → All Q es
 all_weaker P Q f [] all = All-nil Q
 all_weaker P Q f (e ∷ es) all = All-cons Q e es (f e (All-head P e es all)) (all_weaker P Q f es (All-tail P e es all))
 
@@ -103,6 +105,14 @@ answers_none session tx request lock (outcomes.Full pages pending) own is = subs
 answers_none session tx request lock outcomes.OpRefused own is = subst (All BeginsNone) (sym is) (one_none (Declined session tx request outcomes.OpRefused) tt)
 
 -- ---- names of live transactions
+
+nothing_live : (t : ℕ) → phase [] t ≡ Live → ⊥
+unfolding phase along
+nothing_live t live = cc
+
+-- where nothing was entered, nothing is live
+pub none_named : (h : List Entry) (active : List Active) → length h ≡ 0 → AreNamed h active
+none_named h active none t live = absurd (nothing_live t (subst (λ (l : List Entry). phase l t ≡ Live) (nil_from_length h none) live))
 
 pub still_named : (h es : List Entry) (active : List Active) → All BeginsNone es → AreNamed h active → AreNamed (h ++ es) active
 still_named h es active none named t live = named t (live_before t es h none live)
