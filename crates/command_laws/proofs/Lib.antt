@@ -4,3 +4,4 @@ pub mod Listed
 pub mod Undone
 pub mod Sessions
 pub mod Right
+pub mod Living

@@ -1,6 +1,8 @@
 -- The active transactions of a life, by name.
-use Rattle.std.specs.Prelude.{ℕ, List, [], ◌∷◌, Option, Some, None, is_some, Bool, if◌then◌else◌}
+use Rattle.std.specs.Prelude.{◌≡◌, ◌==◌, ℕ, List, [], ◌∷◌, Option, Some, None, is_some, Bool, if◌then◌else◌, IsTrue}
+use Rattle.std.specs.List.{list_any}
 use Rattle.script.specs.Word.{same_text}
+use Rattle.wal_record.specs.History.{Live, phase}
 use Rattle.wal_record.specs.declared.entry.Entry.{Entry}
 use Rattle.wal_record.specs.declared.entry.Entry.TheVariants.{Began}
 
@@ -28,3 +30,7 @@ abbrev pub began : List ℕ → List Entry → List Active
 began name [] = []
 began name (Began session tx ∷ es) = record { name = name; session = session; tx = tx } ∷ began name es
 began name (_ ∷ es) = began name es
+
+-- each transaction that is live has a name
+abbrev pub AreNamed : List Entry → List Active → Type 0
+AreNamed h active = (t : ℕ) → phase h t ≡ Live → IsTrue (list_any (λ (a : Active). t == a.tx) active)

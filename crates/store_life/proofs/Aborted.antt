@@ -1,6 +1,6 @@
 -- A transaction is undone and ended where nobody else enters anything.
 use Rattle.std.proofs.Common.{◌≡◌, ℕ, ◌<◌, ◌≤◌, Bool, true, false, cond, List, [], ◌∷◌, ◌++◌, Option, Some, None, Result, Ok, Err, refl, sym, ap, subst, ◌∙◌, append_assoc, append-nil, arith, inl, inr}
-use Rattle.std.specs.Prelude.{◌⊎◌, ◌==◌, IfErr, IfOk, OnOk}
+use Rattle.std.specs.Prelude.{◌⊎◌, ◌==◌, IfErr, IfOk, OnErr, OnOk}
 use Rattle.std.specs.List.{All, list_all, list_any}
 use Rattle.std.proofs.lemmas.Bool.{eqb-true}
 use Rattle.std.proofs.lemmas.List.Elements.{All-cons, All-nil}
@@ -31,12 +31,13 @@ use Rattle.command_laws.specs.Alone.{IsAlone}
 use Rattle.command_laws.specs.Commands.{Amid, Among, IsUpkeep, TakesBack, end_record}
 use Rattle.command_laws.proofs.Alone.{entered, still_alone}
 use Rattle.command_laws.proofs.Listed.{each_by}
+use Rattle.command_laws.proofs.Living.{none_ended}
 use Rattle.command_laws.proofs.Undone.{one_end, undone}
 use Rattle.rollback.specs.Endings.{IsEndAt, RollsOver, rolls_over}
 use Rattle.rollback.specs.Rolls.{Standing, known_by, standing}
 use Rattle.engine.specs.Sittings.{Sitting, known_by as known_of}
 use Rattle.engine.proofs.Aborted.{refused_looked, rolled_looked}
-use Rattle.store_life.specs.Turns.{EndsBy, IsAborted, IsOfAbort, IsUndone}
+use Rattle.store_life.specs.Turns.{EndsBy, IsAborted, IsOfAbort, IsUndone, UndoesBy}
 
 -- ---- the last entry
 
@@ -153,10 +154,10 @@ module _ (opens : List Record → Type 0) (ledger sessions : LedgerName) (tx : �
         ended_by pos e some.0 (some.2 ∙ ap (λ (l : Entry). some.0 ++ l ∷ []) last)
   ]
 
-  part : IsUndone tx h y.seen.log
-  part = record { entries = r.own; added = added; each = each_by (rolls_over tx) (IsOfAbort tx) (λ e is. one (Unit {0}) tx e is (λ _. tt)) r.own r.kinds }
+  part : IsUndone (Unit {0}) tx h y.seen.log
+  part = record { entries = r.own; added = added; each = each_by (rolls_over tx) (IsOfAbort (Unit {0}) tx) (λ e is. one (Unit {0}) tx e is (λ _. tt)) r.own r.kinds }
 
-  pub aborted : (result : Result ℕ Fault) → ((before : List Entry) (lsn prev : ℕ) → h ≡ before ++ Rec lsn (end_record tx prev) ∷ [] → ⊥) → IfOk result (IsEndAt tx y.seen.log) → EndsBy opens tx result h y.seen.log
+  pub aborted : (result : Result ℕ Fault) → ((before : List Entry) (lsn prev : ℕ) → h ≡ before ++ Rec lsn (end_record tx prev) ∷ [] → ⊥) → IfOk result (IsEndAt tx y.seen.log) → UndoesBy (Unit {0}) opens tx result h y.seen.log
   aborted (Ok pos) fresh e = aborted_at pos fresh e
   aborted (Err fault) fresh e = part
 
@@ -180,8 +181,8 @@ module _ (opens : List Record → Type 0) (ledger sessions log_faults made : Led
     agrees : SessionAgrees h s2.claim
     agrees = subst (λ (l : List Entry). SessionAgrees l s2.claim) (entered opens ledger sessions h [] (known_of a s1) (known_of a1 s2) alone begins (gains_of opens ledger sessions [] (known_of a s1) (known_of a1 s2) shown) ∙ append-nil h) shown.now.rights.s
 
-    pub aborts_for : IfOk result (IsEndAt s2.claim.tx s3.seen.log) → EndsBy opens s0.tx result h now.log
-    aborts_for ended = subst (λ (c : SessionClaim). EndsBy opens c.tx result h now.log) same (subst (λ (p : PassSeen Entry). EndsBy opens s2.claim.tx result h p.log) (sym is)
+    pub aborts_for : IfOk result (IsEndAt s2.claim.tx s3.seen.log) → UndoesBy (Unit {0}) opens s0.tx result h now.log
+    aborts_for ended = subst (λ (c : SessionClaim). UndoesBy (Unit {0}) opens c.tx result h now.log) same (subst (λ (p : PassSeen Entry). UndoesBy (Unit {0}) opens s2.claim.tx result h p.log) (sym is)
         (aborted opens ledger sessions s2.claim.tx (standing d a s1.seen) (standing d' a2 s3.seen) h alone begins roll result (unended h s2.claim agrees there) ended))
 
     pub abort_alone_for : IsAlone opens ledger a2 now.log
@@ -193,3 +194,20 @@ module _ (opens : List Record → Type 0) (ledger sessions log_faults made : Led
     pub refused_for : MeetsNoEnd a a1 → (0 < s2.claim.tx → IfErr result (FailsToBring opens log_faults made d.faults d'.faults a1 a2 s3.seen.log)) → IfErr result (FailsToBring opens log_faults made d.faults d'.faults a a2 now.log)
     refused_for calm why = subst (λ (p : PassSeen Entry). IfErr result (FailsToBring opens log_faults made d.faults d'.faults a a2 p.log)) (sym is)
         (refused_looked opens ledger sessions log_faults made d d' a a1 a2 s1.seen s2.seen s3.seen (session_alone s1.claim) (session_alone s2.claim) shown s2.claim.tx result calm (why there))
+
+-- ---- a transaction that stays has no End
+
+stays_open : (h : List Entry) (s : SessionClaim) → SessionAgrees h s → 0 < s.tx → is_over (phase h s.tx) ≡ true → ⊥
+stays_open h s agrees some ended =
+    let begun = number_of h (last_begun h s.session) s.tx agrees.tx some in
+    let zero : s.tx ≡ 0 = agrees.tx ∙ ap (unless_over h) begun ∙ ap (λ (b : Bool). cond b 0 s.tx) ended in
+    omega (arith, zero, some)
+
+pub ends_by : (opens : List Record → Type 0) (tx : ℕ) (s : SessionClaim) (h h' : List Entry) (result : Result ℕ Fault) → 0 < tx → OnErr result (s.tx ≡ tx) → SessionAgrees h' s → UndoesBy (Unit {0}) opens tx result h h' → EndsBy opens tx result h h'
+ends_by opens tx s h h' (Ok pos) some stays right u = u
+ends_by opens tx s h h' (Err fault) some stays right u = record {
+  entries = u.entries;
+  added = u.added;
+  each = none_ended tx u.entries h u.each (λ ended.
+      stays_open h' s right (subst (λ (n : ℕ). 0 < n) (sym stays) some) (ap (λ (n : ℕ). is_over (phase h' n)) stays ∙ subst (λ (l : List Entry). is_over (phase l tx) ≡ true) (sym u.added) ended));
+}

@@ -3,3 +3,5 @@ pub mod Began
 pub mod Committed
 pub mod Aborted
 pub mod Sessions
+pub mod Naming
+pub mod Looked

@@ -40,7 +40,7 @@ module _ {N : Type 0} (items : List (Named N)) (name : List ℕ) (place : ℕ) (
       let first = position-Some (λ (n : Named N). same_text name n.name) items place named at in
       slice_get-get_or items place named first.0 ∙ ap (λ (n : Named N). Some n) (sym is)
 
-  here : active_of (actives items) name ≡ Some (active_by named)
+  pub here : active_of (actives items) name ≡ Some (active_by named)
   here = found active_by name items place named at at_place
 
   pub not_unknown : active_of (actives items) name ≡ None → ⊥

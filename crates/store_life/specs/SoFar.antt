@@ -9,7 +9,7 @@ use Rattle.page_ops.specs.Names.{LedgerName}
 use Rattle.page_ops.specs.Seeing.{Account}
 use Rattle.command_laws.specs.Alone.{IsAlone}
 use Rattle.command_laws.specs.Commands.{Begins}
-use Rattle.command_laws.specs.Names.{Active, without}
+use Rattle.command_laws.specs.Names.{Active, AreNamed, without}
 use Rattle.store_life.specs.declared.life.Named.{Named}
 use Rattle.store_life.specs.declared.life.StoreLife.{StoreLife}
 
@@ -30,6 +30,10 @@ pub record Runs {N : Type 0} (opens : List Record → Type 0) (ledger : LedgerNa
   pub alone : IsAlone opens ledger account life.pass.log
   pub begun : All HasTransaction life.named.items
   pub few : length life.named.items ≤ MOST_ACTIVE
+
+-- Each transaction of the history that is live has a name.
+abbrev pub HasNames : {N : Type 0} → StoreLife N → Type 0
+HasNames life = AreNamed life.pass.log (actives life.named.items)
 
 -- the transaction has begun by this name, or all is as before
 abbrev pub BeginsAs : {N : Type 0} → List ℕ → Result ℕ Fault → StoreLife N → StoreLife N → Type 0

@@ -10,7 +10,9 @@ use Rattle.store_model.specs.declared.request.Request.{Request}
 use Rattle.wal_record.specs.Checkpoints.{commits}
 use Rattle.wal_record.specs.History.{life_log}
 use Rattle.wal_record.specs.Locks.{Held}
+use Rattle.wal_record.specs.declared.record.Checkpoint.{Checkpoint}
 use Rattle.wal_record.specs.declared.record.Record.{Record}
+use Rattle.wal_record.specs.declared.record.Record.TheVariants as kinds
 use Rattle.wal_record.specs.declared.entry.Entry.{Entry}
 use Rattle.wal_record.specs.declared.entry.Entry.TheVariants.{Rec}
 use Rattle.page_ops.specs.Causes.{IsOpen, IsUntold}
@@ -97,16 +99,34 @@ pub record IsAborted (opens : List Record → Type 0) (tx : ℕ) (pos : ℕ) (h 
   pub among : Amid IsUpkeep own entries
   pub place : pos ≡ length h'
 
--- undos of the transaction, its End, and upkeep
-abbrev pub IsOfAbort : ℕ → Entry → Type 0
-IsOfAbort tx e = TakesBack (Unit {0}) tx e ⊎ IsUpkeep e
+-- Undos of the transaction and upkeep, and its End where that may be.
+abbrev pub IsOfAbort : Type 0 → ℕ → Entry → Type 0
+IsOfAbort may_end tx e = TakesBack may_end tx e ⊎ IsUpkeep e
 
 -- a part of that was added
-pub record IsUndone (tx : ℕ) (h h' : List Entry) : Type 0 where
+pub record IsUndone (may_end : Type 0) (tx : ℕ) (h h' : List Entry) : Type 0 where
   pub entries : List Entry
   pub added : h' ≡ h ++ entries
-  pub each : All (IsOfAbort tx) entries
+  pub each : All (IsOfAbort may_end tx) entries
 
+-- what is undone at a refusal may have an End only so
+abbrev pub UndoesBy : Type 0 → (List Record → Type 0) → ℕ → Result ℕ Fault → List Entry → List Entry → Type 0
+UndoesBy may_end opens tx (Ok pos) h h' = IsAborted opens tx pos h h'
+UndoesBy may_end opens tx (Err fault) h h' = IsUndone may_end tx h h'
+
+-- at a refusal the transaction has no End
 abbrev pub EndsBy : (List Record → Type 0) → ℕ → Result ℕ Fault → List Entry → List Entry → Type 0
-EndsBy opens tx (Ok pos) h h' = IsAborted opens tx pos h h'
-EndsBy opens tx (Err fault) h h' = IsUndone tx h h'
+EndsBy = UndoesBy ⊥
+
+-- ---- checkpoints
+
+-- a Checkpoint with this LSN was added
+abbrev pub HasCheckpoint : ℕ → List Entry → List Entry → Type 0
+HasCheckpoint lsn h h' = (c : Checkpoint) × (h' ≡ h ++ Rec lsn (kinds.Checkpoint c) ∷ [])
+
+-- That alone. Nothing for want of memory; where the log fails, a Checkpoint, and where the life has ended, maybe one.
+abbrev pub IsCheckpointed : Result ℕ Fault → List Entry → List Entry → Type 0
+IsCheckpointed (Ok lsn) h h' = HasCheckpoint lsn h h'
+IsCheckpointed (Err faults.Memory) h h' = h' ≡ h
+IsCheckpointed (Err faults.LogFault) h h' = (lsn : ℕ) × HasCheckpoint lsn h h'
+IsCheckpointed (Err fault) h h' = (h' ≡ h) ⊎ ((lsn : ℕ) × HasCheckpoint lsn h h')

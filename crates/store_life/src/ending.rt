@@ -2,7 +2,7 @@
 ghost use Rattle.std.specs.Prelude.{◌≡◌, ◌<◌, ◌≤◌, IfErr, IfOk, OnErr, OnOk, false};
 ghost use Rattle.command_laws.specs.Alone.{IsAlone};
 ghost use Rattle.page_ops.specs.Causes.{Ends, FailsToBring, FailsToFlush, MeetsNoEnd};
-ghost use Rattle.store_life.specs.Turns.{EndsBy, IsCommitted};
+ghost use Rattle.store_life.specs.Turns.{EndsBy, IsCommitted, UndoesBy};
 
 use engine::{Session, abort, commit, see_session};
 use front::Pass;
@@ -50,6 +50,37 @@ pub(crate) fn abort_session<N: Life, J: Journaling<N>, P: Pages<N, J>, R: Wait>(
     requires alone { IsAlone N.opens N.entries (J.account journal.old) pass.old.log }
     ensures alone { IsAlone N.opens N.entries (J.account journal.new) pass.new.log }
     ensures aborts { EndsBy N.opens session.old.claim.tx result pass.old.log pass.new.log }
+    ensures durable { pass.old.durable ≤ pass.new.durable }
+    ensures stays { OnErr result (session.new.claim.tx ≡ session.old.claim.tx) }
+    ensures holder { session.new.claim.session ≡ session.old.claim.session }
+    ensures none { (P.desk pages.new).out ≡ 0 }
+    ensures reserved { (P.desk pages.new).reserves ≡ false }
+    ensures open { OnOk result (MeetsNoEnd (J.account journal.old) (J.account journal.new)) }
+    ensures refused { IfErr result (FailsToBring N.opens N.log_faults N.made (P.desk pages.old).faults (P.desk pages.new).faults (J.account journal.old) (J.account journal.new) pass.new.log) }
+{
+    let ended = undo_session(rt, alloc, pages, journal, session, pass);
+    // The right agrees with the history: so a transaction that the session still has was not ended.
+    see_session(rt, journal, session);
+    *pass = session.seen(&journal.ground().board);
+    ended
+}
+
+/// The same, where nothing is said yet of the End of a transaction that stays.
+fn undo_session<N: Life, J: Journaling<N>, P: Pages<N, J>, R: Wait>(
+    rt: &R,
+    alloc: Global,
+    pages: &mut P,
+    journal: &mut J,
+    session: &mut Session<N>,
+    pass: &mut Pass<Entry, N>,
+) -> Result<Pos, Fault>
+    requires none { (P.desk pages.old).out ≡ 0 }
+    requires reserved { (P.desk pages.old).reserves ≡ false }
+    requires active { 0 < session.old.claim.tx }
+    requires alone { IsAlone N.opens N.entries (J.account journal.old) pass.old.log }
+    ensures alone { IsAlone N.opens N.entries (J.account journal.new) pass.new.log }
+    ensures seen { session.new.seen ≡ pass.new }
+    ensures aborts { UndoesBy (Unit {0}) N.opens session.old.claim.tx result pass.old.log pass.new.log }
     ensures durable { pass.old.durable ≤ pass.new.durable }
     ensures stays { OnErr result (session.new.claim.tx ≡ session.old.claim.tx) }
     ensures holder { session.new.claim.session ≡ session.old.claim.session }

@@ -1,19 +1,23 @@
 //! A life of named transactions over the store of one thread.
 //!
 //! [`StoreLife`] has the active transactions of a life by name, each with its session, beside a journal and pages that are
-//! lent to each call. There is one call for each command: [`StoreLife::begin`], [`StoreLife::ask`], [`StoreLife::commit`] and
-//! [`StoreLife::abort`]. Whoever calls them has all parts of the ledger of entries, so nobody else enters anything (`Runs` of
-//! `specs/SoFar`), and the history is known whole: each call says which entries it added (`specs/Turns`).
+//! lent to each call. There is one call for each command: [`StoreLife::begin`], [`StoreLife::ask`], [`StoreLife::commit`],
+//! [`StoreLife::abort`], [`StoreLife::checkpoint`] and [`StoreLife::survey`]. Whoever calls them has all parts of the ledger of
+//! entries, so nobody else enters anything (`Runs` of `specs/SoFar`), and the history is known whole: each call says which
+//! entries it added (`specs/Turns`).
 //!
 //! The model is the history so far, and the active names with their sessions and transactions in the order of their beginning.
 //! What is promised:
 //!
 //! 1. A call adds its command's own entries in their order, and beside them what may stand there, and nothing else. Behind a
-//!    refusal that isn't an answer there are none of its own but an abort's undos and a commit that met the end of the life.
+//!    refusal that isn't an answer there are none of its own but an abort's undos, and a Commit or a Checkpoint that met the
+//!    end of the life. A refused abort has entered no End.
 //! 2. The history is legal and the log of the life sound, for each log with which the life may have begun; so its committed
 //!    transactions are serial, and a stop leaves the first of them, at each moment ([`StoreLife::look`]).
-//! 3. At most 64 names are active. A begin is refused as `TooManyActive` where 64 are, and else only where the history has 64
-//!    live transactions. A command of a name that isn't active is refused as `NotActive`, and all is as before.
+//! 3. At most 64 names are active: where 64 are, a begin is refused. Where each live transaction of the history has a name
+//!    (`HasNames` of `specs/SoFar`), it is so behind each call, and in a life that begins here it is so at first. Then a begin
+//!    below 64 names isn't refused as `TooManyActive`, if a log is known with which the life may have begun; else it is only
+//!    where 64 transactions are live. A command of a name that isn't active is refused as `NotActive`, and all is as before.
 //! 4. Each other refusal has its cause, said of what was known before the call. No page is held behind a call, and no frame
 //!    reserved.
 #![tactic(auto)]

@@ -1,32 +1,34 @@
 //! The active transactions of a life, by name.
-ghost use Rattle.std.specs.Prelude.{◌≡◌, ◌<◌, ◌≤◌, [], None, Some, List, ◌++◌, Err, IfErr, IfOk, OnErr, OnOk, false, length, position};
+ghost use Rattle.std.specs.Prelude.{◌≡◌, ◌≢◌, ◌<◌, ◌≤◌, [], None, Some, List, ◌++◌, Err, IfErr, IfOk, OnErr, OnOk, false, length, position};
 ghost use Rattle.command_laws.specs.Names.{Active, active_of, is_active, without};
 ghost use Rattle.engine.specs.Answers.{FailsToAsk};
 ghost use Rattle.engine.specs.Applies.{GivesNone};
 ghost use Rattle.engine.specs.Requests.{IsRefusal, lock_of};
 ghost use Rattle.engine.specs.Writes.{LacksRoom};
 ghost use Rattle.log_laws.specs.Right.{IsRight};
-ghost use Rattle.page_ops.specs.Causes.{Ends, FailsToBring, FailsToEnter, FailsToFlush, MeetsNoEnd, OrTooMany};
-ghost use Rattle.page_ops.specs.Outcomes.{IsConflict, IsCrowd};
+ghost use Rattle.maintenance.specs.Checkpoints.{FailsToCheckpoint};
+ghost use Rattle.page_ops.specs.Causes.{Ends, FailsToBring, FailsToEnter, FailsToFlush, MeetsNoEnd, NoOther, OrTooMany};
+ghost use Rattle.page_ops.specs.Outcomes.{IsConflict, IsCrowd, IsSurvey};
 ghost use Rattle.page_ops.specs.Seeing.{Looks};
 ghost use Rattle.script.specs.Word.{same_text};
 ghost use Rattle.store_model.specs.declared.fault.Fault.TheVariants as faults;
 ghost use Rattle.wal_record.specs.declared.entry.Entry.{Entry};
 ghost use Rattle.wal_record.specs.declared.record.Record.{Record};
-ghost use Rattle.store_life.specs.SoFar.{BeginsAs, Runs, actives, left_by};
-ghost use Rattle.store_life.specs.Turns.{Asks, EndsBy, IsCommitted, IsTold};
+ghost use Rattle.store_life.specs.SoFar.{BeginsAs, HasNames, Runs, actives, left_by};
+ghost use Rattle.store_life.specs.Turns.{Asks, EndsBy, IsCheckpointed, IsCommitted, IsTold};
 
 use crate::asking::ask_session;
 use crate::beginning::begin_session;
 use crate::ending::{abort_session, commit_session};
 use engine::{Answered, Session};
 use front::Pass;
+use maintenance::checkpoint;
 use operators::Operators;
-use page_ops::{Committed, Entering, Journaling, Life, Pages, Rights};
+use page_ops::{Committed, Entering, Journaling, Life, Pages, Rights, Survey};
 use script::Name;
 use std::alloc::Global;
 use std::sync::Wait;
-use store_model::{Fault, MOST_ACTIVE, Pos, Request, TxId};
+use store_model::{Fault, Lsn, MOST_ACTIVE, Pos, Request, TxId};
 use wal_record::Entry;
 
 /// An active transaction: its name, and its session.
@@ -55,6 +57,7 @@ impl<N: Life> StoreLife<N> {
         ensures runs { Runs N.opens N.entries (J.account journal.new) result }
         ensures seen { Looks N.opens N.entries N.session_entries (J.account journal.old) pass (J.account journal.new) result.pass }
         ensures none { result.named.items ≡ [] }
+        ensures fresh { (J.account journal.old).entries.amount ≡ 0 → HasNames result }
     {
         let mut pass = pass;
         let mut rights = Rights::none();
@@ -91,7 +94,9 @@ impl<N: Life> StoreLife<N> {
     }
 
     /// Begins a transaction of a name that isn't active, in a new session: its number is the least above all that the log and
-    /// the history name. `TooManyActive` where 64 names are active, or 64 transactions live. After a refusal nothing was entered.
+    /// the history name. `TooManyActive` where 64 names are active. Below that it comes only where a transaction that is live
+    /// has no name, or where no log is known with which the life may have begun; and then 64 are live. After a refusal nothing
+    /// was entered.
     pub fn begin<J: Journaling<N>, R: Wait>(
         &mut self,
         rt: &R,
@@ -103,6 +108,8 @@ impl<N: Life> StoreLife<N> {
         requires free { is_active (actives self.old.named.items) name ≡ false }
         ensures runs { Runs N.opens N.entries (J.account journal.new) self.new }
         ensures begins { BeginsAs name result self.old self.new }
+        ensures named { HasNames self.old → HasNames self.new }
+        ensures room { HasNames self.old → length self.old.named.items < MOST_ACTIVE → (opening : List Record) → N.opens opening → result ≢ Err faults.TooManyActive }
         ensures durable { self.old.pass.durable ≤ self.new.pass.durable }
         ensures crowd { length self.old.named.items < MOST_ACTIVE → IfErr result (IsCrowd self.new.pass.log) }
         ensures few { OnOk result (length self.old.named.items < MOST_ACTIVE) }
@@ -146,6 +153,7 @@ impl<N: Life> StoreLife<N> {
         ensures asks { (a : Active) → active_of (actives self.old.named.items) name.now ≡ Some a → Asks N.opens a.session a.tx request result self.old.pass.log self.new.pass.log }
         ensures told { (a : Active) → active_of (actives self.old.named.items) name.now ≡ Some a → IfOk result (IsTold N.opens a.session a.tx request self.new.pass.log) }
         ensures names { actives self.new.named.items ≡ actives self.old.named.items }
+        ensures named { HasNames self.old → HasNames self.new }
         ensures durable { self.old.pass.durable ≤ self.new.pass.durable }
         ensures conflict { IfErr result (IsConflict N.opens self.new.pass.log (lock_of request)) }
         ensures full { IfErr result (LacksRoom N.opens self.new.pass.log) }
@@ -187,6 +195,7 @@ impl<N: Life> StoreLife<N> {
         ensures unknown { active_of (actives self.old.named.items) name.now ≡ None → (result ≡ Err faults.NotActive) × (self.new ≡ self.old) × (J.account journal.new ≡ J.account journal.old) }
         ensures commits { (a : Active) → active_of (actives self.old.named.items) name.now ≡ Some a → IsCommitted N.opens a.session a.tx (J.account journal.old) result self.old.pass.log self.new.pass }
         ensures names { actives self.new.named.items ≡ left_by result (actives self.old.named.items) name.now }
+        ensures named { HasNames self.old → HasNames self.new }
         ensures durable { self.old.pass.durable ≤ self.new.pass.durable }
         ensures refused { (a : Active) → active_of (actives self.old.named.items) name.now ≡ Some a → IfErr result FailsToFlush }
         ensures ends { (a : Active) → active_of (actives self.old.named.items) name.now ≡ Some a → Ends N.opens N.log_faults N.made (J.account journal.old) (J.account journal.new) self.new.pass.log result }
@@ -204,8 +213,8 @@ impl<N: Life> StoreLife<N> {
     }
 
     /// Undoes the active transaction of this name and ends it: its writes, the last one first, and then it is active no more.
-    /// `NotActive` where there is none, and then all is as before. After another refusal what was undone stays so, the name
-    /// stays active, and it may be called again.
+    /// `NotActive` where there is none, and then all is as before. After another refusal what was undone stays so, the
+    /// transaction has no End yet, the name stays active, and it may be called again.
     pub fn abort<J: Journaling<N>, P: Pages<N, J>, R: Wait>(
         &mut self,
         rt: &R,
@@ -221,6 +230,7 @@ impl<N: Life> StoreLife<N> {
         ensures unknown { active_of (actives self.old.named.items) name.now ≡ None → (result ≡ Err faults.NotActive) × (self.new ≡ self.old) × (J.account journal.new ≡ J.account journal.old) }
         ensures aborts { (a : Active) → active_of (actives self.old.named.items) name.now ≡ Some a → EndsBy N.opens a.tx result self.old.pass.log self.new.pass.log }
         ensures names { actives self.new.named.items ≡ left_by result (actives self.old.named.items) name.now }
+        ensures named { HasNames self.old → HasNames self.new }
         ensures durable { self.old.pass.durable ≤ self.new.pass.durable }
         ensures none { (P.desk pages.new).out ≡ 0 }
         ensures reserved { (P.desk pages.new).reserves ≡ false }
@@ -245,6 +255,45 @@ impl<N: Life> StoreLife<N> {
             self.named.remove(place);
         }
         ended
+    }
+
+    /// Takes a Checkpoint: enters it, and makes the log durable up to it. Gives its LSN.
+    pub fn checkpoint<J: Journaling<N>, R: Wait>(
+        &mut self,
+        rt: &R,
+        alloc: Global,
+        journal: &mut J,
+    ) -> Result<Lsn, Fault>
+        requires { Runs N.opens N.entries (J.account journal.old) self.old }
+        ensures runs { Runs N.opens N.entries (J.account journal.new) self.new }
+        ensures entered { IsCheckpointed result self.old.pass.log self.new.pass.log }
+        ensures names { self.new.named ≡ self.old.named }
+        ensures named { HasNames self.old → HasNames self.new }
+        ensures durable { self.old.pass.durable ≤ self.new.pass.durable }
+        ensures flushed { IfOk result (λ lsn. (opening : List Record) → N.opens opening → lsn ≤ self.new.pass.durable) }
+        ensures refused { IfErr result FailsToCheckpoint }
+        ensures ends { Ends N.opens N.log_faults N.made (J.account journal.old) (J.account journal.new) self.new.pass.log result }
+    {
+        checkpoint(rt, alloc, journal, &mut self.pass)
+    }
+
+    /// What the journal knows of the log and of the life. Nothing is entered.
+    pub fn survey<J: Journaling<N>, R: Wait>(
+        &mut self,
+        rt: &R,
+        alloc: Global,
+        journal: &mut J,
+    ) -> Result<Survey, Fault>
+        requires { Runs N.opens N.entries (J.account journal.old) self.old }
+        ensures runs { Runs N.opens N.entries (J.account journal.new) self.new }
+        ensures same { self.new.pass.log ≡ self.old.pass.log }
+        ensures names { self.new.named ≡ self.old.named }
+        ensures durable { self.old.pass.durable ≤ self.new.pass.durable }
+        ensures survey { IfOk result (IsSurvey N.opens self.new.pass) }
+        ensures refused { IfErr result (FailsToEnter NoOther) }
+        ensures ends { Ends N.opens N.log_faults N.made (J.account journal.old) (J.account journal.new) self.new.pass.log result }
+    {
+        journal.survey(rt, alloc, &mut self.pass)
     }
 }
 

@@ -1,7 +1,9 @@
-use Rattle.std.proofs.Common.{subst, sym, ◌∙◌}
+use Rattle.std.proofs.Common.{List, subst, sym, ◌∙◌}
 use Rattle.std.specs.Prelude.{IfOk}
-use Rattle.command_laws.specs.Names.{Active}
+use Rattle.command_laws.specs.Names.{Active, AreNamed}
 use Rattle.store_life.specs.Turns.{Asks, IsTold}
+use Rattle.store_life.specs.SoFar.{actives}
+use Rattle.store_life.proofs.Naming.{asked_named}
 use Rattle.store_life.proofs.Sessions.{at_place, is_it, no_one, not_unknown, same_actives}
 use Rattle.store_life.proofs.life.StoreLife.ask.Goals as goal
 
@@ -19,3 +21,8 @@ returns-clause-told g c = λ a e. subst (λ (x : Active). IfOk c.ask_session.res
 
 pub returns-clause-names : goal.returns-clause-names
 returns-clause-names g c = same_actives c.args.self.now.named.items c.in-Some.place c.index_mut-named.result.now (at_place c.args.self.now.named.items c.args.name.now c.in-Some.place c.index_mut-named.result.now (sym c.place.ensures ∙ c.in-Some.is) c.index_mut-named.ensures.value) c.ask_session.new.session c.ask_session.ensures.holder.0 c.ask_session.ensures.holder.1
+
+pub returns-clause-named : goal.returns-clause-named
+returns-clause-named g c = λ named.
+    subst (λ (active : List Active). AreNamed c.ask_session.new.pass.log active) (sym (same_actives c.args.self.now.named.items c.in-Some.place c.index_mut-named.result.now (at_place c.args.self.now.named.items c.args.name.now c.in-Some.place c.index_mut-named.result.now (sym c.place.ensures ∙ c.in-Some.is) c.index_mut-named.ensures.value) c.ask_session.new.session c.ask_session.ensures.holder.0 c.ask_session.ensures.holder.1))
+    (asked_named g.N.Life.opens c.index_mut-named.result.now.session.claim.session c.index_mut-named.result.now.session.claim.tx c.args.request c.ask_session.result c.args.self.now.pass.log c.ask_session.new.pass.log (actives c.args.self.now.named.items) c.ask_session.ensures.asks named)

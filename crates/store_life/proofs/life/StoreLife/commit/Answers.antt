@@ -1,7 +1,9 @@
-use Rattle.std.proofs.Common.{subst, sym, ◌∙◌}
-use Rattle.command_laws.specs.Names.{Active}
+use Rattle.std.proofs.Common.{List, subst, sym, ◌∙◌}
+use Rattle.command_laws.specs.Names.{Active, AreNamed}
 use Rattle.store_life.specs.Turns.{IsCommitted}
-use Rattle.store_life.proofs.Sessions.{is_it, left_over, left_there, no_one, not_unknown}
+use Rattle.store_life.specs.SoFar.{active_by, actives}
+use Rattle.store_life.proofs.Naming.{committed_named}
+use Rattle.store_life.proofs.Sessions.{here, is_it, left_over, left_there, no_one, not_unknown}
 use Rattle.store_life.proofs.life.StoreLife.commit.Goals as goal
 
 pub returns-in-None-clause-refused : goal.returns-in-None-clause-refused
@@ -27,3 +29,11 @@ returns-else-is_ok-clause-commits g c = λ a e. subst (λ (x : Active). IsCommit
 
 pub returns-else-is_ok-clause-names : goal.returns-else-is_ok-clause-names
 returns-else-is_ok-clause-names g c = left_there c.args.self.now.named.items c.args.name.now c.in-Some.place c.index_mut-named.result.now (sym c.place.ensures ∙ c.in-Some.is) c.index_mut-named.ensures.value c.commit_session-committed.result c.commit_session-committed.new.session (sym c.is_ok.ensures.value ∙ c.if-is_ok.false) c.commit_session-committed.ensures.holder c.commit_session-committed.ensures.stays
+
+pub returns-then-is_ok-clause-named : goal.returns-then-is_ok-clause-named
+returns-then-is_ok-clause-named g c = λ named. subst (λ (active : List Active). AreNamed c.commit_session-committed.new.pass.log active) (sym (left_over c.args.self.now.named.items c.args.name.now c.in-Some.place c.index_mut-named.result.now (sym c.place.ensures ∙ c.in-Some.is) c.index_mut-named.ensures.value c.commit_session-committed.result (record c.index_mut-named.result.now { session = c.commit_session-committed.new.session }) c.remove.new.self.items (sym c.is_ok.ensures.value ∙ c.if-is_ok.true) c.remove.ensures.items))
+    (committed_named g.N.Life.opens (g.J.Entering.account c.args.journal.now) c.args.self.now.pass.log (actives c.args.self.now.named.items) c.args.name.now (active_by c.index_mut-named.result.now) (here c.args.self.now.named.items c.args.name.now c.in-Some.place c.index_mut-named.result.now (sym c.place.ensures ∙ c.in-Some.is) c.index_mut-named.ensures.value) named c.commit_session-committed.result c.commit_session-committed.new.pass c.commit_session-committed.ensures.commits)
+
+pub returns-else-is_ok-clause-named : goal.returns-else-is_ok-clause-named
+returns-else-is_ok-clause-named g c = λ named. subst (λ (active : List Active). AreNamed c.commit_session-committed.new.pass.log active) (sym (left_there c.args.self.now.named.items c.args.name.now c.in-Some.place c.index_mut-named.result.now (sym c.place.ensures ∙ c.in-Some.is) c.index_mut-named.ensures.value c.commit_session-committed.result c.commit_session-committed.new.session (sym c.is_ok.ensures.value ∙ c.if-is_ok.false) c.commit_session-committed.ensures.holder c.commit_session-committed.ensures.stays))
+    (committed_named g.N.Life.opens (g.J.Entering.account c.args.journal.now) c.args.self.now.pass.log (actives c.args.self.now.named.items) c.args.name.now (active_by c.index_mut-named.result.now) (here c.args.self.now.named.items c.args.name.now c.in-Some.place c.index_mut-named.result.now (sym c.place.ensures ∙ c.in-Some.is) c.index_mut-named.ensures.value) named c.commit_session-committed.result c.commit_session-committed.new.pass c.commit_session-committed.ensures.commits)

@@ -6,7 +6,7 @@ use store_model::Lsn;
 const KINDS: &str =
     "Format Write Apply Undo Commit End Split Adopt Grow Purge Written Checkpoint BackupDone RunDone Lost Restored";
 
-/// The LSN of the n-th record other than the Checkpoint, whose LSN is given; 0 for none.
+/// The LSN of the n-th record other than the Checkpoint, whose LSN is given, 0 where there is none.
 pub fn lsn_of(nth: u64, checkpoint: Lsn) -> Lsn {
     if checkpoint == 0 || nth < checkpoint {
         nth
@@ -52,7 +52,12 @@ fn add_word(alloc: Global, word: &str, checkpoint: Lsn, out: &mut Vec<u8>) -> Op
 }
 
 /// Adds the bytes of a record.
-pub fn add_record(alloc: Global, text: &str, checkpoint: Lsn, out: &mut Vec<u8>) -> Option<()> {
+pub(crate) fn add_record(
+    alloc: Global,
+    text: &str,
+    checkpoint: Lsn,
+    out: &mut Vec<u8>,
+) -> Option<()> {
     for word in text.split_whitespace() {
         add_word(alloc, word, checkpoint, out)?;
     }

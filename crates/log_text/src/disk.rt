@@ -1,8 +1,5 @@
 //! The disk of a log.
-ghost use Rattle.std.specs.Prelude.{◌≡◌, [], None, IfSome};
-
 use crate::spelled::add_record;
-use log_blocks::{BlockLog, open_log};
 use media_mem::MemDisk;
 use std::alloc::Global;
 use store_model::Lsn;
@@ -74,10 +71,8 @@ fn add_block(
     Some(next)
 }
 
-/// An open log with the blocks of this text, a line each, whose records a stroke parts. The Checkpoint has this LSN.
-pub fn log_of(alloc: Global, text: &str, given: Given, checkpoint: Lsn) -> Option<BlockLog<MemDisk>>
-    ensures { IfSome result (λ log. (log.pending ≡ []) × (log.ended ≡ None)) }
-{
+/// A disk with the blocks of this text. The Checkpoint has this LSN, 0 where there is none.
+pub fn disk_of(alloc: Global, text: &str, given: Given, checkpoint: Lsn) -> Option<MemDisk> {
     let checkpoint = if given == Given::NoCheckpoint {
         0
     } else {
@@ -89,6 +84,5 @@ pub fn log_of(alloc: Global, text: &str, given: Given, checkpoint: Lsn) -> Optio
         next = add_block(alloc, line, given, checkpoint, next, &mut bytes)?;
     }
     bytes.push(0).ok()?;
-    let disk = MemDisk::with_bytes(alloc, &bytes).ok()?;
-    open_log(alloc, disk).ok()
+    MemDisk::with_bytes(alloc, &bytes).ok()
 }
