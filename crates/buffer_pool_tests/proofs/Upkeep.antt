@@ -13,7 +13,7 @@ use Rattle.wal_record.specs.declared.record.Record.{Record}
 use Rattle.wal_record.specs.declared.record.Record.TheVariants as kinds
 use Rattle.wal_record.specs.declared.entry.Entry.{Entry}
 use Rattle.wal_record.specs.declared.entry.Entry.TheVariants.{Rec, Repaired}
-use Rattle.page_ops.proofs.Gaining.{ended_self, keeps_self}
+use Rattle.page_ops.proofs.Gaining.{calls_self, ended_self, keeps_self}
 use Rattle.page_ops.specs.Causes.{IsUntold}
 use Rattle.page_ops.specs.Claims.{Agree, Claims, PageAgrees, SessionAgrees, MaintAgrees}
 use Rattle.page_ops.specs.Groups.{AreFilled, Numbers, made_by, no_checkpoint, filled}
@@ -129,7 +129,7 @@ abbrev pub counted_one : Account → Account
 counted_one a = record a { entries = record { parts = a.entries.parts; amount = a.entries.amount + 1 } }
 
 keeps_one : (a : Account) → Keeps a (counted_one a)
-keeps_one a = record { entry_parts = refl; session_parts = refl; log_parts = refl; vault_parts = refl; log_faults = omega arith; vault_faults = omega arith; made = refl; ended = ended_self a.ended }
+keeps_one a = record { entry_parts = refl; session_parts = refl; log_parts = refl; vault_parts = refl; log_faults = omega arith; vault_faults = omega arith; made = refl; ended = ended_self a.ended; calls = calls_self a.calls a.log_faults.amount }
 
 -- an entry between two looks
 pub enters_one : (opens : List Record → Type 0) (entries sessions : LedgerName) (a a1 b c : Account) (p q r : PassSeen Entry) (x x1 y : Claims) (e : Entry) → IsUpkeep e → a1 ≡ a → x1 ≡ x → b ≡ counted_one a1

@@ -10,7 +10,8 @@ use Rattle.life_history.specs.Kept.{counted_more}
 use Rattle.page_ops.specs.Causes.{Ends, IsOpen, MeetsNoEnd, EndsBy, FailsToEnter, FailsToFlush}
 use Rattle.page_ops.specs.Claims.{Claims}
 use Rattle.page_ops.specs.Names.{LedgerName}
-use Rattle.page_ops.specs.Seeing.{Account, Counted, known, Keeps, Enters, of_sessions}
+use Rattle.page_ops.proofs.Gaining.{calls_self}
+use Rattle.page_ops.specs.Seeing.{Account, Calls, CallsGoOn, Counted, known, Keeps, Enters, of_sessions}
 use Rattle.journal.specs.Ends.{EndsCall, IsToldEnd, IsStopped, IsFailed, IsUnread}
 
 kept_end : (was : Option ℕ) (at : ℕ) → (was ≡ None) ⊎ (was ≡ Some at) → IfSome was (λ x. Some at ≡ Some x)
@@ -28,6 +29,7 @@ keeps_same a = record {
   vault_faults = omega arith;
   made = refl;
   ended = same a.ended;
+  calls = calls_self a.calls a.log_faults.amount;
 }
   where
     same : (o : Option ℕ) → IfSome o (λ at. o ≡ Some at)
@@ -44,10 +46,11 @@ keeps_told a at before = record {
   vault_faults = omega arith;
   made = refl;
   ended = kept_end a.ended at before;
+  calls = calls_self a.calls a.log_faults.amount;
 }
 
-keeps_failed : (a : Account) (n at : ℕ) → a.ended ≡ None → Keeps a (record (counted_more a n) { log_faults = record { parts = a.log_faults.parts; amount = a.log_faults.amount + 1 }; ended = Some at })
-keeps_failed a n at runs = record {
+keeps_failed : (a : Account) (n at : ℕ) → a.calls ≡ None → a.ended ≡ None → Keeps a (record (counted_more a n) { log_faults = record { parts = a.log_faults.parts; amount = a.log_faults.amount + 1 }; ended = Some at })
+keeps_failed a n at untold runs = record {
   entry_parts = refl;
   session_parts = refl;
   log_parts = refl;
@@ -56,6 +59,7 @@ keeps_failed a n at runs = record {
   vault_faults = omega arith;
   made = refl;
   ended = kept_end a.ended at (inl runs);
+  calls = subst (λ (o : Option Calls). CallsGoOn o o a.log_faults.amount (a.log_faults.amount + 1)) (sym untold) refl;
 }
 
 module _ (opens : List Record → Type 0) (entries sessions : LedgerName) (a0 q z : Account) (s0 s1 : PassSeen Entry) (x0 x1 : Claims) (es : List Entry) where
@@ -111,7 +115,7 @@ module _ (opens : List Record → Type 0) (entries sessions log_faults : LedgerN
   failed n es e more runs is =
       let now : a2 ≡ record (counted_more a0 n) { log_faults = record { parts = a0.log_faults.parts; amount = a0.log_faults.amount + 1 }; ended = Some is.at } =
       is.is ∙ ap (λ (a : Account). record a { log_faults = record { parts = a.log_faults.parts; amount = a.log_faults.amount + 1 }; ended = Some is.at }) more in
-      known_more opens entries sessions a0 a1 a2 s0 s1 x0 x1 es e (ap (λ (a : Account). a.entries) is.is) (ap (λ (a : Account). a.session_entries) is.is) (subst (Keeps a0) (sym now) (keeps_failed a0 n is.at runs))
+      known_more opens entries sessions a0 a1 a2 s0 s1 x0 x1 es e (ap (λ (a : Account). a.entries) is.is) (ap (λ (a : Account). a.session_entries) is.is) (subst (Keeps a0) (sym now) (keeps_failed a0 n is.at (ap (λ (a : Account). a.calls) (sym more) ∙ is.untold) runs))
 
 -- ---- causes
 

@@ -10,7 +10,7 @@ use Rattle.life_history.specs.Kept.{counted_more}
 use Rattle.life_history.proofs.Entering.{entered_then}
 use Rattle.page_ops.specs.Asking.{HasRoomFor}
 use Rattle.page_ops.specs.Claims.{Claims, SessionAgrees, session_alone}
-use Rattle.page_ops.proofs.Gaining.{ended_self}
+use Rattle.page_ops.proofs.Gaining.{calls_self, ended_self}
 use Rattle.page_ops.specs.Groups.{made_by, group_entries}
 use Rattle.page_ops.specs.Names.{LedgerName}
 use Rattle.page_ops.specs.Outcomes.{EntersGroup, IsFilledIn, page_of, new_place}
@@ -72,7 +72,7 @@ entered_entry opens entries sessions a0 a1 a2 a3 s0 s1 s3 x0 x1 x3 h h3 e first 
 -- ---- a group
 
 pub keeps_group : (a : Account) (n own : ℕ) → Keeps a (counted_group a n own)
-keeps_group a n own = record { entry_parts = refl; session_parts = refl; log_parts = refl; vault_parts = refl; log_faults = omega arith; vault_faults = omega arith; made = refl; ended = ended_self a.ended }
+keeps_group a n own = record { entry_parts = refl; session_parts = refl; log_parts = refl; vault_parts = refl; log_faults = omega arith; vault_faults = omega arith; made = refl; ended = ended_self a.ended; calls = calls_self a.calls a.log_faults.amount }
 
 module _ (opens : List Record → Type 0) (entries sessions : LedgerName) (asked now : Group) (a0 a1 a2 a3 a4 : Account) (s0 s1 s3 : PassSeen Entry) (h1 h3 : List Entry) (x0 x1 x3 x4 : Claims) (pos : ℕ) where
   pub entered_group : Enters opens entries sessions (known a0 s0 x0) [] (known a1 s1 x1) → a1 ≡ a0 → a2 ≡ a1 → x1 ≡ x0 → s1.log ≡ h1 → EntersNow asked now x1 x3 a2 a3 h1 h3

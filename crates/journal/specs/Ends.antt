@@ -17,8 +17,9 @@ abbrev pub IsStopped : LedgerName → Account → Account → Fault → Type 0
 IsStopped log_faults old new faults.Memory = new ≡ old
 IsStopped log_faults old new fault = IsToldEnd log_faults old new fault
 
--- a fault of the log disk was counted, and it knows an end
+-- A fault of the log disk was counted, and it knows an end. A thread's counts tell nothing of the disk's calls.
 pub record IsFailed (old new : Account) : Type 0 where
+  pub untold : old.calls ≡ None
   pub at : ℕ
   pub is : new ≡ record old { log_faults = record { parts = old.log_faults.parts; amount = old.log_faults.amount + 1 }; ended = Some at }
 

@@ -13,7 +13,7 @@ use Rattle.wal_record.specs.declared.entry.Entry.TheVariants.{Rec, Began}
 use Rattle.wal_record.specs.declared.entry.Entry.TheVariants as entries
 use Rattle.wal_record.proofs.Pushes.{log_same, maintenance_push}
 use Rattle.front.specs.Seen.{PassSeen}
-use Rattle.page_ops.proofs.Gaining.{ended_self}
+use Rattle.page_ops.proofs.Gaining.{calls_self, ended_self}
 use Rattle.page_ops.specs.Names.{LedgerName}
 use Rattle.page_ops.specs.Claims.{Agree, SessionAgrees, session_alone}
 use Rattle.page_ops.specs.Seeing.{Account, known, Keeps, Enters, IsMoment, IsConsistent, HasTotals, is_of_session, of_sessions}
@@ -25,7 +25,7 @@ agree_alone : (opens : List Record → Type 0) (h : List Entry) (x : SessionClai
 agree_alone opens h x agrees = record { a = tt; b = tt; c = tt; s = agrees; m = tt }
 
 pub keeps_counted : (a : Account) (n : ℕ) → Keeps a (counted_more a n)
-keeps_counted a n = record { entry_parts = refl; session_parts = refl; log_parts = refl; vault_parts = refl; log_faults = omega arith; vault_faults = omega arith; made = refl; ended = ended_self a.ended }
+keeps_counted a n = record { entry_parts = refl; session_parts = refl; log_parts = refl; vault_parts = refl; log_faults = omega arith; vault_faults = omega arith; made = refl; ended = ended_self a.ended; calls = calls_self a.calls a.log_faults.amount }
 
 module _ (opens : List Record → Type 0) (entries sessions : LedgerName) (a : Account) (durable : ℕ) (seen : PassSeen Entry) (h : List Entry) (x y : SessionClaim) (e : Entry) where
   -- one entry of a session's own, after which the pass has seen this durable number

@@ -11,7 +11,7 @@ use Rattle.wal_record.specs.declared.record.Record.{Record}
 use Rattle.wal_record.specs.declared.entry.Entry.{Entry}
 use Rattle.wal_record.specs.declared.entry.Entry.TheVariants.{Repaired}
 use Rattle.wal_record.proofs.Pushes.{log_same, beginnings_push, begun_push, last_begun_push, phase_push, maintenance_push, session_entries_push}
-use Rattle.page_ops.proofs.Gaining.{ended_self}
+use Rattle.page_ops.proofs.Gaining.{calls_self, ended_self}
 use Rattle.page_ops.specs.Claims.{no_claims}
 use Rattle.page_ops.specs.Names.{LedgerName}
 use Rattle.page_ops.specs.Seeing.{Account, known, Keeps, Enters, IsConsistent, of_sessions}
@@ -62,7 +62,7 @@ module _ (opens : List Record → Type 0) (h h' : List Entry) (n : Numbers) (b :
 -- ---- what the caller knows
 
 keeps_repair : (a : Account) → Keeps a (counted_group a 1 0)
-keeps_repair a = record { entry_parts = refl; session_parts = refl; log_parts = refl; vault_parts = refl; log_faults = omega arith; vault_faults = omega arith; made = refl; ended = ended_self a.ended }
+keeps_repair a = record { entry_parts = refl; session_parts = refl; log_parts = refl; vault_parts = refl; log_faults = omega arith; vault_faults = omega arith; made = refl; ended = ended_self a.ended; calls = calls_self a.calls a.log_faults.amount }
 
 pub repair_entered : (opens : List Record → Type 0) (entries sessions : LedgerName) (a0 a1 a2 : Account) (s0 s1 s2 : PassSeen Entry) (h h' : List Entry) (page : ℕ)
     → Enters opens entries sessions (known a0 s0 no_claims) [] (known a1 s1 no_claims) → a1 ≡ a0 → s1.log ≡ h → h' ≡ h ++ Repaired page ∷ [] → s2.log ≡ h' → s1.durable ≤ s2.durable → a2 ≡ counted_group a1 1 0

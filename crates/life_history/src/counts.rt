@@ -22,7 +22,7 @@ pub struct Counts<N: Life> {
 }
 
 impl<N: Life> Model for Counts<N> {
-    ghost use Rattle.std.specs.Prelude.{◌≡◌, ◌<◌, ◌-◌, ◌^◌, min};
+    ghost use Rattle.std.specs.Prelude.{◌≡◌, ◌<◌, ◌-◌, ◌^◌, min, None};
     ghost use Rattle.page_ops.specs.Seeing.{Account};
     ghost use Rattle.life_history.specs.Kept.{KnowsWhy};
 
@@ -35,6 +35,7 @@ impl<N: Life> Model for Counts<N> {
       vault_faults = record { parts = c.vault_faults.parts; amount = c.vault_faults.amount };
       made = record { parts = c.made.parts; amount = c.made.amount };
       ended = c.ended;
+      calls = None;
     } };
 
     ghost invariant = { λ c. (0 < c.entries.parts) × (0 < c.session_entries.parts) × (0 < c.log_faults.parts) × (0 < c.made.parts) × (c.vault_faults.amount ≡ 0) × (c.faults ≡ min c.log_faults.amount (2 ^ 64 - 1)) × KnowsWhy N.log_faults c.ended (record { parts = c.log_faults.parts; amount = c.log_faults.amount }) };
@@ -62,6 +63,7 @@ impl<N: Life> Counts<N> {
     /// Counts a fault of the log disk, which has ended the life. It knows that then.
     pub fn fail(&mut self, faults: &mut Book<LogFaults<N>>, at: Lsn)
         ensures total { faults.new.total ≡ faults.old.total + 1 }
+        ensures untold { self.old.calls ≡ None }
         ensures counts { self.new ≡ record self.old { log_faults = record { parts = self.old.log_faults.parts; amount = self.old.log_faults.amount + 1 }; ended = Some at } }
     {
         faults.add(&mut self.log_faults, 1);

@@ -54,4 +54,5 @@ all_parts entries session_entries log_faults vault_faults made = record {
   vault_faults = all_of vault_faults;
   made = all_of made;
   ended = None;
+  calls = None;
 }

@@ -1,16 +1,19 @@
 -- Calls one after the other: what they enter together, and what they keep.
-use Rattle.std.proofs.Common.{◌≡◌, ℕ, ◌+◌, ◌≤◌, List, [], ◌∷◌, ◌++◌, length, Option, Some, None, Bool, true, refl, sym, ap, subst, ◌∙◌, arith, append-nil, append_assoc, length-append, inl, inr}
+use Rattle.std.proofs.Common.{◌≡◌, ℕ, ◌+◌, ◌≤◌, List, [], ◌∷◌, ◌++◌, length, ◌<◌, ◌⊎◌, Option, Some, None, Bool, true, false, refl, ltb-true, sym, ap, subst, ◌∙◌, arith, append-nil, append_assoc, length-append, inl, inr}
 use Rattle.std.specs.Prelude.{IfSome}
 use Rattle.std.specs.List.{list_all}
 use mathlib.Core.List.{IsPrefix}
 use Rattle.front.specs.Seen.{PassSeen}
+use Rattle.media.specs.Cause.{Rose}
+use Rattle.std.proofs.Math.Dec.{ltb}
+use Rattle.std.proofs.lemmas.Bool.{ltb-false}
 use Rattle.store_model.proofs.Bools.{both_true, and_true}
 use Rattle.wal_record.specs.declared.record.Record.{Record}
 use Rattle.wal_record.specs.declared.entry.Entry.{Entry}
 use Rattle.page_ops.specs.Names.{LedgerName}
 use Rattle.page_ops.specs.Claims.{Claims, Agree, no_claims}
 use Rattle.page_ops.specs.Gains.{Gains, Goes, IsSettled}
-use Rattle.page_ops.specs.Seeing.{Account, Known, known, Keeps, IsAmong, Enters, Looks, Upholds, of_sessions}
+use Rattle.page_ops.specs.Seeing.{Account, Calls, CallsGoOn, GoesOn, Known, known, Keeps, IsAmong, Enters, Looks, Upholds, of_sessions}
 
 -- ---- accounts
 
@@ -22,6 +25,54 @@ ended_then : (a b c : Option ℕ) → IfSome a (λ at. b ≡ Some at) → IfSome
 ended_then None b c x y = tt
 ended_then (Some at) b c x y = subst (λ (o : Option ℕ). IfSome o (λ n. c ≡ Some n)) x y
 
+goes_on_self : (x : Calls) (n : ℕ) → GoesOn x x n n
+goes_on_self x n = record { unarmed = λ none. (none, refl); refused = omega arith; own = omega arith; cause = λ more. absurd (omega (arith, more)) }
+
+pub calls_self : (x : Option Calls) (n : ℕ) → CallsGoOn x x n n
+calls_self None n = refl
+calls_self (Some x) n = goes_on_self x n
+
+-- where no more faults were counted, the calls may stay as they were
+pub calls_same : (x : Option Calls) (n m : ℕ) → m ≡ n → CallsGoOn x x n m
+calls_same x n m same = subst (λ (k : ℕ). CallsGoOn x x n k) (sym same) (calls_self x n)
+
+rose_then : (a b c : ℕ) → Rose a b → b ≤ c → Rose a c
+rose_then a b c r more = omega (arith, r, more)
+
+then_rose : (a b c : ℕ) → a ≤ b → Rose b c → Rose a c
+then_rose a b c more r = omega (arith, r, more)
+
+goes_on_then : (x y z : Calls) (k l m : ℕ) → GoesOn x y k l → GoesOn y z l m → GoesOn x z k m
+goes_on_then x y z k l m a b =
+    let r = a.refused in
+    let r' = b.refused in
+    let o = a.own in
+    let o' = b.own in
+    record {
+      unarmed = λ none. let first = a.unarmed none in let then = b.unarmed first.0 in (then.0, then.1 ∙ first.1);
+      refused = omega (arith, r, r');
+      own = omega (arith, o, o');
+      cause = λ more. by (ltb k l) refl more;
+    }
+  where
+    first : Rose x.own y.own ⊎ Rose x.refused y.refused → Rose x.own z.own ⊎ Rose x.refused z.refused
+    first (inl h) = inl (rose_then x.own y.own z.own h b.own)
+    first (inr h) = inr (rose_then x.refused y.refused z.refused h b.refused)
+
+    second : Rose y.own z.own ⊎ Rose y.refused z.refused → Rose x.own z.own ⊎ Rose x.refused z.refused
+    second (inl h) = inl (then_rose x.own y.own z.own a.own h)
+    second (inr h) = inr (then_rose x.refused y.refused z.refused a.refused h)
+
+    by : (t : Bool) → ltb k l ≡ t → k < m → Rose x.own z.own ⊎ Rose x.refused z.refused
+    by true h more = first (a.cause (ltb-true k l h))
+    by false h more = let least = ltb-false k l h in second (b.cause (omega (arith, least, more)))
+
+calls_then : (x y z : Option Calls) (k l m : ℕ) → CallsGoOn x y k l → CallsGoOn y z l m → CallsGoOn x z k m
+calls_then None y z k l m a b = subst (λ (o : Option Calls). CallsGoOn o z l m) a b
+calls_then (Some x) None z k l m a b = absurd a
+calls_then (Some x) (Some y) None k l m a b = absurd b
+calls_then (Some x) (Some y) (Some z) k l m a b = goes_on_then x y z k l m a b
+
 pub keeps_self : (a : Account) → Keeps a a
 keeps_self a = record {
   entry_parts = refl;
@@ -32,6 +83,7 @@ keeps_self a = record {
   vault_faults = omega arith;
   made = refl;
   ended = ended_self a.ended;
+  calls = calls_self a.calls a.log_faults.amount;
 }
 
 pub keeps_then : (a b c : Account) → Keeps a b → Keeps b c → Keeps a c
@@ -49,6 +101,7 @@ keeps_then a b c x y =
       vault_faults = omega (arith, v, v');
       made = y.made ∙ x.made;
       ended = ended_then a.ended b.ended c.ended x.ended y.ended;
+      calls = calls_then a.calls b.calls c.calls a.log_faults.amount b.log_faults.amount c.log_faults.amount x.calls y.calls;
     }
 
 -- ---- entries

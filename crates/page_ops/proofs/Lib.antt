@@ -2,3 +2,4 @@ pub mod Alone
 pub mod Composing
 pub mod Gaining
 pub mod Staying
+pub mod Telling

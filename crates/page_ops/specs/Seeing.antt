@@ -1,10 +1,11 @@
 -- What a caller of the journal knows, and what a call adds to it. The history grows under the journal's lock, and each
 -- call sees it whole at one moment.
-use Rattle.std.specs.Prelude.{◌≡◌, ◌≢◌, ◌⊎◌, IsTrue, IfSome, Some, ℕ, suc, ◌+◌, ◌≤◌, List, [], ◌∷◌, ◌++◌, length, Option, None, Bool, true, false, ◌==◌, if◌then◌else◌}
+use Rattle.std.specs.Prelude.{◌≡◌, ◌≢◌, ◌⊎◌, IsTrue, IfSome, Some, ℕ, suc, ◌+◌, ◌<◌, ◌≤◌, List, [], ◌∷◌, ◌++◌, length, Option, None, Bool, true, false, ◌==◌, if◌then◌else◌}
 use Rattle.std.specs.List.{list_any, list_all}
 use Rattle.std.specs.Option.{option_map_or}
 use mathlib.Core.List.{IsPrefix}
 use Rattle.front.specs.Seen.{PassSeen}
+use Rattle.media.specs.Cause.{Rose}
 use Rattle.store_model.specs.Along.{along}
 use Rattle.wal_record.specs.Chains.{Link, link_of}
 use Rattle.wal_record.specs.History.{Beginning, beginnings, life_log}
@@ -65,9 +66,17 @@ pub record Counted : Type 0 where
   pub parts : ℕ
   pub amount : ℕ
 
+-- what the log disk tells of its calls: how many more its fuse lets pass, where one is armed; how many that has refused; and
+-- how many have failed by themselves
+pub record Calls : Type 0 where
+  pub passes : Option ℕ
+  pub refused : ℕ
+  pub own : ℕ
+
 -- of an object through which a thread calls the journal: the entries entered through it, those among them that belong
 -- to sessions, the faults of the log disk and of the vault at device calls made through it, and the sessions and desks
--- made through it; and the LSN up to which the log was durable as the life ended, where it knows that the life has ended
+-- made through it; the LSN up to which the log was durable as the life ended, where it knows that the life has ended; and
+-- what the log disk tells of its calls, where the object tells that
 pub record Account : Type 0 where
   pub entries : Counted
   pub session_entries : Counted
@@ -75,6 +84,7 @@ pub record Account : Type 0 where
   pub vault_faults : Counted
   pub made : Counted
   pub ended : Option ℕ
+  pub calls : Option Calls
 
 -- with what its pass has seen, a beginning of the history and a durable number, and the claims of its rights
 pub record Known : Type 0 where
@@ -86,6 +96,20 @@ pub record Known : Type 0 where
 abbrev pub known : Account → PassSeen Entry → Claims → Known
 known account seen claims = record { account = account; log = seen.log; durable = seen.durable; claims = claims }
 
+-- Calls of the log disk, between which so many of its faults were counted: where no fuse is armed none is refused and none
+-- is armed; the counts don't fall; and a fault was a call that failed by itself or was refused.
+pub record GoesOn (old new : Calls) (before now : ℕ) : Type 0 where
+  pub unarmed : old.passes ≡ None → (new.passes ≡ None) × (new.refused ≡ old.refused)
+  pub refused : old.refused ≤ new.refused
+  pub own : old.own ≤ new.own
+  pub cause : before < now → Rose old.own new.own ⊎ Rose old.refused new.refused
+
+-- what is told stays told
+abbrev pub CallsGoOn : Option Calls → Option Calls → ℕ → ℕ → Type 0
+CallsGoOn None new before now = new ≡ None
+CallsGoOn (Some x) None before now = ⊥
+CallsGoOn (Some x) (Some y) before now = GoesOn x y before now
+
 -- Parts don't change, counts don't fall, no session and no desk is made, and a known end stays.
 pub record Keeps (old new : Account) : Type 0 where
   pub entry_parts : new.entries.parts ≡ old.entries.parts
@@ -96,6 +120,7 @@ pub record Keeps (old new : Account) : Type 0 where
   pub vault_faults : old.vault_faults.amount ≤ new.vault_faults.amount
   pub made : new.made ≡ old.made
   pub ended : IfSome old.ended (λ at. new.ended ≡ Some at)
+  pub calls : CallsGoOn old.calls new.calls old.log_faults.amount new.log_faults.amount
 
 -- whoever has all parts of both ledgers of entries has entered all that its pass has seen
 pub record HasTotals (entries sessions : LedgerName) (x : Account) (h : List Entry) : Type 0 where

@@ -24,7 +24,7 @@ use Rattle.page_ops.specs.declared.outcome.Entered.TheVariants as entered
 use Rattle.page_ops.specs.Groups.{Numbers, filled, no_checkpoint, made_by, AreFilledFrom, AreFilled, group_entries}
 use Rattle.page_ops.specs.Outcomes.{EntersGroup, IsFilledIn, OnEntered, page_of, new_place}
 use Rattle.page_ops.specs.Asking.{HasNumbers, MayFollow, IsAskable}
-use Rattle.page_ops.proofs.Gaining.{ended_self}
+use Rattle.page_ops.proofs.Gaining.{calls_self, ended_self}
 use Rattle.page_ops.specs.Seeing.{Account, known, Keeps, Enters, IsMoment, of_sessions}
 use Rattle.small_journal.specs.History.{AsksPurge, EntersPurge, purge_entry}
 use Rattle.small_journal.proofs.Keeping.{of_sessions_push, if_some}
@@ -63,7 +63,7 @@ pub head_by : (opens : List Record → Type 0) (s h : List Entry) (x : Claims) (
 head_by opens s h x page prev m is = if_some (PageAgrees opens h) x.a (record { page = page; lsn = prev }) is m.rights.a
 
 keeps_more : (a : Account) → Keeps a (record a { entries = record { parts = a.entries.parts; amount = a.entries.amount + 1 } })
-keeps_more a = record { entry_parts = refl; session_parts = refl; log_parts = refl; vault_parts = refl; log_faults = omega arith; vault_faults = omega arith; made = refl; ended = ended_self a.ended }
+keeps_more a = record { entry_parts = refl; session_parts = refl; log_parts = refl; vault_parts = refl; log_faults = omega arith; vault_faults = omega arith; made = refl; ended = ended_self a.ended; calls = calls_self a.calls a.log_faults.amount }
 
 -- after a refusal
 pub err_logs : {T : Type 0} (result : Result T Fault) (h h' : List Entry) (x x' : Claims) (p p' : PassSeen Entry) (a a' : Account) → OnErr result ((h' ≡ h) × (x' ≡ x) × (p' ≡ p) × (a' ≡ a)) → OnErr result ((p' ≡ p) × (x' ≡ x) × (a' ≡ a))

@@ -17,7 +17,7 @@ use Rattle.wal_record.specs.declared.record.Record.{Record}
 use Rattle.wal_record.specs.declared.entry.Entry.{Entry}
 use Rattle.wal_record.specs.declared.entry.Entry.TheVariants.{Rec, Declined, Acked, Began}
 use Rattle.front.specs.Seen.{PassSeen}
-use Rattle.page_ops.proofs.Gaining.{ended_self}
+use Rattle.page_ops.proofs.Gaining.{calls_self, ended_self}
 use Rattle.page_ops.specs.Names.{LedgerName}
 use Rattle.page_ops.specs.Claims.{Agree, SessionAgrees, session_alone}
 use Rattle.page_ops.specs.Seeing.{Account, known, Keeps, Enters, IsMoment, IsConsistent, HasTotals, is_of_session, of_sessions}
@@ -33,7 +33,7 @@ abbrev pub counted_one : Account → Account
 counted_one a = record a { entries = record { parts = a.entries.parts; amount = a.entries.amount + 1 }; session_entries = record { parts = a.session_entries.parts; amount = a.session_entries.amount + 1 } }
 
 pub keeps_one : (a : Account) → Keeps a (counted_one a)
-keeps_one a = record { entry_parts = refl; session_parts = refl; log_parts = refl; vault_parts = refl; log_faults = omega arith; vault_faults = omega arith; made = refl; ended = ended_self a.ended }
+keeps_one a = record { entry_parts = refl; session_parts = refl; log_parts = refl; vault_parts = refl; log_faults = omega arith; vault_faults = omega arith; made = refl; ended = ended_self a.ended; calls = calls_self a.calls a.log_faults.amount }
 
 module _ (opens : List Record → Type 0) (entries sessions : LedgerName) (a : Account) (durable : ℕ) (seen : PassSeen Entry) (h : List Entry) (x y : SessionClaim) (e : Entry) where
   -- one entry of a session's own, after which the pass has seen this durable number

@@ -28,6 +28,7 @@ impl<N: Life> Model for Counts<N> {
       vault_faults = record { parts = c.vault_faults.parts; amount = c.vault_faults.amount };
       made = record { parts = c.made.parts; amount = c.made.amount };
       ended = None;
+      calls = None;
     } };
 
     ghost invariant = { λ c. (0 < c.entries.parts) × (0 < c.session_entries.parts) × (0 < c.made.parts) × (c.log_faults.amount ≡ 0) × (c.vault_faults.amount ≡ 0) };
