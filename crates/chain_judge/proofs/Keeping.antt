@@ -1,8 +1,7 @@
 -- Where transactions stand behind one record more.
-use Rattle.std.proofs.Common.{◌≡◌, ℕ, eqb, cond, ◌+◌, List, [], ◌∷◌, ◌++◌, length, None, Some, Bool, true, false, refl, sym, ap, subst, ◌∙◌, Result, Ok, Err}
+use Rattle.std.proofs.Common.{◌≡◌, ℕ, eqb, cond, ◌+◌, List, [], ◌∷◌, ◌++◌, length, None, Some, Bool, true, false, refl, sym, ap, subst, ◌∙◌}
 use Rattle.std.specs.Prelude.{◌||◌}
 use Rattle.std.specs.List.{list_any}
-use Rattle.std.specs.Result.{OnErr}
 use Rattle.std.proofs.lemmas.List.Folds.{list_any-append}
 use Rattle.store_model.specs.Along.{along}
 use Rattle.wal_record.specs.Chains.{finishes, is_link_of, last, link_of}
@@ -138,7 +137,3 @@ module _ (log : List Record) (lasts : ℕ → ℕ) (overs : ℕ → Bool) (write
     pub kept_end : (e : End) → ((t : ℕ) → lasts' t ≡ cond (eqb e.tx t) 0 (lasts t)) → ((t : ℕ) → overs' t ≡ cond (eqb e.tx t) true (overs t)) → ((t : ℕ) → writes' t ≡ cond (eqb e.tx t) [] (writes t))
         → AreKept (log ++ kinds.End e ∷ []) lasts' overs' writes'
     kept_end e last over opens = kept_over log lasts overs writes k (kinds.End e) e.tx (λ t. refl) (λ t. refl) (λ t ws. refl) lasts' overs' writes' last over opens
-
-pub on_err : {T E P : Type 0} (r : Result T E) → P → OnErr r P
-on_err (Ok x) p = tt
-on_err (Err e) p = p

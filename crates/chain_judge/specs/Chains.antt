@@ -1,5 +1,5 @@
 -- Where the transactions of a log stand, as it is kept.
-use Rattle.std.specs.Prelude.{◌≡◌, ℕ, List, [], ◌∷◌, Option, Some, None, is_some, Bool, false}
+use Rattle.std.specs.Prelude.{◌≡◌, ◌<◌, ℕ, List, [], ◌∷◌, Option, Some, None, is_some, unwrap_or, Bool, false, IsTrue, vec_len, vec_capacity}
 use Rattle.std.specs.List.{list_any}
 use Rattle.std.specs.Option.{option_map_or}
 use Rattle.std.specs.Ordering.{nat_cmp}
@@ -22,8 +22,8 @@ last_in m t = option_map_or (λ (c : Chain). c.last) (get nat_cmp m t) 0
 abbrev pub writes_in : BTreeMap ℕ Chain → ℕ → List OpenChange
 writes_in m t = option_map_or (λ (c : Chain). c.writes.items) (get nat_cmp m t) []
 
-abbrev pub is_in : {A : Type 0} → BTreeMap ℕ A → ℕ → Bool
-is_in m t = is_some (get nat_cmp m t)
+abbrev pub is_in : BTreeMap ℕ Bool → ℕ → Bool
+is_in m t = unwrap_or (get nat_cmp m t) false
 
 -- ---- open writes
 
@@ -58,3 +58,21 @@ pub record AreKept (log : List Record) (lasts : ℕ → ℕ) (overs : ℕ → Bo
 
 unfoldable pub AreChainsOf : List Record → Chains → Type 0
 AreChainsOf log x = AreKept log (last_in x.running) (is_in x.over) (writes_in x.running)
+
+-- ---- what is ready for a record, so that noting it takes no memory
+
+abbrev pub IsRoomy : Option Chain → Type 0
+IsRoomy None = ⊥
+IsRoomy (Some c) = vec_len c.writes < vec_capacity c.writes
+
+-- the transaction is there, with room for one more open write
+abbrev pub HasRoom : BTreeMap ℕ Chain → ℕ → Type 0
+HasRoom m t = IsRoomy (get nat_cmp m t)
+
+abbrev pub IsReady : Record → Chains → Type 0
+IsReady (kinds.Write w) x = HasRoom x.running w.tx
+IsReady (kinds.Apply a) x = HasRoom x.running a.tx
+IsReady (kinds.Undo u) x = HasRoom x.running u.tx
+IsReady (kinds.Commit c) x = IsTrue (is_some (get nat_cmp x.over c.tx))
+IsReady (kinds.End e) x = IsTrue (is_some (get nat_cmp x.over e.tx))
+IsReady _ x = Unit {0}

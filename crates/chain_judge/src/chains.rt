@@ -1,12 +1,14 @@
 //! All transactions of a log.
-ghost use Rattle.std.specs.Prelude.{◌≡◌, ◌↔◌, ◌==◌, ◌+◌, [], ◌∷◌, ◌++◌, ℕ, List, length, Some, true, false, IsTrue, OnOk, OnErr, if◌then◌else◌};
+ghost use Rattle.std.specs.Prelude.{◌≡◌, ◌↔◌, ◌==◌, ◌+◌, [], ◌∷◌, ◌++◌, ℕ, List, length, Some, true, false, IsTrue, OnOk, if◌then◌else◌, is_some, vec_len, vec_capacity, ◌<◌};
+ghost use Rattle.std.specs.Ordering.{nat_cmp};
+ghost use Rattle.std.specs.BTreeMap.{get};
 ghost use Rattle.std.specs.List.{list_any};
 ghost use Rattle.store_model.specs.Lists.{last_of};
 ghost use Rattle.wal_record.specs.Chains.{Link};
 ghost use Rattle.wal_record.specs.OpenWrites.{IsAlone, has_items, open_writes, opens, without_last};
 ghost use Rattle.wal_record.specs.Sound.{LinkRule, UndoRule};
 ghost use Rattle.wal_record.specs.declared.record.Record.{Record};
-ghost use Rattle.chain_judge.specs.Chains.{AreChainsOf, TakesLast, is_at_key, is_in, last_in, writes_in};
+ghost use Rattle.chain_judge.specs.Chains.{AreChainsOf, HasRoom, IsReady, TakesLast, is_at_key, is_in, last_in, writes_in};
 
 use crate::chain::{
     Chain, OpenChange, any_of, change_of_apply, change_of_write, is_last_undone, take_last,
@@ -22,50 +24,60 @@ pub struct Chains {
     alloc: Global,
     /// Those that have neither a Commit nor an End.
     running: BTreeMap<TxId, Chain>,
-    /// The numbers of those that have one.
-    over: BTreeMap<TxId, ()>,
+    /// Whether a transaction has one; one without a place here hasn't.
+    over: BTreeMap<TxId, bool>,
 }
 
-/// A record of the transaction opens a write. Where memory runs out, each one stands where it stood.
-fn open(
-    alloc: Global,
-    running: &mut BTreeMap<TxId, Chain>,
-    tx: TxId,
-    lsn: Lsn,
-    change: OpenChange,
-) -> Result<(), Memory>
-    ensures ok { OnOk result ((t : ℕ) → (last_in running.new t ≡ (if tx == t then lsn else last_in running.old t)) × (writes_in running.new t ≡ (if tx == t then writes_in running.old t ++ change ∷ [] else writes_in running.old t))) }
-    ensures err { OnErr result ((t : ℕ) → (last_in running.new t ≡ last_in running.old t) × (writes_in running.new t ≡ writes_in running.old t)) }
+fn push(writes: &mut Vec<OpenChange>, change: OpenChange)
+    requires { vec_len writes.old < vec_capacity writes.old }
+    ensures { writes.new.items ≡ writes.old.items ++ change ∷ [] }
+{
+    match writes.push(change) {
+        Ok(()) => {}
+        Err(_) => unreachable!(),
+    }
+}
+
+/// Makes room for one more open write of the transaction. Each one stands where it stood.
+fn make_room(alloc: Global, running: &mut BTreeMap<TxId, Chain>, tx: TxId) -> Result<(), Memory>
+    ensures same { (t : ℕ) → (last_in running.new t ≡ last_in running.old t) × (writes_in running.new t ≡ writes_in running.old t) }
+    ensures room { OnOk result (HasRoom running.new tx) }
 {
     if let Some(chain) = running.get_mut(&tx) {
-        chain.writes.push(change)?;
-        chain.last = lsn;
+        chain.writes.reserve(1)?;
         return Ok(());
     }
-    let mut writes = Vec::new(alloc);
-    writes.push(change)?;
-    running.insert(tx, Chain { last: lsn, writes })?;
+    let writes = Vec::with_capacity(alloc, 1)?;
+    running.insert(tx, Chain { last: 0, writes })?;
     Ok(())
 }
 
-/// A record of the transaction takes its last open write back. Where memory runs out, each one stands where it stood.
-fn take_back(
-    alloc: Global,
-    running: &mut BTreeMap<TxId, Chain>,
-    tx: TxId,
-    lsn: Lsn,
-) -> Result<(), Memory>
-    ensures ok { OnOk result ((t : ℕ) → (last_in running.new t ≡ (if tx == t then lsn else last_in running.old t)) × (writes_in running.new t ≡ (if tx == t then without_last (writes_in running.old t) else writes_in running.old t))) }
-    ensures err { OnErr result ((t : ℕ) → (last_in running.new t ≡ last_in running.old t) × (writes_in running.new t ≡ writes_in running.old t)) }
+/// A record of the transaction opens a write.
+fn open(running: &mut BTreeMap<TxId, Chain>, tx: TxId, lsn: Lsn, change: OpenChange)
+    requires { HasRoom running.old tx }
+    ensures { (t : ℕ) → (last_in running.new t ≡ (if tx == t then lsn else last_in running.old t)) × (writes_in running.new t ≡ (if tx == t then writes_in running.old t ++ change ∷ [] else writes_in running.old t)) }
 {
-    if let Some(chain) = running.get_mut(&tx) {
-        take_last(&mut chain.writes);
-        chain.last = lsn;
-        return Ok(());
+    match running.get_mut(&tx) {
+        Some(chain) => {
+            chain.last = lsn;
+            push(&mut chain.writes, change);
+        }
+        None => unreachable!(),
     }
-    let writes = Vec::new(alloc);
-    running.insert(tx, Chain { last: lsn, writes })?;
-    Ok(())
+}
+
+/// A record of the transaction takes its last open write back.
+fn take_back(running: &mut BTreeMap<TxId, Chain>, tx: TxId, lsn: Lsn)
+    requires { HasRoom running.old tx }
+    ensures { (t : ℕ) → (last_in running.new t ≡ (if tx == t then lsn else last_in running.old t)) × (writes_in running.new t ≡ (if tx == t then without_last (writes_in running.old t) else writes_in running.old t)) }
+{
+    match running.get_mut(&tx) {
+        Some(chain) => {
+            chain.last = lsn;
+            take_last(&mut chain.writes);
+        }
+        None => unreachable!(),
+    }
 }
 
 /// The transaction is under way no more.
@@ -76,13 +88,27 @@ fn drop_chain(running: &mut BTreeMap<TxId, Chain>, tx: TxId)
     running.remove(&tx);
 }
 
-/// The transaction is over.
-fn put_over(over: &mut BTreeMap<TxId, ()>, tx: TxId) -> Result<(), Memory>
-    ensures ok { OnOk result ((t : ℕ) → is_in over.new t ≡ (if tx == t then true else is_in over.old t)) }
-    ensures err { OnErr result ((t : ℕ) → is_in over.new t ≡ is_in over.old t) }
+/// Makes a place for the transaction among those that may be over. Each one is over where it was.
+fn make_place(over: &mut BTreeMap<TxId, bool>, tx: TxId) -> Result<(), Memory>
+    ensures same { (t : ℕ) → is_in over.new t ≡ is_in over.old t }
+    ensures there { OnOk result (IsTrue (is_some (get nat_cmp over.new tx))) }
 {
-    over.insert(tx, ())?;
+    if over.contains_key(&tx) {
+        return Ok(());
+    }
+    over.insert(tx, false)?;
     Ok(())
+}
+
+/// The transaction, which has a place, is over.
+fn put_over(over: &mut BTreeMap<TxId, bool>, tx: TxId)
+    requires { IsTrue (is_some (get nat_cmp over.old tx)) }
+    ensures { (t : ℕ) → is_in over.new t ≡ (if tx == t then true else is_in over.old t) }
+{
+    match over.insert(tx, true) {
+        Ok(_) => {}
+        Err(_) => unreachable!(),
+    }
 }
 
 fn last_in(running: &BTreeMap<TxId, Chain>, tx: TxId) -> Lsn
@@ -94,10 +120,13 @@ fn last_in(running: &BTreeMap<TxId, Chain>, tx: TxId) -> Lsn
     }
 }
 
-fn is_in(over: &BTreeMap<TxId, ()>, tx: TxId) -> bool
+fn is_in(over: &BTreeMap<TxId, bool>, tx: TxId) -> bool
     ensures { result ≡ is_in over.now tx }
 {
-    over.contains_key(&tx)
+    match over.get(&tx) {
+        Some(over) => *over,
+        None => false,
+    }
 }
 
 fn count_in(running: &BTreeMap<TxId, Chain>, tx: TxId) -> usize
@@ -187,35 +216,65 @@ impl Chains {
         count_in(&self.running, tx)
     }
 
-    fn note_open(&mut self, tx: TxId, lsn: Lsn, change: OpenChange) -> Result<(), Memory>
-        ensures ok { OnOk result ((t : ℕ) → (last_in self.new.running t ≡ (if tx == t then lsn else last_in self.old.running t)) × (writes_in self.new.running t ≡ (if tx == t then writes_in self.old.running t ++ change ∷ [] else writes_in self.old.running t))) }
-        ensures over { self.new.over ≡ self.old.over }
-        ensures err { (log : List Record) → AreChainsOf log self.old → OnErr result (AreChainsOf log self.new) }
+    fn prepare_running(&mut self, tx: TxId) -> Result<(), Memory>
+        ensures same { (log : List Record) → AreChainsOf log self.old → AreChainsOf log self.new }
+        ensures ready { OnOk result (HasRoom self.new.running tx) }
     {
-        open(self.alloc, &mut self.running, tx, lsn, change)
+        make_room(self.alloc, &mut self.running, tx)
     }
 
-    fn note_undo(&mut self, tx: TxId, lsn: Lsn) -> Result<(), Memory>
-        ensures ok { OnOk result ((t : ℕ) → (last_in self.new.running t ≡ (if tx == t then lsn else last_in self.old.running t)) × (writes_in self.new.running t ≡ (if tx == t then without_last (writes_in self.old.running t) else writes_in self.old.running t))) }
-        ensures over { self.new.over ≡ self.old.over }
-        ensures err { (log : List Record) → AreChainsOf log self.old → OnErr result (AreChainsOf log self.new) }
+    fn prepare_over(&mut self, tx: TxId) -> Result<(), Memory>
+        ensures same { (log : List Record) → AreChainsOf log self.old → AreChainsOf log self.new }
+        ensures ready { OnOk result (IsTrue (is_some (get nat_cmp self.new.over tx))) }
     {
-        take_back(self.alloc, &mut self.running, tx, lsn)
+        make_place(&mut self.over, tx)
     }
 
-    fn note_over(&mut self, tx: TxId) -> Result<(), Memory>
-        ensures ok { OnOk result ((t : ℕ) → (last_in self.new.running t ≡ (if tx == t then 0 else last_in self.old.running t)) × (writes_in self.new.running t ≡ (if tx == t then [] else writes_in self.old.running t)) × (is_in self.new.over t ≡ (if tx == t then true else is_in self.old.over t))) }
-        ensures err { (log : List Record) → AreChainsOf log self.old → OnErr result (AreChainsOf log self.new) }
+    /// Makes room for a record. Nothing else changes.
+    pub fn prepare(&mut self, entered: &Record) -> Result<(), Memory>
+        ensures same { (log : List Record) → AreChainsOf log self.old → AreChainsOf log self.new }
+        ensures ready { OnOk result (IsReady entered.now self.new) }
     {
-        put_over(&mut self.over, tx)?;
+        match entered {
+            Record::Write(write) => self.prepare_running(write.tx),
+            Record::Apply(apply) => self.prepare_running(apply.tx),
+            Record::Undo(undo) => self.prepare_running(undo.tx),
+            Record::Commit(commit) => self.prepare_over(commit.tx),
+            Record::End(end) => self.prepare_over(end.tx),
+            _ => Ok(()),
+        }
+    }
+
+    fn note_open(&mut self, tx: TxId, lsn: Lsn, change: OpenChange)
+        requires { HasRoom self.old.running tx }
+        ensures kept { (t : ℕ) → (last_in self.new.running t ≡ (if tx == t then lsn else last_in self.old.running t)) × (writes_in self.new.running t ≡ (if tx == t then writes_in self.old.running t ++ change ∷ [] else writes_in self.old.running t)) }
+        ensures over { self.new.over ≡ self.old.over }
+    {
+        open(&mut self.running, tx, lsn, change);
+    }
+
+    fn note_undo(&mut self, tx: TxId, lsn: Lsn)
+        requires { HasRoom self.old.running tx }
+        ensures kept { (t : ℕ) → (last_in self.new.running t ≡ (if tx == t then lsn else last_in self.old.running t)) × (writes_in self.new.running t ≡ (if tx == t then without_last (writes_in self.old.running t) else writes_in self.old.running t)) }
+        ensures over { self.new.over ≡ self.old.over }
+    {
+        take_back(&mut self.running, tx, lsn);
+    }
+
+    fn note_over(&mut self, tx: TxId)
+        requires { IsTrue (is_some (get nat_cmp self.old.over tx)) }
+        ensures last { (t : ℕ) → last_in self.new.running t ≡ (if tx == t then 0 else last_in self.old.running t) }
+        ensures writes { (t : ℕ) → writes_in self.new.running t ≡ (if tx == t then [] else writes_in self.old.running t) }
+        ensures over { (t : ℕ) → is_in self.new.over t ≡ (if tx == t then true else is_in self.old.over t) }
+    {
+        put_over(&mut self.over, tx);
         drop_chain(&mut self.running, tx);
-        Ok(())
     }
 
-    /// The next record, with this LSN. Where memory runs out, these are still those of the log before it.
-    pub fn note(&mut self, lsn: Lsn, entered: &Record) -> Result<(), Memory>
-        ensures ok { (log : List Record) → AreChainsOf log self.old → lsn ≡ length log + 1 → OnOk result (AreChainsOf (log ++ entered.now ∷ []) self.new) }
-        ensures err { (log : List Record) → AreChainsOf log self.old → OnErr result (AreChainsOf log self.new) }
+    /// The next record, with this LSN. It takes no memory.
+    pub fn note(&mut self, lsn: Lsn, entered: &Record)
+        requires ready { IsReady entered.now self.old }
+        ensures { (log : List Record) → AreChainsOf log self.old → lsn ≡ length log + 1 → AreChainsOf (log ++ entered.now ∷ []) self.new }
     {
         match entered {
             Record::Write(write) => self.note_open(write.tx, lsn, change_of_write(write)),
@@ -223,7 +282,7 @@ impl Chains {
             Record::Undo(undo) => self.note_undo(undo.tx, lsn),
             Record::Commit(commit) => self.note_over(commit.tx),
             Record::End(end) => self.note_over(end.tx),
-            _ => Ok(()),
+            _ => {}
         }
     }
 }

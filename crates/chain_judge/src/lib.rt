@@ -10,7 +10,7 @@
 //!
 //! 1. [`Chains::is_linked`], [`Chains::is_alone`], [`Chains::takes_back`] and [`Chains::has_open`] are exact, and
 //!    [`Chains::open_count`] is the number of open writes.
-//! 2. [`Chains::note`] takes the next record. Where memory runs out they are still those of the log before.
+//! 2. [`Chains::note`] takes the next record, for which [`Chains::prepare`] made room. Noting takes no memory and can't fail.
 //!
 //! Each call but one takes a time that is logarithmic in the number of transactions; `is_alone` goes through the open writes of
 //! all that are under way.

@@ -1,5 +1,5 @@
 use Rattle.std.proofs.Common.{ℕ, List, [], ap}
-use Rattle.std.specs.Prelude.{is_some}
+use Rattle.std.specs.Prelude.{Bool, false, unwrap_or}
 use Rattle.std.specs.Map.{lookup}
 use Rattle.std.specs.Option.{option_map_or}
 use Rattle.std.specs.Ordering.{nat_cmp}
@@ -13,5 +13,5 @@ pub returns : goal.returns
 unfolding AreChainsOf
 returns c = kept_none (last_in c.new.result) (is_in c.new-2.result) (writes_in c.new.result)
     (λ t. ap (λ (es : List (ℕ × Chain)). option_map_or (λ (x : Chain). x.last) (lookup (is_at (nat_cmp t)) es) 0) c.new.ensures.empty)
-    (λ t. ap (λ (es : List (ℕ × _)). is_some (lookup (is_at (nat_cmp t)) es)) c.new-2.ensures.empty)
+    (λ t. ap (λ (es : List (ℕ × Bool)). unwrap_or (lookup (is_at (nat_cmp t)) es) false) c.new-2.ensures.empty)
     (λ t. ap (λ (es : List (ℕ × Chain)). option_map_or (λ (x : Chain). x.writes.items) (lookup (is_at (nat_cmp t)) es) []) c.new.ensures.empty)
