@@ -45,9 +45,9 @@ impl Judge {
     {
         match why {
             Outcome::Full { pages, pending } => {
-                self.is_full(*pages, *pending) && writes(&self.contents, operators, request)
+                self.is_full(*pages, *pending) && writes(&self.log.contents, operators, request)
             }
-            Outcome::OpRefused => has_no_meaning(&self.contents, operators, request),
+            Outcome::OpRefused => has_no_meaning(&self.log.contents, operators, request),
             _ => false,
         }
     }
@@ -57,9 +57,9 @@ impl Judge {
         ensures { (opening : List Record) → (h : List Entry) → IsJudgeOf opening h self.now → IsTrue result ↔ ((told_pages ≡ pages (life_log opening h)) × (told_pending ≡ pending (life_log opening h)) × (limit_of (life_log opening h) < pages (life_log opening h) + pending (life_log opening h) + 2)) }
     {
         is_full(
-            self.listing.limit(),
-            self.listing.pages() as u64,
-            self.listing.pending(),
+            self.log.listing.limit(),
+            self.log.listing.pages() as u64,
+            self.log.listing.pending(),
             told_pages,
             told_pending,
         )

@@ -1,0 +1,9 @@
+use Rattle.std.proofs.Common.{subst}
+use Rattle.history_core.specs.Judging.{IsRead}
+use Rattle.history_core.proofs.judge.Judge.open.Goals as goal
+
+pub returns-in-None : goal.returns-in-None
+returns-in-None g c = subst (IsRead c.args.opening.now) c.in-None.is c.in_ok-found.ensures
+
+pub returns-in-Some : goal.returns-in-Some
+returns-in-Some g c = c.in_ok-behind.ensures c.args.opening.now (subst (IsRead c.args.opening.now) c.in-Some.is c.in_ok-found.ensures)

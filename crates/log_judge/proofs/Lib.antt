@@ -1,0 +1,4 @@
+pub mod Beginning
+pub mod Rooms
+pub mod Deciding
+pub mod Taking

@@ -1,0 +1,16 @@
+use Rattle.std.proofs.Common.{subst, sym}
+use Rattle.std.specs.Prelude.{IfOk, IfSome}
+use Rattle.wal_record.specs.Rules.{HasSpelling}
+use Rattle.wal_record.specs.declared.record.Record.{Record}
+use Rattle.log_judge.specs.Judging.{IsVerdict}
+use Rattle.log_judge.proofs.Deciding.{not_checkpoint}
+use Rattle.log_judge.proofs.judge.LogJudge.lawful.Goals as goal
+
+pub returns-in-Checkpoint-clause-spelled : goal.returns-in-Checkpoint-clause-spelled
+returns-in-Checkpoint-clause-spelled g c = subst (λ (r : Record). IfOk c.lawful_checkpoint.result (λ found. IfSome found (λ x. HasSpelling r))) (sym c.in-Checkpoint.is) c.lawful_checkpoint.ensures.spelled
+
+pub returns-in-Checkpoint-clause-verdict : goal.returns-in-Checkpoint-clause-verdict
+returns-in-Checkpoint-clause-verdict g c = λ log k small. subst (λ (r : Record). IfOk c.lawful_checkpoint.result (IsVerdict log r)) (sym c.in-Checkpoint.is) (c.lawful_checkpoint.ensures.verdict log k small)
+
+pub lawful_other-requires-clause-kind : goal.lawful_other-requires-clause-kind
+lawful_other-requires-clause-kind g c = not_checkpoint c.args.entered.now c.in_default.not-Checkpoint

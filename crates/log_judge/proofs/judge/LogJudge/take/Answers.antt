@@ -1,0 +1,20 @@
+use Rattle.log_judge.proofs.Taking.{changing, on_err, ready_still, unchanged}
+use Rattle.log_judge.proofs.judge.LogJudge.take.Goals as goal
+
+pub finish-requires-clause-ready : goal.finish-requires-clause-ready
+finish-requires-clause-ready g c = ready_still c.prepare.new.self c.change.new.self c.in_ok-change.ensures.others c.args.entered.now c.args.changed c.in_ok-prepare.ensures.ready
+
+pub returns-clause-ok : goal.returns-clause-ok
+returns-clause-ok g c = λ log k lawful made is small.
+    let same = c.in_ok-prepare.ensures.same log k is in
+    let now = c.in_ok-change.ensures.ok log same.contents same.backups in
+    c.finish.ensures log (changing c.prepare.new.self c.change.new.self c.in_ok-change.ensures.others log c.args.entered.now same (c.in_ok-prepare.ensures.names log k is) now.0 now.1) lawful made is small
+
+pub returns-in_err-prepare-clause-err : goal.returns-in_err-prepare-clause-err
+returns-in_err-prepare-clause-err g c = λ log k is. on_err _ (c.prepare.ensures.same log k is)
+
+pub returns-in_err-change-clause-err : goal.returns-in_err-change-clause-err
+returns-in_err-change-clause-err g c = λ log k is.
+    let same = c.in_ok-prepare.ensures.same log k is in
+    let before = c.in_err-change.ensures.err log same.contents same.backups in
+    on_err _ (unchanged c.prepare.new.self c.change.new.self c.in_err-change.ensures.others log same before.0 before.1)
