@@ -12,6 +12,10 @@ use Rattle.page_judge.specs.Images.{AreImagesOf}
 use Rattle.page_judge.specs.Names.{AreNamesOf}
 use Rattle.page_judge.specs.declared.changed.Changed.{Changed}
 use Rattle.upkeep_judge.specs.Backups.{AreBackupsOf}
+use Rattle.upkeep_judge.specs.declared.backups.Backups.{Backups}
+use Rattle.upkeep_judge.proofs.Keeping.{kept_other}
+use Rattle.wal_record.specs.declared.record.BackupDone.{BackupDone}
+use Rattle.wal_record.specs.declared.record.Record.TheVariants as kinds
 use Rattle.log_judge.specs.Judging.{IsChanging, IsLogJudgeOf, IsReady}
 use Rattle.log_judge.specs.declared.judge.LogJudge.{LogJudge}
 
@@ -60,3 +64,7 @@ module _ (old new : LogJudge) (e : new ≡ record old { contents = new.contents;
 pub on_err : {T E P : Type 0} (r : Result T E) → P → OnErr r P
 on_err (Ok x) p = tt
 on_err (Err e) p = p
+
+pub backups_still : (log : List Record) (r : Record) (x : Backups) → AreBackupsOf log x → ((b : BackupDone) → r ≡ kinds.BackupDone b → ⊥) → AreBackupsOf (log ++ r ∷ []) x
+unfolding AreBackupsOf
+backups_still log r x k other = kept_other log x.number x.segments k r other

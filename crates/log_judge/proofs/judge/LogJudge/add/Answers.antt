@@ -11,15 +11,15 @@ take-requires-clause-spelled g c = subst (λ found. IfSome found (λ x. HasSpell
 pub returns-in-None-clause-added : goal.returns-in-None-clause-added
 returns-in-None-clause-added g c = λ log k small. (subst (IsVerdict log c.args.entered.now) c.in-None.is (c.in_ok-found.ensures.verdict log k small), refl)
 
-pub returns-in-Some-clause-added : goal.returns-in-Some-clause-added
-returns-in-Some-clause-added g c = λ log k small.
+pub returns-in_ok-take-in-Some-clause-added : goal.returns-in_ok-take-in-Some-clause-added
+returns-in_ok-take-in-Some-clause-added g c = λ log k small.
     let v = subst (IsVerdict log c.args.entered.now) c.in-Some.is (c.in_ok-found.ensures.verdict log k small) in
     let last = c.last.ensures log k.listing in
     let next : c.saturating_add-lsn.result ≡ length log + 1 = let sum = c.saturating_add-lsn.ensures in omega (arith, sum, last, small) in
-    (v.0, c.in_ok-take.ensures.ok log k v.0 v.1 next small)
+    (v.0, c.in_ok-take-in-Some.ensures.ok log k v.0 v.1 next small)
 
-pub returns-in_err-take-clause-err : goal.returns-in_err-take-clause-err
-returns-in_err-take-clause-err g c = λ log k small.
+pub returns-in_err-take-in-Some-clause-err : goal.returns-in_err-take-in-Some-clause-err
+returns-in_err-take-in-Some-clause-err g c = λ log k small.
     let last = c.last.ensures log k.listing in
     let next : c.saturating_add-lsn.result ≡ length log + 1 = let sum = c.saturating_add-lsn.ensures in omega (arith, sum, last, small) in
-    on_err _ (c.in_err-take.ensures.err log k next)
+    on_err _ (c.in_err-take-in-Some.ensures.err log k next)

@@ -12,5 +12,5 @@ returns-in-Checkpoint-clause-spelled g c = subst (λ (r : Record). IfOk c.lawful
 pub returns-in-Checkpoint-clause-verdict : goal.returns-in-Checkpoint-clause-verdict
 returns-in-Checkpoint-clause-verdict g c = λ log k small. subst (λ (r : Record). IfOk c.lawful_checkpoint.result (IsVerdict log r)) (sym c.in-Checkpoint.is) (c.lawful_checkpoint.ensures.verdict log k small)
 
-pub lawful_other-requires-clause-kind : goal.lawful_other-requires-clause-kind
-lawful_other-requires-clause-kind g c = not_checkpoint c.args.entered.now c.in_default.not-Checkpoint
+pub lawful_other-requires : goal.lawful_other-requires
+lawful_other-requires g c = record { kind = not_checkpoint c.args.entered.now c.in_default.not-Checkpoint }
