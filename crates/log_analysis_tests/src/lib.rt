@@ -1,15 +1,10 @@
 //! Logs on a disk in memory against analyses that were worked out by hand from what each record means.
 //!
-//! The crate has tests alone. A log stands as a text with one record a line or more (`spelled`); from it a disk is made
-//! with its Checkpoint, without it, and with the payloads before the Checkpoint's block overwritten (`disk`). The analysis
-//! is compared number by number (`told`).
+//! The crate has tests alone. A log stands as a text (`log_text`); from it a disk is made with its Checkpoint, without it,
+//! and with the payloads before the Checkpoint's block overwritten. The analysis is compared number by number (`told`).
 #![tactic(auto)]
 
 #[cfg(test)]
-mod disk;
-#[cfg(test)]
 mod logs;
-#[cfg(test)]
-mod spelled;
 #[cfg(test)]
 mod told;

@@ -4,9 +4,10 @@
 //! with key and LSN; of each page its head, the LSN as which it was written, its backup and the LSN there; the pages at the
 //! last loss; the segments not restored since; the standing runs; the commits; and the next numbers of a transaction, a
 //! backup and a run.
-use crate::disk::{Given, log_of};
 use crate::told::{numbers_in, numbers_of};
 use log_analysis::analyse;
+use log_blocks::open_log;
+use log_text::{Given, disk_of};
 use std::alloc::Global;
 use std::test::Fail;
 use store_model::Lsn;
@@ -19,7 +20,7 @@ fn is_analysed(
     checkpoint: Lsn,
     wanted: &str,
 ) -> Option<bool> {
-    let mut blocks = log_of(alloc, log, given, checkpoint)?;
+    let mut blocks = open_log(alloc, disk_of(alloc, log, given, checkpoint)?).ok()?;
     let listing = analyse(alloc, &mut blocks).ok()?;
     let found = numbers_of(alloc, &listing.analysis(alloc).ok()?)?;
     let shift = if given == Given::NoCheckpoint {

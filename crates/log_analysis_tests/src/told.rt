@@ -1,5 +1,5 @@
 //! An analysis as numbers, and the numbers that a text tells.
-use crate::spelled::lsn_of;
+use log_text::lsn_of;
 use std::alloc::Global;
 use store_model::{Key, Lsn};
 use wal_record::{Analysis, Loser, PageHead, Run};
