@@ -1,6 +1,7 @@
-use Rattle.std.proofs.Common.{sym, inl}
+use Rattle.std.proofs.Common.{sym, inl, arith, ◌∙◌}
 use Rattle.std.proofs.lemmas.Result.{err_from_is_err_and}
 use Rattle.segment_restore.proofs.Chains.{looks, upheld_both}
+use Rattle.segment_restore.proofs.Owned.{result_after}
 use Rattle.segment_restore.proofs.Segments.{enter_fails, listed_head}
 use Rattle.segment_restore.proofs.Written.{back_unmade, listed_back}
 use Rattle.segment_restore.proofs.restoring.restore_listed.Goals as goal
@@ -32,3 +33,8 @@ returns-clause-written g c =
     λ t.
     listed_back c.restore_page.result g.N.Life.opens c.args.pass.now.log c.listed.new.pass.log c.restore_page.new.pass.log c.args.page c.in_ok-listed.listed _ _ c.listed.ensures.seen.now.begins (v.gained, sym v.is) c.in_ok-listed.ensures.listed c.if-listed-eq0.false
     (c.restore_page.ensures.written t)
+
+pub returns-clause-refused : goal.returns-clause-refused
+returns-clause-refused g c =
+    let ends = c.in_ok-listed.ensures.ends in
+    result_after g.N.Life.opens g.N.Life.log_faults g.N.Life.made _ _ _ _ _ _ (record { ended = ends.1.0 ∙ sym ends.0.0; amount = ends.1.1 ∙ sym ends.0.1 }) c.listed.ensures.seen.keeps _ _ (omega arith) c.restore_page.ensures.refused
