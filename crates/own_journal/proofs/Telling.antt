@@ -1,6 +1,6 @@
 -- The account of a thread that owns its journal: what the journal's clauses say of its counts, with the calls of the log disk.
-use Rattle.std.proofs.Common.{◌≡◌, ℕ, ◌+◌, ◌<◌, List, [], Option, Some, None, Result, Ok, Err, refl, sym, ap, subst, ◌∙◌, arith, append-nil, inl, inr}
-use Rattle.std.specs.Prelude.{IfErr, IsErrAnd, OnOk}
+use Rattle.std.proofs.Common.{◌≡◌, ℕ, ◌<◌, List, [], Option, Some, None, Result, Ok, Err, refl, sym, ap, subst, ◌∙◌, arith, append-nil, inl, inr}
+use Rattle.std.specs.Prelude.{IfErr, IfSome, IsErrAnd, OnOk}
 use Rattle.front.specs.Seen.{PassSeen}
 use Rattle.log_blocks.specs.Opening.{IsLogFault}
 use Rattle.journal.specs.State.{BlamesDisk, IsUntouched, JournalState, KnowsEnd, LearnsEnd}
@@ -141,3 +141,10 @@ unlearnt a b j k end knows none same is (inr told_now) = sym (ap (λ (x : Accoun
 
 pub unlearnt_same : (a b : Account) (j : JournalState) (end : Option ℕ) → KnowsEnd a j → j.ended ≡ None → b ≡ record a { ended = end } → end ≡ None → b ≡ a
 unlearnt_same a b j end knows none is unended = is ∙ ap (λ (o : Option ℕ). record a { ended = o }) (unended ∙ sym (no_end a j knows none))
+
+pub knew : (a : Account) (j : JournalState) (end : Option ℕ) → KnowsEnd a j → end ≡ j.ended → IfSome a.ended (λ at. end ≡ Some at)
+knew a j end knows is = by a.ended refl
+  where
+    by : (o : Option ℕ) → a.ended ≡ o → IfSome o (λ at. end ≡ Some at)
+    by None e = tt
+    by (Some at) e = is ∙ knows at e

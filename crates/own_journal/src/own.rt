@@ -52,8 +52,9 @@ impl<'a, L: Disk, N: Life> OwnJournal<'a, L, N> {
         self.journal.end()
     }
 
-    /// The LSN up to which the log was durable as the life ended, if it has ended; the pass then sees the whole history. It
-    /// learns of no end: where the thread knew of one, whoever has all parts of the ledger of the log disk's faults has counted one.
+    /// The LSN up to which the log was durable as the life ended, if it has ended; the pass has then seen the whole history. No
+    /// fault of the log disk was counted where it hasn't. The counts learn nothing of an end. Where they knew of one, whoever has
+    /// all parts of the ledger of the log disk's faults has counted a fault.
     pub fn end_seen(&mut self, pass: &mut Pass<Entry, N>) -> Option<Lsn>
         ensures same { (self.new.journal ≡ self.old.journal) × (self.new.counts ≡ self.old.counts) }
         ensures seen { Looks N.opens N.entries N.session_entries (told self.old.counts self.old.journal.calls) pass.old (told self.new.counts self.new.journal.calls) pass.new }
@@ -61,6 +62,7 @@ impl<'a, L: Disk, N: Life> OwnJournal<'a, L, N> {
         ensures end { result ≡ self.old.journal.ended }
         ensures durable { (opening : List Record) → N.opens opening → IfSome result (IsDurableUpto opening pass.new.log) }
         ensures none { IfNone result (self.old.counts.log_faults.amount ≡ 0) }
+        ensures known { IfSome self.old.counts.ended (λ at. result ≡ Some at) }
         ensures some { IfSome self.old.counts.ended (λ at. HasCause N.log_faults self.old.counts.log_faults) }
     {
         let OwnJournal { journal, counts } = self;
@@ -76,7 +78,8 @@ impl<'a, L: Disk, N: Life> OwnJournal<'a, L, N> {
         }
     }
 
-    /// The log disk, as it is: the life has stopped. As `Journal::into_device`.
+    /// The log disk, as it is: the life has stopped. As `Journal::into_device`. Whoever has all parts of the ledgers of entries
+    /// has entered the whole history.
     pub fn into_device(self, pass: &mut Pass<Entry, N>) -> L
         ensures left { Leaves N.opens L.told L.may_leave self.entry.journal.history pass.new.durable result }
         ensures pass { pass.new.log ≡ self.entry.journal.history }
