@@ -19,7 +19,7 @@ use Rattle.page_ops.specs.Causes.{IsOpen, IsUntold}
 use Rattle.page_ops.specs.Seeing.{Account}
 use Rattle.page_ops.specs.declared.outcome.Committed.{Committed}
 use Rattle.command_laws.specs.Commands.{Aborts, Amid, Answers, Begins, Commits, IsBesideRequest, IsUpkeep, TakesBack, Tells, commit_record}
-use Rattle.engine.specs.Answers.{IsReply}
+use Rattle.engine.specs.Answers.{HadRoom, IsReply}
 use Rattle.engine.specs.Beside.{IsInWay}
 use Rattle.engine.specs.Requests.{lock_of}
 use Rattle.engine.specs.Sittings.{Sitting}
@@ -58,7 +58,8 @@ pub record Asks (opens : List Record → Type 0) (session tx : ℕ) (request : R
   pub are : AreOwn session tx request result own
   pub among : Amid (IsBesideRequest (WasInWay opens h (lock_of request)) tx (lock_of request)) own entries
 
--- The history ends with the answer, which stands here; its reply is that of the ordered map of the contents before it.
+-- The history ends with the answer, which stands here; its reply is that of the ordered map of the contents before it, and a
+-- write was entered only where there was room.
 pub record IsTold (opens : List Record → Type 0) (session tx : ℕ) (request : Request) (h : List Entry) (a : Answered) : Type 0 where
   pub before : List Entry
   pub own : List Entry
@@ -66,6 +67,7 @@ pub record IsTold (opens : List Record → Type 0) (session tx : ℕ) (request :
   pub tells : Tells session tx request a.reply own
   pub place : a.pos ≡ length h
   pub reply : (opening : List Record) → opens opening → IsReply (life_log opening before) request a.reply
+  pub room : (opening : List Record) → opens opening → HadRoom opening before own
 
 -- ---- commit
 
