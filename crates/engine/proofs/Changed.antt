@@ -287,6 +287,7 @@ module _ (opens : List Record → Type 0) (s : SessionClaim) (request : Request)
     place = place;
     reply = λ opening stands. reply_of (life_log opening front) on.tells.write request reply on.tells.told (allowed opening stands).rule.lawful.value;
     room = λ opening stands. record { first = on.ends.0; split = on.tells.before; is = refl; kind = on.tells.alone; places = on.room opening stands };
+    fresh = λ opening stands. (allowed opening stands).rule.told;
   }
 
   pub told_live : (opening : List Record) → opens opening → phase h s.tx ≡ Live

@@ -54,7 +54,7 @@ module _ (s s' : SessionClaim) (session : s'.session ≡ s.session) (tx : s'.tx 
   completes_as opens ledger sessions request result x y c = record { behind = c.behind; last = c.last; gains = c.gains; kept_up = c.kept_up; by = last_as request result true c.last c.by; faults = c.faults }
 
   said_as : (opens : List Record → Type 0) (request : Request) (h : List Entry) (a : Answered) → IsSaidAt opens s' request h a → IsSaidAt opens s request h a
-  said_as opens request h a t = record { before = t.before; last = t.last; is = t.is; tells = tells_as request a.reply t.last t.tells; place = t.place; reply = t.reply; room = t.room }
+  said_as opens request h a t = record { before = t.before; last = t.last; is = t.is; tells = tells_as request a.reply t.last t.tells; place = t.place; reply = t.reply; room = t.room; fresh = t.fresh }
 
 -- ---- behind its lock
 

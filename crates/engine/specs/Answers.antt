@@ -1,5 +1,5 @@
 -- What a request enters and answers.
-use Rattle.std.specs.Prelude.{◌≡◌, ◌⊎◌, ◌<◌, ◌≤◌, ◌+◌, ℕ, List, [], ◌∷◌, ◌++◌, length, Some, Result, Ok, Err, Bool, true, false, IsTrue}
+use Rattle.std.specs.Prelude.{◌≡◌, ◌⊎◌, ◌<◌, ◌≤◌, ◌+◌, ℕ, List, [], ◌∷◌, ◌++◌, length, Some, None, Result, Ok, Err, Bool, true, false, IsTrue}
 use Rattle.std.specs.List.{list_all}
 use Rattle.std.specs.Option.{option_map}
 use Rattle.books.specs.Rights.{SessionClaim}
@@ -13,7 +13,7 @@ use Rattle.wal_record.specs.Chains.{tx_of}
 use Rattle.wal_record.specs.Checkpoints.{limit_of}
 use Rattle.wal_record.specs.Contents.{current}
 use Rattle.wal_record.specs.History.{life_log}
-use Rattle.wal_record.specs.Legal.{IsToldAs}
+use Rattle.wal_record.specs.Legal.{IsToldAs, untold}
 use Rattle.wal_record.specs.Locks.{Held}
 use Rattle.wal_record.specs.Sound.{used}
 use Rattle.wal_record.specs.declared.record.Record.{Record}
@@ -89,8 +89,7 @@ IsSplitOrNone [] = Unit {0}
 IsSplitOrNone (entries.Rec lsn (kinds.Split s) ∷ []) = Unit {0}
 IsSplitOrNone _ = ⊥
 
--- As the write behind these entries came, with the split of its leaf where it was split, two places were left, for it and
--- its undo.
+-- As the write behind these entries came, before the split of its leaf where it was split, two places were left.
 pub record HadPlaces (opening : List Record) (before : List Entry) : Type 0 where
   pub first : List Entry
   pub split : List Entry
@@ -103,8 +102,8 @@ abbrev pub HadRoom : List Record → List Entry → List Entry → Type 0
 HadRoom opening before (entries.Rec lsn r ∷ es) = HadPlaces opening before
 HadRoom opening before _ = Unit {0}
 
--- The history ends with the answer of the session's request, which stands here; its reply is that of the ordered map, and a
--- write was entered only where there was room.
+-- The history ends with the answer of the session's request, which stands here, and no write before it waits for its
+-- answer; its reply is that of the ordered map, and a write was entered only where there was room.
 pub record IsSaidAt (opens : List Record → Type 0) (s : SessionClaim) (request : Request) (h : List Entry) (a : Answered) : Type 0 where
   pub before : List Entry
   pub last : List Entry
@@ -113,6 +112,7 @@ pub record IsSaidAt (opens : List Record → Type 0) (s : SessionClaim) (request
   pub place : a.pos ≡ length h
   pub reply : (opening : List Record) → opens opening → IsReply (life_log opening before) request a.reply
   pub room : (opening : List Record) → opens opening → HadRoom opening before last
+  pub fresh : (opening : List Record) → opens opening → untold before ≡ None
 
 -- ---- refusals
 

@@ -87,7 +87,7 @@ module _ (opens : List Record → Type 0) (ledger sessions : LedgerName) (s : Se
       still_alone opens ledger sessions h (w.before ++ (lock_entries answers.granted s.tx (lock_of request) ++ (w.behind ++ answers.last))) (known_by x) (known_by y) alone begins w.gains
 
 told_one : (opens : List Record → Type 0) (s : SessionClaim) (request : Request) (h : List Entry) (a : Answered) → IsSaidAt opens s request h a → IsTold opens s.session s.tx request h a
-told_one opens s request h a said = record { before = said.before; own = said.last; is = said.is; tells = said.tells; place = said.place; reply = said.reply; room = said.room }
+told_one opens s request h a said = record { before = said.before; own = said.last; is = said.is; tells = said.tells; place = said.place; reply = said.reply; room = said.room; fresh = said.fresh }
 
 pub told : (opens : List Record → Type 0) (s : SessionClaim) (request : Request) (h : List Entry) (result : Result Answered Fault) → IfOk result (IsSaidAt opens s request h) → IfOk result (IsTold opens s.session s.tx request h)
 told opens s request h (Ok a) said = told_one opens s request h a said

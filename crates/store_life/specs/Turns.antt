@@ -1,5 +1,5 @@
 -- What each command of a life adds to its history, by its answer.
-use Rattle.std.specs.Prelude.{◌≡◌, ◌⊎◌, ◌<◌, ◌≤◌, ℕ, List, [], ◌∷◌, ◌++◌, length, Result, Ok, Err}
+use Rattle.std.specs.Prelude.{◌≡◌, ◌⊎◌, ◌<◌, ◌≤◌, ℕ, List, [], ◌∷◌, ◌++◌, length, None, Result, Ok, Err}
 use Rattle.std.specs.List.{All}
 use Rattle.books.specs.Rights.{SessionClaim}
 use Rattle.front.specs.Seen.{PassSeen}
@@ -9,6 +9,7 @@ use Rattle.store_model.specs.declared.reply.Outcome.TheVariants as outcomes
 use Rattle.store_model.specs.declared.request.Request.{Request}
 use Rattle.wal_record.specs.Checkpoints.{commits}
 use Rattle.wal_record.specs.History.{life_log}
+use Rattle.wal_record.specs.Legal.{untold}
 use Rattle.wal_record.specs.Locks.{Held}
 use Rattle.wal_record.specs.declared.record.Checkpoint.{Checkpoint}
 use Rattle.wal_record.specs.declared.record.Record.{Record}
@@ -58,8 +59,8 @@ pub record Asks (opens : List Record → Type 0) (session tx : ℕ) (request : R
   pub are : AreOwn session tx request result own
   pub among : Amid (IsBesideRequest (WasInWay opens h (lock_of request)) tx (lock_of request)) own entries
 
--- The history ends with the answer, which stands here; its reply is that of the ordered map of the contents before it, and a
--- write was entered only where there was room.
+-- The history ends with the answer, which stands here, and no write before it waits for its answer; its reply is that of
+-- the ordered map of the contents before it, and a write was entered only where there was room.
 pub record IsTold (opens : List Record → Type 0) (session tx : ℕ) (request : Request) (h : List Entry) (a : Answered) : Type 0 where
   pub before : List Entry
   pub own : List Entry
@@ -68,6 +69,7 @@ pub record IsTold (opens : List Record → Type 0) (session tx : ℕ) (request :
   pub place : a.pos ≡ length h
   pub reply : (opening : List Record) → opens opening → IsReply (life_log opening before) request a.reply
   pub room : (opening : List Record) → opens opening → HadRoom opening before own
+  pub fresh : (opening : List Record) → opens opening → untold before ≡ None
 
 -- ---- commit
 
