@@ -46,7 +46,7 @@ pub fn read_log<L: Disk>(alloc: Global, disk: L) -> Result<ListedLog<L>, NotOpen
     ensures read { IfOk result (λ log. L.tells → IsRead L.told L.may_leave disk log.log.log) }
     // a refusal for the log's sake is seen in the bytes that the disk still has,
     ensures shows { IfErr result (λ r. L.tells → ShowsWhy (L.told r.disk) r.why) }
-    // and these stay as they were, now and after a crash.
+    // and these stay, or stand for the same blocks, now and after a crash.
     ensures bytes { IfErr result (λ r. L.tells → StaysSame L.told L.may_leave disk r.disk) }
     ensures cause { IfErr result (λ r. RoseForWhy (L.faults disk) (L.faults r.disk) r.why) }
     ensures later { MatchResult result (λ log. L.faults disk ≤ L.faults log.log.log.device) (λ r. L.faults disk ≤ L.faults r.disk) }
