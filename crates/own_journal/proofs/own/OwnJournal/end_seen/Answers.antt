@@ -1,4 +1,4 @@
-use Rattle.std.proofs.Common.{None, Some, ap, sym, ◌∙◌}
+use Rattle.std.proofs.Common.{None, ap, sym, ◌∙◌}
 use Rattle.journal.specs.State.{JournalState}
 use Rattle.own_journal.proofs.Telling.{knew}
 use Rattle.own_journal.proofs.own.OwnJournal.end_seen.Goals as goal

@@ -1,0 +1,6 @@
+pub mod Called
+pub mod Committed
+pub mod Going
+pub mod Named
+pub mod Numbered
+pub mod Surveyed
