@@ -40,7 +40,7 @@ fn two_lives(rt: &HostRuntime, alloc: Global, operators: &Operators) -> io::Resu
     };
     for script in [FIRST, SECOND] {
         let mut source = MemSource::new(alloc, script.as_bytes().to_vec(alloc)?);
-        let (status, left) = run_words(alloc, &[], &mut source, &mut sink, devices, operators);
+        let (status, left) = run_words(rt, alloc, &[], &mut source, &mut sink, devices, operators);
         if status != Status::Done {
             return Ok(ExitCode::from(status.code()));
         }

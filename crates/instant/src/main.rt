@@ -153,7 +153,9 @@ fn run_with<L: Disk + Drop, P: PageDevice + Drop, V: Vault + Drop>(
         writer: rt.stdout(),
         faults: 0,
     };
-    let (status, _devices) = run_words(alloc, words, &mut source, &mut sink, devices, &operators);
+    let (status, _devices) = run_words(
+        rt, alloc, words, &mut source, &mut sink, devices, &operators,
+    );
     Ok(status)
 }
 

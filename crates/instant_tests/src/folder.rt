@@ -21,7 +21,9 @@ fn run(rt: &HostRuntime, path: &str, script: &str) -> Result<(Status, Vec<u8>), 
     let mut source = MemSource::new(alloc, script.as_bytes().to_vec(alloc)?);
     let mut sink = MemSink::new(alloc);
     let operators = boxed_operators!(alloc);
-    let (status, _devices) = run_words(alloc, &[], &mut source, &mut sink, devices, &operators);
+    let (status, _devices) = run_words(
+        rt, alloc, &[], &mut source, &mut sink, devices, &operators,
+    );
     Ok((status, sink.bytes().to_vec(alloc)?))
 }
 

@@ -1,8 +1,8 @@
 //! A format that a fuse of the log disk refuses, and a stop.
 
-use crate::fixture::{blank, run};
+use media_mem::MemDisk;
 use runner::Status;
-use std::alloc::Global;
+use script_runs::run;
 use std::test::Fail;
 
 /// So many calls of a format pass, and a stop keeps so many of the bytes written since the last sync.
@@ -20,13 +20,14 @@ impl Cut {
     }
 }
 
-fn try_cut(alloc: Global, cut: Cut) -> Result<(), Fail> {
+fn try_cut(rt: &HostRuntime, cut: Cut) -> Result<(), Fail> {
     let Cut { passes, keep } = cut;
+    let alloc = rt.alloc();
     let script = format!(in alloc; "fuse log {passes}\nformat\nstop {keep}\n")?;
-    let first = run(alloc, &script, blank(alloc))?;
-    let open = run(alloc, "open\n", first.devices)?;
-    let format = run(alloc, "format\n", open.devices)?;
-    let last = run(alloc, "open\n", format.devices)?;
+    let first = run(rt, alloc, &script, MemDisk::new(alloc))?;
+    let open = run(rt, alloc, "open\n", first.log)?;
+    let format = run(rt, alloc, "format\n", open.log)?;
+    let last = run(rt, alloc, "open\n", format.log)?;
     let (opened, formatted) = if cut.is_formatted() {
         (Status::Done, Status::AlreadyFormatted)
     } else {
@@ -47,7 +48,7 @@ fn try_cut(alloc: Global, cut: Cut) -> Result<(), Fail> {
 fn a_format_that_was_cut_is_none_or_whole(rt: HostRuntime) -> Result<(), Fail> {
     for passes in 0..=7 {
         for keep in 0..=29 {
-            try_cut(rt.alloc(), Cut { passes, keep })?;
+            try_cut(&rt, Cut { passes, keep })?;
         }
     }
     Ok(())

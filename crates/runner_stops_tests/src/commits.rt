@@ -1,7 +1,8 @@
 //! Three transactions, a fuse of the log disk that blows in one of their commits or in none, and a stop.
 ghost use Rattle.std.specs.Prelude.{◌≤◌};
 
-use crate::fixture::{blank, is_done, run};
+use media_mem::MemDisk;
+use script_runs::{is_done, run};
 use std::alloc::Global;
 use std::ops::Range;
 use std::test::Fail;
@@ -59,7 +60,12 @@ fn printed_next(alloc: Global, left: usize) -> Result<String, Fail> {
     )?)
 }
 
-/// After the opening a fuse lets so many calls of the log disk pass. Behind the transactions, or the one whose commit
+/// The get brings the page of the four keys to memory, so that behind it commits alone call the disk.
+const BEFORE: &str = "format\nopen\nbegin R\nget R v\n";
+
+const BEFORE_PRINTED: &str = "format ok\nopen commits=0 losers=0\nR begin\nR get v none\n";
+
+/// Then a fuse lets so many calls of the log disk pass. Behind the transactions, or the one whose commit
 /// it refused, a stop keeps so many of the bytes written since the last sync.
 #[derive(Clone, Copy)]
 struct Cut {
@@ -87,7 +93,7 @@ impl Cut {
 
     /// The first life and its stop. A transaction whose commit was refused asks once more, and none begins behind it.
     fn script(&self, alloc: Global) -> Result<String, Fail> {
-        let mut script = format!(in alloc; "format\nopen\nfuse log {}\n", self.passes)?;
+        let mut script = format!(in alloc; "{BEFORE}fuse log {}\n", self.passes)?;
         let acknowledged = self.acknowledged();
         for transaction in TRANSACTIONS.iter().take(acknowledged + 1) {
             script.push_str(transaction.lines)?;
@@ -101,10 +107,7 @@ impl Cut {
 
     /// What it prints. The life ends at the last acknowledged Commit; each transaction has four records, and a format one.
     fn printed(&self, alloc: Global) -> Result<String, Fail> {
-        let mut printed = format!(in alloc;
-            "format ok\nopen commits=0 losers=0\nfuse log {}\n",
-            self.passes
-        )?;
+        let mut printed = format!(in alloc; "{BEFORE_PRINTED}fuse log {}\n", self.passes)?;
         let acknowledged = self.acknowledged();
         for (number, transaction) in (1u32..).zip(TRANSACTIONS.iter().take(acknowledged)) {
             printed.push_str(transaction.printed)?;
@@ -120,11 +123,12 @@ impl Cut {
     }
 }
 
-fn try_cut(alloc: Global, cut: Cut) -> Result<(), Fail> {
-    let first = run(alloc, &cut.script(alloc)?, blank(alloc))?;
-    let is_first = is_done(&first, &cut.printed(alloc)?);
-    let next = run(alloc, NEXT, first.devices)?;
-    if is_first && is_done(&next, &printed_next(alloc, cut.left())?) {
+fn try_cut(rt: &HostRuntime, cut: Cut) -> Result<(), Fail> {
+    let alloc = rt.alloc();
+    let first = run(rt, alloc, &cut.script(alloc)?, MemDisk::new(alloc))?;
+    let is_first = is_done(alloc, &first, &cut.printed(alloc)?)?;
+    let next = run(rt, alloc, NEXT, first.log)?;
+    if is_first && is_done(alloc, &next, &printed_next(alloc, cut.left())?)? {
         return Ok(());
     }
     let Cut { passes, keep } = cut;
@@ -132,28 +136,28 @@ fn try_cut(alloc: Global, cut: Cut) -> Result<(), Fail> {
 }
 
 /// These calls are refused first, and of a block's bytes all are kept, or fewer.
-fn try_each(alloc: Global, refused: Range<usize>) -> Result<(), Fail> {
+fn try_each(rt: &HostRuntime, refused: Range<usize>) -> Result<(), Fail> {
     for passes in refused {
         for keep in 0..=LONGEST {
-            try_cut(alloc, Cut { passes, keep })?;
+            try_cut(rt, Cut { passes, keep })?;
         }
-        try_cut(alloc, Cut { passes, keep: 4096 })?;
+        try_cut(rt, Cut { passes, keep: 4096 })?;
     }
     Ok(())
 }
 
 #[test]
 fn a_stop_in_the_first_commit_keeps_none_or_one(rt: HostRuntime) -> Result<(), Fail> {
-    try_each(rt.alloc(), 0..4)
+    try_each(&rt, 0..4)
 }
 
 #[test]
 fn a_stop_in_the_second_commit_keeps_one_or_two(rt: HostRuntime) -> Result<(), Fail> {
-    try_each(rt.alloc(), 4..8)
+    try_each(&rt, 4..8)
 }
 
 /// The fuse of twelve calls doesn't blow.
 #[test]
 fn a_stop_in_the_third_commit_or_behind_it_keeps_two_or_three(rt: HostRuntime) -> Result<(), Fail> {
-    try_each(rt.alloc(), 8..13)
+    try_each(&rt, 8..13)
 }
