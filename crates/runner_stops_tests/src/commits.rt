@@ -5,6 +5,7 @@ use media_mem::MemDisk;
 use script_runs::{is_done, run};
 use std::alloc::Global;
 use std::ops::Range;
+use std::sync::Wait;
 use std::test::Fail;
 
 /// A transaction of three puts, and what it prints, but for the answer of its commit.
@@ -123,8 +124,7 @@ impl Cut {
     }
 }
 
-fn try_cut(rt: &HostRuntime, cut: Cut) -> Result<(), Fail> {
-    let alloc = rt.alloc();
+fn try_cut<R: Wait>(rt: &R, alloc: Global, cut: Cut) -> Result<(), Fail> {
     let first = run(rt, alloc, &cut.script(alloc)?, MemDisk::new(alloc))?;
     let is_first = is_done(alloc, &first, &cut.printed(alloc)?)?;
     let next = run(rt, alloc, NEXT, first.log)?;
@@ -136,28 +136,28 @@ fn try_cut(rt: &HostRuntime, cut: Cut) -> Result<(), Fail> {
 }
 
 /// These calls are refused first, and of a block's bytes all are kept, or fewer.
-fn try_each(rt: &HostRuntime, refused: Range<usize>) -> Result<(), Fail> {
+fn try_each<R: Wait>(rt: &R, alloc: Global, refused: Range<usize>) -> Result<(), Fail> {
     for passes in refused {
         for keep in 0..=LONGEST {
-            try_cut(rt, Cut { passes, keep })?;
+            try_cut(rt, alloc, Cut { passes, keep })?;
         }
-        try_cut(rt, Cut { passes, keep: 4096 })?;
+        try_cut(rt, alloc, Cut { passes, keep: 4096 })?;
     }
     Ok(())
 }
 
 #[test]
 fn a_stop_in_the_first_commit_keeps_none_or_one(rt: HostRuntime) -> Result<(), Fail> {
-    try_each(&rt, 0..4)
+    try_each(&rt, rt.alloc(), 0..4)
 }
 
 #[test]
 fn a_stop_in_the_second_commit_keeps_one_or_two(rt: HostRuntime) -> Result<(), Fail> {
-    try_each(&rt, 4..8)
+    try_each(&rt, rt.alloc(), 4..8)
 }
 
 /// The fuse of twelve calls doesn't blow.
 #[test]
 fn a_stop_in_the_third_commit_or_behind_it_keeps_two_or_three(rt: HostRuntime) -> Result<(), Fail> {
-    try_each(&rt, 8..13)
+    try_each(&rt, rt.alloc(), 8..13)
 }

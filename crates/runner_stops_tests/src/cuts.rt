@@ -4,6 +4,7 @@
 use media_mem::MemDisk;
 use script_runs::{Ran, is_done, run};
 use std::alloc::Global;
+use std::sync::Wait;
 use std::test::Fail;
 
 /// A page with fifteen rows is split for the sixteenth.
@@ -160,8 +161,13 @@ impl<'a> Life<'a> {
     }
 
     /// The fuse blows at each call in turn, until it blows at none. Each time the next life finds what is left.
-    fn try_each(&self, rt: &HostRuntime, bytes: &[u8], keep: u64) -> Result<(), Fail> {
-        let alloc = rt.alloc();
+    fn try_each<R: Wait>(
+        &self,
+        rt: &R,
+        alloc: Global,
+        bytes: &[u8],
+        keep: u64,
+    ) -> Result<(), Fail> {
         let (mut line, mut times) = (0, 0);
         for calls in 0..100 {
             let script = self.script(alloc, calls, keep)?;
@@ -193,14 +199,19 @@ impl<'a> Life<'a> {
 #[test]
 fn a_stop_at_each_call_leaves_what_was_acknowledged(rt: HostRuntime) -> Result<(), Fail> {
     for keep in [0, 4096] {
-        FIRST.try_each(&rt, &[], keep)?;
+        FIRST.try_each(&rt, rt.alloc(), &[], keep)?;
     }
     Ok(())
 }
 
 /// The second life undoes the losers as it reads all, and a stop comes at each of its calls.
-fn try_second(rt: &HostRuntime, bytes: &[u8], left: usize, durable: u64) -> Result<(), Fail> {
-    let alloc = rt.alloc();
+fn try_second<R: Wait>(
+    rt: &R,
+    alloc: Global,
+    bytes: &[u8],
+    left: usize,
+    durable: u64,
+) -> Result<(), Fail> {
     let (losers, undone, pages) = LEFT.get(left).copied().unwrap_or((0, 0, 0));
     let before_printed = format!(in alloc; "open commits={left} losers={losers}\nQ begin\n")?;
     let pairs = pairs_shown(alloc, left)?;
@@ -218,8 +229,8 @@ fn try_second(rt: &HostRuntime, bytes: &[u8], left: usize, durable: u64) -> Resu
         durable: [durable; 4],
         left: Some(left),
     };
-    second.try_each(rt, bytes, 0)?;
-    second.try_each(rt, bytes, 4096)
+    second.try_each(rt, alloc, bytes, 0)?;
+    second.try_each(rt, alloc, bytes, 4096)
 }
 
 #[test]
@@ -233,7 +244,7 @@ fn a_stop_at_each_call_of_an_undo_leaves_the_same(rt: HostRuntime) -> Result<(),
         let script = first.script(alloc, 100, 0)?;
         let ran = run(&rt, alloc, &script, MemDisk::new(alloc))?;
         assert!(rt; is_done(alloc, &ran, &first.printed(alloc, 100, lines)?)?);
-        try_second(&rt, ran.log.bytes(), left, durable)?;
+        try_second(&rt, alloc, ran.log.bytes(), left, durable)?;
     }
     Ok(())
 }

@@ -3,6 +3,8 @@
 use media_mem::MemDisk;
 use runner::Status;
 use script_runs::run;
+use std::alloc::Global;
+use std::sync::Wait;
 use std::test::Fail;
 
 /// So many calls of a format pass, and a stop keeps so many of the bytes written since the last sync.
@@ -20,9 +22,8 @@ impl Cut {
     }
 }
 
-fn try_cut(rt: &HostRuntime, cut: Cut) -> Result<(), Fail> {
+fn try_cut<R: Wait>(rt: &R, alloc: Global, cut: Cut) -> Result<(), Fail> {
     let Cut { passes, keep } = cut;
-    let alloc = rt.alloc();
     let script = format!(in alloc; "fuse log {passes}\nformat\nstop {keep}\n")?;
     let first = run(rt, alloc, &script, MemDisk::new(alloc))?;
     let open = run(rt, alloc, "open\n", first.log)?;
@@ -48,7 +49,7 @@ fn try_cut(rt: &HostRuntime, cut: Cut) -> Result<(), Fail> {
 fn a_format_that_was_cut_is_none_or_whole(rt: HostRuntime) -> Result<(), Fail> {
     for passes in 0..=7 {
         for keep in 0..=29 {
-            try_cut(&rt, Cut { passes, keep })?;
+            try_cut(&rt, rt.alloc(), Cut { passes, keep })?;
         }
     }
     Ok(())

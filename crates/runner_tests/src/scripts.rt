@@ -4,6 +4,8 @@ ghost use Rattle.std.specs.Prelude.{◌≡◌};
 use media_mem::MemDisk;
 use runner::Status;
 use script_runs::{Ran, run_on};
+use std::alloc::Global;
+use std::sync::Wait;
 use std::test::Fail;
 
 /// A script with one transaction, and its transcript.
@@ -13,26 +15,26 @@ const APPLE_PRINTED: &str = "format ok\nopen commits=0 losers=0\n\
     A begin\nA put apple was none\nA get apple = 1\nA commit 1\n";
 
 /// Runs a script on blank devices, of which the calls with these numbers fail.
-fn run_failing(
-    rt: &HostRuntime,
+fn run_failing<R: Wait>(
+    rt: &R,
+    alloc: Global,
     script: &str,
     reads: u64,
     writes: u64,
     calls: u64,
 ) -> Result<Ran, Fail> {
-    let alloc = rt.alloc();
     let log = MemDisk::failing(alloc, vec![in alloc; calls]?);
     run_on(rt, alloc, script, reads, writes, log)
 }
 
 /// How a script on blank devices ends.
-fn ends(rt: &HostRuntime, script: &str) -> Result<Status, Fail> {
-    Ok(run_failing(rt, script, 0, 0, 0)?.status)
+fn ends<R: Wait>(rt: &R, alloc: Global, script: &str) -> Result<Status, Fail> {
+    Ok(run_failing(rt, alloc, script, 0, 0, 0)?.status)
 }
 
 #[test]
 fn an_empty_script_prints_nothing(rt: HostRuntime) -> Result<(), Fail> {
-    let ran = run_failing(&rt, "", 0, 0, 0)?;
+    let ran = run_failing(&rt, rt.alloc(), "", 0, 0, 0)?;
     assert_eq!(rt; ran.status, Status::Done);
     assert!(rt; ran.printed.is_empty() && ran.log.bytes().is_empty());
     Ok(())
@@ -40,7 +42,7 @@ fn an_empty_script_prints_nothing(rt: HostRuntime) -> Result<(), Fail> {
 
 #[test]
 fn a_put_is_read_and_committed(rt: HostRuntime) -> Result<(), Fail> {
-    let ran = run_failing(&rt, APPLE, 0, 0, 0)?;
+    let ran = run_failing(&rt, rt.alloc(), APPLE, 0, 0, 0)?;
     assert_eq!(rt; ran.status, Status::Done);
     assert_eq!(rt; ran.printed.as_str(), APPLE_PRINTED);
     assert_eq!(rt;
@@ -60,7 +62,7 @@ fn a_key_has_at_most_64_bytes_and_a_value_256(rt: HostRuntime) -> Result<(), Fai
         "format ok\nopen commits=0 losers=0\nA begin\nA put {:K>64} was none\nA put k was none\n",
         ""
     )?;
-    let ran = run_failing(&rt, &script, 0, 0, 0)?;
+    let ran = run_failing(&rt, rt.alloc(), &script, 0, 0, 0)?;
     assert_eq!(rt; ran.status, Status::Script { line: 6 });
     assert_eq!(rt; ran.printed.as_str(), printed.as_str());
     Ok(())
@@ -111,21 +113,29 @@ const UNBUILT: [&str; 14] = [
 #[test]
 fn lines_end_a_run(rt: HostRuntime) -> Result<(), Fail> {
     for (script, line) in UNLAWFUL {
-        assert_eq!(rt; ends(&rt, script)?, Status::Script { line }, "{script}");
+        assert_eq!(rt;
+            ends(&rt, rt.alloc(), script)?,
+            Status::Script { line },
+            "{script}"
+        );
     }
     for word in UNBUILT {
         let script = format!(in rt.alloc(); "format\nopen\n{word}\n")?;
-        assert_eq!(rt; ends(&rt, &script)?, Status::NotBuilt { line: 3 }, "{word}");
+        assert_eq!(rt;
+            ends(&rt, rt.alloc(), &script)?,
+            Status::NotBuilt { line: 3 },
+            "{word}"
+        );
     }
     Ok(())
 }
 
 #[test]
 fn an_empty_log_is_not_opened_and_a_used_one_not_formatted(rt: HostRuntime) -> Result<(), Fail> {
-    let ran = run_failing(&rt, "open\n", 0, 0, 0)?;
+    let ran = run_failing(&rt, rt.alloc(), "open\n", 0, 0, 0)?;
     assert_eq!(rt; ran.status, Status::NotFormatted);
     assert!(rt; ran.printed.is_empty() && ran.log.bytes().is_empty());
-    let ran = run_failing(&rt, "format\nformat\n", 0, 0, 0)?;
+    let ran = run_failing(&rt, rt.alloc(), "format\nformat\n", 0, 0, 0)?;
     assert_eq!(rt; ran.status, Status::AlreadyFormatted);
     assert_eq!(rt; ran.printed.as_str(), "format ok\n");
     Ok(())
@@ -134,22 +144,25 @@ fn an_empty_log_is_not_opened_and_a_used_one_not_formatted(rt: HostRuntime) -> R
 #[test]
 fn a_fault_ends_a_run_where_it_comes(rt: HostRuntime) -> Result<(), Fail> {
     assert_eq!(rt;
-        run_failing(&rt, APPLE, 1, 0, 0)?.status,
+        run_failing(&rt, rt.alloc(), APPLE, 1, 0, 0)?.status,
         Status::SourceFault
     );
     for write in 1..=6 {
-        let ran = run_failing(&rt, APPLE, 0, write, 0)?;
+        let ran = run_failing(&rt, rt.alloc(), APPLE, 0, write, 0)?;
         assert_eq!(rt; ran.status, Status::SinkFault);
         assert!(rt; APPLE_PRINTED.starts_with(ran.printed.as_str()));
     }
     // A format syncs, closes the first gate in two calls and writes its block in four; an open syncs and reads two headers
     // and a payload; the put reads the payload again, for its page; a commit is four calls.
     for call in 1..=16 {
-        let ran = run_failing(&rt, APPLE, 0, 0, call)?;
+        let ran = run_failing(&rt, rt.alloc(), APPLE, 0, 0, call)?;
         assert_eq!(rt; ran.status, Status::LogFault, "call {call}");
         assert!(rt; APPLE_PRINTED.starts_with(ran.printed.as_str()));
     }
-    assert_eq!(rt; run_failing(&rt, APPLE, 0, 0, 30)?.status, Status::Done);
+    assert_eq!(rt;
+        run_failing(&rt, rt.alloc(), APPLE, 0, 0, 30)?.status,
+        Status::Done
+    );
     Ok(())
 }
 

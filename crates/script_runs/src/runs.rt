@@ -11,6 +11,7 @@ use std::sync::Wait;
 use std::test::Fail;
 
 /// A script, and what it prints. The value V, at the end of a line of either, stands for 256 letters v.
+#[derive(Clone, Copy)]
 pub struct Case {
     pub script: &'static str,
     pub printed: &'static str,
