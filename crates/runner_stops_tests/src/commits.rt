@@ -61,8 +61,9 @@ fn printed_next(alloc: Global, left: usize) -> Result<String, Fail> {
     )?)
 }
 
-/// The get brings the page of the four keys to memory, so that behind it commits alone call the disk.
-const BEFORE: &str = "format\nopen\nbegin R\nget R v\n";
+/// The get brings the page of the four keys to memory, so that behind it commits alone call the disk. A store with few
+/// places is opened in less time, and this is one of some thousands.
+const BEFORE: &str = "format 16\nopen\nbegin R\nget R v\n";
 
 const BEFORE_PRINTED: &str = "format ok\nopen commits=0 losers=0\nR begin\nR get v none\n";
 

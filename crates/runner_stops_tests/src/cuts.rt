@@ -8,7 +8,7 @@ use std::sync::Wait;
 use std::test::Fail;
 
 /// A page with fifteen rows is split for the sixteenth.
-const BEFORE: &str = "format\nopen\nbegin A\nbegin B\nbegin C\nbegin D\nbegin L\n\
+const BEFORE: &str = "format 64\nopen\nbegin A\nbegin B\nbegin C\nbegin D\nbegin L\n\
     put A a V\nput A b V\nput A c V\nput A d V\nput A e V\nput A f V\nput A g V\nput A h V\nput A i V\n\
     put A j V\nput A k V\nput A l V\nput A m V\nput A n V\nput A o V\nput A p V\n";
 
@@ -168,7 +168,7 @@ impl<'a> Life<'a> {
         bytes: &[u8],
         keep: u64,
     ) -> Result<(), Fail> {
-        let (mut line, mut times) = (0, 0);
+        let (mut line, mut times) = (0usize, 0u32);
         for calls in 0..100 {
             let script = self.script(alloc, calls, keep)?;
             let ran = run(rt, alloc, &script, MemDisk::with_bytes(alloc, bytes)?)?;

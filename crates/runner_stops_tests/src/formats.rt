@@ -24,10 +24,10 @@ impl Cut {
 
 fn try_cut<R: Wait>(rt: &R, alloc: Global, cut: Cut) -> Result<(), Fail> {
     let Cut { passes, keep } = cut;
-    let script = format!(in alloc; "fuse log {passes}\nformat\nstop {keep}\n")?;
+    let script = format!(in alloc; "fuse log {passes}\nformat 8\nstop {keep}\n")?;
     let first = run(rt, alloc, &script, MemDisk::new(alloc))?;
     let open = run(rt, alloc, "open\n", first.log)?;
-    let format = run(rt, alloc, "format\n", open.log)?;
+    let format = run(rt, alloc, "format 8\n", open.log)?;
     let last = run(rt, alloc, "open\n", format.log)?;
     let (opened, formatted) = if cut.is_formatted() {
         (Status::Done, Status::AlreadyFormatted)
