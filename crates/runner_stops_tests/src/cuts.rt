@@ -238,7 +238,7 @@ fn a_stop_at_each_call_of_an_undo_leaves_the_same(rt: HostRuntime) -> Result<(),
     let alloc = rt.alloc();
     for (lines, left, durable) in [(6, 2, 26), (11, 3, 31)] {
         let first = Life {
-            lines: LINES.split_at(lines).0,
+            lines: LINES.split_at(lines.min(LINES.len())).0,
             ..FIRST
         };
         let script = first.script(alloc, 100, 0)?;

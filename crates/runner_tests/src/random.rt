@@ -71,16 +71,17 @@ impl Expected {
 
     /// The transaction is taken back.
     fn abort(&mut self, alloc: Global, number: u64) -> Result<(), Fail> {
-        while let Some((key, old)) = self.before.pop() {
+        for (key, old) in self.before.iter().rev() {
             match old {
                 Some(value) => {
-                    self.map.insert(key, value)?;
+                    self.map.insert(*key, *value)?;
                 }
                 None => {
-                    self.map.remove(&key);
+                    self.map.remove(key);
                 }
             }
         }
+        self.before.clear();
         self.script
             .push_str(&format!(in alloc; "abort T{number}\n")?)?;
         self.printed
