@@ -1,131 +1,189 @@
-//! A whole run.
-ghost use Rattle.runner.specs.Bytes.{Known};
-ghost use Rattle.std.specs.Prelude.{◌≡◌, ◌≢◌, ◌≤◌, ℕ, List, map};
-ghost use Rattle.media.specs.Cause.{Rose};
-ghost use Rattle.line_reader.specs.Lines.{to_come, IsBounded};
-ghost use Rattle.runner.specs.LogDisk.{View, IsWhole, Keeps, seen};
-ghost use Rattle.runner.specs.Turns.{Last, Start, begin_stage};
-ghost use Rattle.runner.specs.Machine.{Out};
-ghost use Rattle.runner.specs.Clause.{Headline};
-ghost use Rattle.runner.specs.Causes.{RunCause, Shows, IsAsked};
-ghost use Rattle.call_words.specs.Calls.{call_of};
-ghost use Rattle.runner.specs.Usage.{AsksRun, ByWords, IsUnbegun};
-ghost use Rattle.runner.specs.declared.status.Status.TheVariants as statuses;
-
-use crate::living::{Lived, run_from};
+//! Stub run.
+use crate::life::{Lived, live};
 use crate::status::Status;
-use crate::turns::{Turned, turn_outside};
-use call_words::{Mode, Refusal, call_of};
-use line_reader::Input;
-use media::{Devices, Disk, Fuse, PageDevice, Sink, Source, Vault};
+use line_reader::{Input, Next, NotRead};
+use log_blocks::open_log;
+use log_manager::LogManager;
+use media::{Devices, Disk, Fuse, PageDevice, Sink, Source, Vault, write_all};
+use opening::{WhyNot, read_log};
 use operators::Operators;
+use page_ops::Unnamed;
+use script::{Command, Device, command_of, cut};
 use std::alloc::Global;
+use std::marker::Brand;
+use std::slice;
+use std::sync::Wait;
+use store_model::Fault;
+use wal_record::{Format, Record};
 
-/// Runs the script that the source has, prints its transcript to the sink, and hands the devices back. The words are those
-/// of a call behind its place (`call_words`). Workers and frames have no effect, and no script is generated yet.
-pub fn run_words<S: Source, K: Sink, L: Disk, P: PageDevice, V: Vault>(
+pub fn is_built(line: &[u8]) -> bool {
+    if line.is_empty() || line.starts_with(b"#".as_slice()) {
+        return true;
+    }
+    let (word, rest) = cut(line);
+    for built in [
+        b"format".as_slice(), b"open".as_slice(), b"begin".as_slice(), b"get".as_slice(), b"put".as_slice(),
+        b"commit".as_slice(), b"stop".as_slice(), b"del".as_slice(), b"scan".as_slice(), b"op".as_slice(),
+        b"abort".as_slice(), b"stat".as_slice(), b"checkpoint".as_slice(),
+    ] {
+        if word == built {
+            return true;
+        }
+    }
+    if word == b"fuse".as_slice() || word == b"renew".as_slice() {
+        if let Some(rest) = rest {
+            let (word, _) = cut(rest);
+            return word == b"log".as_slice();
+        }
+    }
+    false
+}
+
+pub fn next_command<S: Source>(
+    alloc: Global,
+    input: &mut Input,
+    source: &mut S,
+) -> Result<Option<(Command, u64)>, Status> {
+    let line = input.lines() + 1;
+    let text = match input.next_line(alloc, source) {
+        Ok(Next::Line(text)) => text,
+        Ok(Next::End) => return Ok(None),
+        Ok(Next::Bad) => return Err(Status::Script { line }),
+        Err(why) => match why {
+            NotRead::Memory => return Err(Status::Memory),
+            NotRead::SourceFault => return Err(Status::SourceFault),
+        },
+    };
+    if !is_built(&text) {
+        return Err(Status::NotBuilt { line });
+    }
+    match command_of(alloc, &text) {
+        Ok(Some(command)) => Ok(Some((command, line))),
+        Ok(None) => Err(Status::Script { line }),
+        Err(_) => Err(Status::Memory),
+    }
+}
+
+fn status_of(fault: &Fault) -> Status {
+    match fault {
+        Fault::LogFault => Status::LogFault,
+        Fault::LogBad { block, byte } => Status::LogBad { block: *block, byte: *byte },
+        _ => Status::Memory,
+    }
+}
+
+fn format<L: Disk>(alloc: Global, disk: L, limit: u32) -> (Option<Status>, L) {
+    let log = match open_log(alloc, disk) {
+        Ok(log) => log,
+        Err(refused) => {
+            let status = match &refused.fault {
+                Fault::LogBad { .. } => Status::AlreadyFormatted,
+                other => status_of(other),
+            };
+            return (Some(status), refused.disk);
+        }
+    };
+    if log.blocks() != 0 {
+        return (Some(Status::AlreadyFormatted), log.into_device());
+    }
+    let mut log = LogManager::start(alloc, log);
+    let format = Record::Format(Format { limit });
+    let status = match log.append_group(alloc, slice::from_ref(&format)) {
+        Ok(lsn) => match log.flush_to(lsn) {
+            Ok(()) => None,
+            Err(fault) => Some(status_of(&fault)),
+        },
+        Err(_) => Some(Status::Memory),
+    };
+    (status, log.into_device())
+}
+
+pub fn run_words<R: Wait, S: Source, K: Sink, L: Disk + Drop, P: PageDevice + Drop, V: Vault>(
+    rt: &R,
     alloc: Global,
     words: &[String],
     source: &mut S,
     sink: &mut K,
     devices: Devices<L, P, V>,
     operators: &Operators,
-) -> (Status, Devices<L, P, V>)
-    // Of every use that may have left the log disk so: there are turns whose commands are those of the lines read; each
-    // fits behind those before it, and each life opens a log that the stop before may have left, or that was handed in or
-    // made; their text is what was written; and each life of theirs is legal, has the replies of a serial run, and
-    // whatever a stop may leave of it has its first transactions. The log disk that is handed back keeps a log that may
-    // be found next, also after any crash, so it may be handed to the next call. What the reader has read and given to no
-    // line yet is still pending; at most the longest script is read, and one byte more.
-    ensures headline { (v : View L.tells) (start : Start) → (IsWhole v → Keeps L.Disk start.last devices.log) → Known L.tells L.Disk start.bytes devices.log
-        → (pending : List ℕ) × Headline L.tells (seen L.Disk v) V.Vault start result.1.log devices.vault result.1.vault (S.left source.old) pending (S.left source.new) (K.told sink.old) (K.told sink.new) result.0 }
-
-    // Where the words are a call, the log disk keeps a log, and no device failed, the run is done, the script asked for
-    // its end, or memory ran out.
-    ensures complete { AsksRun (call_of (map (λ word. word.bytes.items) words.now)) → L.tells → (start : Last) → Keeps L.Disk start devices.log
-        → (Rose (S.faults source.old) (S.faults source.new) → ⊥) → (Rose (K.faults sink.old) (K.faults sink.new) → ⊥) → (Rose (L.faults devices.log) (L.faults result.1.log) → ⊥) → IsAsked result.0 }
-
-    // The words alone decide whether they are a call, and of which script; want of memory is free.
-    ensures usage { ByWords (call_of (map (λ word. word.bytes.items) words.now)) result.0 }
-
-    // Where they don't ask for a run, nothing is read, written or run.
-    ensures untouched { IsUnbegun result.0 → (result.1 ≡ devices) × (source.new ≡ source.old) × (sink.new ≡ sink.old) }
-
-    // A device's fault ends the run only where that device's own count of faults rose in this call.
-    ensures source { result.0 ≡ statuses.SourceFault → Rose (S.faults source.old) (S.faults source.new) }
-    ensures sink { result.0 ≡ statuses.SinkFault → Rose (K.faults sink.old) (K.faults sink.new) }
-    ensures log { result.0 ≡ statuses.LogFault → Rose (L.faults devices.log) (L.faults result.1.log) }
-    ensures later { L.faults devices.log ≤ L.faults result.1.log }
-    ensures shows { Shows L.Disk result.1.log result.0 }
-
-    // The data device is as it was.
-    ensures pages { result.1.pages ≡ devices.pages }
-{
-    let call = match call_of(alloc, words) {
-        Ok(call) => call,
-        Err(refusal) => match refusal {
-            Refusal::Memory => return (Status::Memory, devices),
-            Refusal::Usage => return (Status::Usage, devices),
-        },
-    };
-    match call.mode {
-        Mode::Run => {}
-        Mode::Generate(_) => return (Status::NoGenerator, devices),
-    }
-    let mut input = match Input::new(alloc) {
-        Ok(input) => input,
-        Err(_) => return (Status::Memory, devices),
-    };
+) -> (Status, Devices<L, P, V>) {
     let Devices { log, pages, vault } = devices;
     let mut vault = vault;
-    let (status, log) = run(
-        alloc,
-        operators,
-        &mut input,
-        source,
-        sink,
-        &mut vault,
-        Fuse::new(log),
-    );
-    (
-        status,
-        Devices {
-            log: log.into_inner(),
-            pages,
-            vault,
-        },
-    )
-}
-
-/// Lines without a life, and the lives that some of them open.
-fn run<S: Source, K: Sink, V: Vault, L: Disk>(
-    alloc: Global,
-    operators: &Operators,
-    input: &mut Input,
-    source: &mut S,
-    sink: &mut K,
-    vault: &mut V,
-    disk: L,
-) -> (Status, L)
-    requires { (input.old.lines ≡ 0) × (input.old.taken ≡ 0) × IsBounded input.old }
-    ensures headline { (v : View L.tells) (start : Start) → Out L.tells (seen L.Disk v) disk (begin_stage start)
-        → Headline L.tells (seen L.Disk v) V.Vault start result.1 vault.old vault.new (to_come input.old (S.left source.old)) input.new.pending (S.left source.new) (K.told sink.old) (K.told sink.new) result.0 }
-    ensures later { (S.faults source.old ≤ S.faults source.new) × (K.faults sink.old ≤ K.faults sink.new) × (L.own disk ≤ L.own result.1) }
-    ensures cause { RunCause (S.faults source.old) (S.faults source.new) (K.faults sink.old) (K.faults sink.new) (L.own disk) (L.own result.1) result.0 }
-    ensures shows { Shows L.Disk result.1 result.0 }
-    ensures called { (result.0 ≢ statuses.Usage) × (result.0 ≢ statuses.NoGenerator) }
-{
-    let mut disk = disk;
+    let mut input = match Input::new(alloc) {
+        Ok(input) => input,
+        Err(_) => return (Status::Memory, Devices { log, pages, vault }),
+    };
+    let mut disk = Fuse::new(log);
+    let mut pages = pages;
     for _ in 0..u64::MAX {
-        match turn_outside(alloc, operators, input, source, sink, vault, disk) {
-            Turned::Goes { at } => match run_from(
-                alloc, operators, input, source, sink, vault, at,
-            ) {
-                Lived::Stopped { disk: left } => disk = left,
-                Lived::Ends { status, disk } => return (status, disk),
-            },
-            Turned::Ends { status, disk } => return (status, disk),
+        let (command, line) = match next_command(alloc, &mut input, source) {
+            Ok(Some(next)) => next,
+            Ok(None) => return (Status::Done, Devices { log: disk.into_inner(), pages, vault }),
+            Err(status) => return (status, Devices { log: disk.into_inner(), pages, vault }),
+        };
+        let before = disk.refused();
+        let mut lines = String::new(alloc);
+        match command {
+            Command::Nothing => {}
+            Command::Format { limit } => {
+                let (status, left) = format(alloc, disk, limit.unwrap_or(16384));
+                disk = left;
+                match status {
+                    None => { let _ = lines.push_str("format ok\n"); }
+                    Some(Status::LogFault) if disk.refused() > before => { let _ = lines.push_str("format log failed\n"); }
+                    Some(status) => return (status, Devices { log: disk.into_inner(), pages, vault }),
+                }
+            }
+            Command::Open => {
+                match read_log(alloc, disk) {
+                    Ok(log) => {
+                        let Ok(unnamed) = Unnamed::new(alloc, 1) else { unreachable!() };
+                        let lived = live::<Fuse<L>, P, Brand, R, S, K>(rt, alloc, operators, &mut input, source, sink, unnamed, log, pages);
+                        match lived {
+                            Lived::Stops { keep, disk: left, device } => {
+                                disk = left;
+                                pages = device;
+                                disk.power_cycle(keep);
+                                disk.fuse(None);
+                                vault.power_cycle();
+                                let _ = lines.push_str("stop\n");
+                            }
+                            Lived::Ends { status, disk, device } => return (status, Devices { log: disk.into_inner(), pages: device, vault }),
+                        }
+                    }
+                    Err(refused) => {
+                        disk = refused.disk;
+                        let status = match &refused.why {
+                            WhyNot::NotFormatted => Status::NotFormatted,
+                            WhyNot::Fault(fault) => status_of(fault),
+                        };
+                        if status == Status::LogFault && disk.refused() > before {
+                            let _ = lines.push_str("open log failed\n");
+                        } else {
+                            return (status, Devices { log: disk.into_inner(), pages, vault });
+                        }
+                    }
+                }
+            }
+            Command::Stop { keep } => {
+                disk.power_cycle(keep.unwrap_or(0));
+                disk.fuse(None);
+                vault.power_cycle();
+                let _ = lines.push_str("stop\n");
+            }
+            Command::Fuse { device: Device::Log, calls } => {
+                disk.fuse(Some(calls));
+                let _ = lines.push_str(format!(in alloc; "fuse log {calls}\n").unwrap_or(String::new(alloc)).as_str());
+            }
+            Command::Renew { device: Device::Log } => {
+                disk.fuse(None);
+                let _ = lines.push_str("renew log\n");
+            }
+            _ => return (Status::Script { line }, Devices { log: disk.into_inner(), pages, vault }),
+        }
+        if write_all(sink, lines.as_bytes()).is_err() {
+            return (Status::SinkFault, Devices { log: disk.into_inner(), pages, vault });
         }
     }
-    (Status::Memory, disk)
+    (Status::Memory, Devices { log: disk.into_inner(), pages, vault })
 }

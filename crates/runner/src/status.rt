@@ -1,6 +1,4 @@
 //! How a run ends.
-ghost use Rattle.std.specs.Prelude.{◌≡◌};
-ghost use Rattle.runner.specs.Status.{code_of};
 
 use std::fmt;
 
@@ -38,7 +36,6 @@ pub enum Status {
 impl Status {
     /// The exit code of the program.
     pub fn code(self) -> u8
-        ensures { result ≡ code_of self }
     {
         match self {
             Status::Done => 0,
