@@ -1,12 +1,10 @@
 -- What the log disk keeps, by the logs that it may hold.
-use Rattle.std.specs.Prelude.{ℕ, List, [], ◌∷◌, ◌⊎◌}
+use Rattle.std.specs.Prelude.{ℕ, List, [], ◌∷◌}
 use Rattle.media.specs.Kept.{Kept}
 use Rattle.media.specs.declared.disk.Disk.{Ghosts}
 use Rattle.log_blocks.specs.declared.header.Place.{Place}
 use Rattle.log_blocks.specs.Log.{Block, StandsFor}
-use Rattle.log_blocks.specs.Opening.{IsBadAt}
 use Rattle.log_manager.specs.Devices.{HoldEnd}
-use Rattle.log_replay.specs.Answers.{IsBadBlock}
 use Rattle.wal_record.specs.Sound.{IsSound}
 use Rattle.wal_record.specs.declared.record.Record.{Record}
 use Rattle.runner.specs.Turns.{Stage, Last, MayFind, MayBeLeft, last_after}
@@ -46,11 +44,6 @@ Keeps L last disk = KeepsLast L.told L.may_leave last disk
 -- behind these turns the disk keeps a log that may be found: of an open life a member of what a stop may leave
 abbrev pub Leaves : {D : Type 0} → Ghosts D → D → Stage → Type 0
 Leaves L disk s = L.tells → Keeps L (last_after s.life s.last) disk
-
--- At this block and byte the kept bytes are bad: an open gate stands before bytes that are no block, or, where they stand
--- for blocks, the records of one are at fault there.
-abbrev pub IsBadLog : ℕ → ℕ → Kept → Type 0
-IsBadLog block byte k = IsBadAt block byte k ⊎ ((bs : List Block) × StandsFor bs k × IsBadBlock bs block byte)
 
 -- the LSN of the first record of these blocks, 1 where there is none
 abbrev pub lsn_from : List Place → ℕ

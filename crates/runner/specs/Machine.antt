@@ -1,38 +1,32 @@
 -- What the state of a run says of the turns so far, and what a command adds.
-use Rattle.std.specs.Prelude.{◌≡◌, ◌+◌, ◌<◌, ◌≤◌, ℕ, List, [], ◌∷◌, ◌++◌, length, Option, Some, None, Bool, false}
-use Rattle.std.specs.List.{All, list_any}
+use Rattle.std.specs.Prelude.{◌≡◌, ◌<◌, ℕ, List, [], Option, Some, None, Bool, false}
+use Rattle.std.specs.List.{All}
 use Rattle.media.specs.declared.disk.Disk.{Ghosts}
-use Rattle.log_blocks.specs.LogState.{LogState}
-use Rattle.held_leaf.specs.Leaf.{Leaf}
+use Rattle.log_index.specs.declared.listing.Listing.{Listing}
+use Rattle.log_manager.specs.Devices.{DevicesStandFor}
 use Rattle.log_manager.specs.Managed.{Managed}
-use Rattle.log_manager.specs.Records.{IsLogOf}
-use Rattle.wal_record.specs.Checkpoints.{limit_of, commits}
-use Rattle.wal_record.specs.History.{log_of, life_log}
 use Rattle.wal_record.specs.declared.record.Record.{Record}
-use Rattle.log_laws.specs.Beginnings.{is_commit}
-use Rattle.life_laws.specs.Calm.{Calm, only_leaf}
+use Rattle.page_ops.specs.Seeing.{Calls}
+use Rattle.journal.specs.State.{calls_of}
+use Rattle.journal.specs.Stops as stops
+use Rattle.opening.specs.Begins.{MayBegin}
+use Rattle.command_laws.specs.Names.{Active}
+use Rattle.own_life.specs.State.{LifeState}
 use Rattle.script.specs.declared.command.Command.{Command}
 use Rattle.runner.specs.declared.at.At.{At}
 use Rattle.runner.specs.declared.at.At.TheVariants.{Outside, Inside}
 use Rattle.runner.specs.declared.at.Stepped.{Stepped}
 use Rattle.runner.specs.declared.at.Stepped.TheVariants as steps
-use Rattle.runner.specs.declared.session.Session.{Session}
-use Rattle.runner.specs.Standing.{Standing, Beginning, standing_with}
-use Rattle.runner.specs.declared.transactions.Transactions.{Transactions}
 use Rattle.runner.specs.declared.status.Status.{Status}
 use Rattle.runner.specs.declared.status.Status.TheVariants as statuses
-use Rattle.runner.specs.Active.{opened_by}
 use Rattle.runner.specs.Bytes.{Known}
-use Rattle.runner.specs.Leaf.{rows_of}
-use Rattle.runner.specs.LogDisk.{Keeps, Leaves, lsn_from}
+use Rattle.runner.specs.LogDisk.{Keeps, Leaves}
 use Rattle.runner.specs.Refusals.{RefusesAt}
 use Rattle.runner.specs.Text.{lines}
 use Rattle.runner.specs.Rows.{FitsAt}
-use Rattle.runner.specs.Turns.{Turn, Life, Active, Stage, LeftBy, bytes_after, stage_step, IsRightLife, lives}
+use Rattle.runner.specs.Turns.{Turn, Life, Stage, bytes_after, stage_step, IsRightLife, lives}
 
-abbrev pub actives : Option Session → List Active
-actives None = []
-actives (Some z) = record { name = z.name; tx = z.tx } ∷ []
+-- ---- where no life is open
 
 -- the log disk's fuse is armed only where the turns say so
 pub record IsFused {D : Type 0} (L : Ghosts D) (disk : D) (armed : Bool) : Type 0 where
@@ -50,57 +44,56 @@ pub record Out {D : Type 0} (tells : Type 0) (L : Ghosts D) (disk : D) (s : Stag
   pub keeps : L.tells → Keeps L s.last disk
   pub bytes : Known tells L s.bytes disk
 
--- A life that goes on, where the disk tells: it is calm, the page's pass has seen its whole history, the first of its
--- records are on the disk and the others wait, and a commit doesn't wait.
-pub record IsCalm {D : Type 0} (L : Ghosts D) (log : LogState D) (standing : Standing) (l : Life) (lsn : ℕ) : Type 0 where
-  pub page : standing.page ≡ Some (only_leaf (rows_of standing.page))
-  pub calm : Calm l.opening l.history (rows_of standing.page) standing.head (opened_by standing.session) standing.next standing.commits lsn
-  pub seen : standing.history ≡ l.history
-  pub last : standing.last ≡ lsn
-  pub place : lsn + 1 ≡ log.next
-  pub limit : standing.limit ≡ limit_of l.opening
-  pub first : lsn_from log.places ≡ 1
-  pub durable : List Record
-  pub waiting : List Record
-  pub whole : log_of l.history ≡ durable ++ waiting
-  pub uncommitted : list_any is_commit waiting ≡ false
-  pub stands : IsLogOf L.told L.may_leave log 0 (l.opening ++ durable) waiting
+-- ---- in a life
 
--- A life may begin with this log, where the disk tells: the disk stands for it, and so it is calm with what was found.
-pub record BeginsOn {D : Type 0} (L : Ghosts D) (b : Beginning D) (opening : List Record) : Type 0 where
-  pub tells : L.tells
-  pub calm : IsCalm L b.log.log b.standing (record { opening = opening; history = [] }) (length opening)
+-- a log that was read, on which a life may begin
+pub record Beginning (D : Type 0) : Type 0 where
+  pub log : Managed D
+  pub listing : Listing
 
-pub record Runs {D : Type 0} (L : Ghosts D) (log : LogState D) (standing : Standing) (l : Life) : Type 0 where
-  pub count : commits (life_log l.opening l.history) ≡ standing.commits
-  pub lsn : ℕ
-  pub calm : L.tells → IsCalm L log standing l lsn
+-- a life may begin with this log, which its disk kept
+pub record BeginsOn {D : Type 0} (tells : Type 0) (L : Ghosts D) (b : Beginning D) (opening : List Record) : Type 0 where
+  pub may : MayBegin tells L.told L.may_leave b.log b.listing opening
+  pub stands : DevicesStandFor L.told L.may_leave b.log.log.device opening
 
--- a life that has ended
-pub record IsOver {D : Type 0} (L : Ghosts D) (log : LogState D) (l : Life) : Type 0 where
-  pub right : IsRightLife l
-  pub keeps : Keeps L (LeftBy l) log.device
+-- within a life that has just begun on this log
+pub record Begun {D : Type 0} (tells : Type 0) (L : Ghosts D) (b : Beginning D) (s : Stage) : Type 0 where
+  pub past : L.tells → All IsRightLife s.past
+  pub opening : List Record
+  pub life : s.life ≡ Some (record { opening = opening; history = [] })
+  pub active : ◌≡◌ {A = List Active} s.active []
+  pub ended : s.ended ≡ None
+  pub goes : s.cut ≡ false
+  pub fused : IsFused L b.log.log.device s.armed.log
+  pub begins : L.tells → BeginsOn tells L b opening
 
-abbrev pub LivesOn : {D : Type 0} → Ghosts D → LogState D → Standing → Life → Option ℕ → Type 0
-LivesOn L log standing l None = Runs L log standing l
-LivesOn L log standing l (Some n) = L.tells → IsOver L log l
+-- the same by what a life tells of its log disk's calls
+pub record IsArmed (fuses : Type 0) (calls : Calls) (armed : Bool) : Type 0 where
+  pub fuse : fuses
+  pub renewed : armed ≡ false → calls.passes ≡ None
 
--- within a life
-pub record In {D : Type 0} (L : Ghosts D) (log : LogState D) (standing : Standing) (s : Stage) : Type 0 where
+-- Within a life that may have begun with such logs: its history is what the turns have entered, and it is right.
+pub record Within {D : Type 0} (L : Ghosts D) (opens : List Record → Type 0) (x : LifeState) (s : Stage) : Type 0 where
   pub past : L.tells → All IsRightLife s.past
   pub here : Life
   pub life : ◌≡◌ {A = Option Life} s.life (Some here)
-  pub active : s.active ≡ actives standing.session
-  pub ended : s.ended ≡ log.ended
+  pub active : s.active ≡ x.active
+  pub ended : s.ended ≡ x.ended
   pub goes : s.cut ≡ false
-  pub fused : IsFused L log.device s.armed.log
-  pub lives : LivesOn L log standing here log.ended
+  pub fused : IsArmed L.fuses x.calls s.armed.log
+  pub history : here.history ≡ x.history
+  pub begins : L.tells → opens here.opening
+  pub right : L.tells → IsRightLife here
 
--- within a life that has this leaf in hand
-abbrev pub Within : {D : Type 0} → Ghosts D → Managed D → Leaf → Transactions → Stage → Type 0
-Within L log leaf t s = In L log.log (standing_with leaf t) s
+-- The log disk that such a life hands out as it stops. What it keeps, also after a crash, stands for a log that a stop may leave.
+pub record IsDiskOf {D : Type 0} (L : Ghosts D) (opens : List Record → Type 0) (x : LifeState) (disk : D) : Type 0 where
+  pub least : ℕ
+  pub left : stops.Leaves opens L.told L.may_leave x.history least disk
+  pub calls : calls_of L.passes L.refused L.own disk ≡ x.calls
 
--- what holds at any place: each life is right, the disk keeps a log that may be found, and what is known of it is so
+-- ---- at any place
+
+-- each life is right, the disk keeps a log that may be found, and what is known of it is so
 pub record Safe {D : Type 0} (tells : Type 0) (L : Ghosts D) (disk : D) (s : Stage) : Type 0 where
   pub right : L.tells → All IsRightLife (lives s)
   pub leaves : Leaves L disk s

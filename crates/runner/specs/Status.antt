@@ -1,5 +1,5 @@
 -- The exit codes of the program.
-use Rattle.std.specs.Prelude.{ℕ, Bool, true, false}
+use Rattle.std.specs.Prelude.{◌≡◌, ℕ, Bool, true, false}
 use Rattle.runner.specs.declared.status.Status.{Status}
 use Rattle.runner.specs.declared.status.Status.TheVariants as statuses
 
@@ -13,12 +13,15 @@ code_of statuses.SourceFault = 4
 code_of statuses.SinkFault = 5
 code_of statuses.LogFault = 6
 code_of (statuses.LogBad block byte) = 8
+code_of (statuses.BlockBad block byte) = 8
 code_of statuses.NotFormatted = 10
 code_of statuses.AlreadyFormatted = 11
 code_of (statuses.NotBuilt line) = 12
-code_of (statuses.NoSplit line) = 13
 
--- whether the status cuts a command off that has entered something
-abbrev pub cuts : Status → Bool
-cuts statuses.LogFault = true
-cuts _ = false
+-- Whether the status cuts a command off that may have entered something: one of a fault of the log disk, or of a block that can't
+-- be read within a life, does; want of memory may.
+abbrev pub MayCut : Status → Bool → Type 0
+MayCut statuses.LogFault cut = cut ≡ true
+MayCut (statuses.BlockBad block byte) cut = cut ≡ true
+MayCut statuses.Memory cut = Unit {0}
+MayCut _ cut = cut ≡ false

@@ -4,9 +4,9 @@ use Rattle.wal_record.specs.History.{life_log}
 use Rattle.wal_record.specs.Left.{IsLeft}
 use Rattle.wal_record.specs.declared.record.Record.{Record}
 use Rattle.wal_record.specs.declared.entry.Entry.{Entry}
-use Rattle.wal_record.specs.declared.entry.Entry.TheVariants.{Began}
 use Rattle.log_laws.specs.Right.{IsRight, first_log}
-use Rattle.script.specs.Word.{same_text}
+use Rattle.command_laws.specs.Names.{Active, began, without}
+use Rattle.transcript.specs.declared.upkeep.Stat.{Stat}
 use Rattle.script.specs.declared.command.Device.{Device}
 use Rattle.script.specs.declared.command.Device.TheVariants.{Log, Data, Vault}
 use Rattle.script.specs.declared.command.Command.{Command}
@@ -24,22 +24,26 @@ pub data End : Type 0 where
   Ended : ℕ → End
   Cut : End
 
+-- The numbers in a command's line that its entries don't tell: commits and losers of a log that was opened, commits behind a
+-- commit, and what `stat` counts.
+pub data Figures : Type 0 where
+  Plain : Figures
+  Opening : ℕ → ℕ → Figures
+  Numbered : ℕ → Figures
+  Counted : Stat → Figures
+
 -- an `open` that is done has found a log
 pub record Turn : Type 0 where
   pub command : Command
   pub entries : List Entry
   pub found : List Record
+  pub figures : Figures
   pub end : End
 
 -- the log that a life opened, and its history
 pub record Life : Type 0 where
   pub opening : List Record
   pub history : List Entry
-
--- a name, and the transaction that it stands for
-pub record Active : Type 0 where
-  pub name : List ℕ
-  pub tx : ℕ
 
 -- ---- which log an opening may find
 
@@ -115,6 +119,7 @@ pub record Stage : Type 0 where
   -- the lives that are over, and the one that is open
   pub past : List Life
   pub life : Option Life
+  -- the active transactions, in the order of their beginning
   pub active : List Active
   -- whether the machine has stopped
   pub cycled : Bool
@@ -132,21 +137,6 @@ begin_stage start = record { last = start.last; bytes = start.bytes; past = []; 
 -- pages and writes that may be undone, together, of a format
 abbrev pub room_of : Option ℕ → ℕ
 room_of limit = unwrap_or limit 16384
-
--- the transaction of a name
-abbrev pub tx_of : List Active → List ℕ → Option ℕ
-tx_of [] name = None
-tx_of (a ∷ more) name = if same_text name a.name then Some a.tx else tx_of more name
-
-abbrev pub without : List Active → List ℕ → List Active
-without [] name = []
-without (a ∷ more) name = if same_text name a.name then without more name else a ∷ without more name
-
--- the transactions that these entries begin, with this name
-abbrev pub began : List ℕ → List Entry → List Active
-began name [] = []
-began name (Began session tx ∷ es) = record { name = name; tx = tx } ∷ began name es
-began name (_ ∷ es) = began name es
 
 abbrev pub longer : Option Life → List Entry → Option Life
 longer None es = None
@@ -178,11 +168,11 @@ abbrev pub done_stage : Stage → Command → List Entry → List Record → Sta
 done_stage s commands.Nothing es found = s
 done_stage s (commands.Format limit) es found = record s { last = Formatted (room_of limit) }
 done_stage s commands.Open es found = record s { life = Some (record { opening = found; history = [] }) }
-done_stage s (commands.Begin name) es found = record (with_entries s es) { active = began name es ++ s.active }
+done_stage s (commands.Begin name) es found = record (with_entries s es) { active = s.active ++ began name es }
 done_stage s (commands.Ask name request) es found = with_entries s es
 done_stage s (commands.Commit name) es found = record (with_entries s es) { active = without s.active name }
-done_stage s (commands.Abort name) es found = s
-done_stage s commands.Checkpoint es found = s
+done_stage s (commands.Abort name) es found = record (with_entries s es) { active = without s.active name }
+done_stage s commands.Checkpoint es found = with_entries s es
 done_stage s commands.Backup es found = s
 done_stage s commands.Archive es found = s
 done_stage s commands.Merge es found = s
@@ -200,17 +190,16 @@ done_stage s (commands.Worker transactions) es found = s
 done_stage s (commands.Step request) es found = s
 done_stage s commands.End es found = s
 
--- The log failed in a command: a fault in a commit ends the life, and the log is durable up to this LSN where a fuse
--- refused the call.
+-- The log failed in a command: in a life that ends it, and the log is durable up to this LSN where a fuse refused the call.
 abbrev pub failed_stage : Stage → Command → List Entry → Option ℕ → Stage
 failed_stage s commands.Nothing es at = s
 failed_stage s (commands.Format limit) es at = record s { last = Unformatted s.last (room_of limit) }
 failed_stage s commands.Open es at = s
-failed_stage s (commands.Begin name) es at = s
-failed_stage s (commands.Ask name request) es at = s
+failed_stage s (commands.Begin name) es at = record (with_entries s es) { ended = at }
+failed_stage s (commands.Ask name request) es at = record (with_entries s es) { ended = at }
 failed_stage s (commands.Commit name) es at = record (with_entries s es) { ended = at }
-failed_stage s (commands.Abort name) es at = s
-failed_stage s commands.Checkpoint es at = s
+failed_stage s (commands.Abort name) es at = record (with_entries s es) { ended = at }
+failed_stage s commands.Checkpoint es at = record (with_entries s es) { ended = at }
 failed_stage s commands.Backup es at = s
 failed_stage s commands.Archive es at = s
 failed_stage s commands.Merge es at = s
@@ -237,7 +226,11 @@ stage_after s c es found (Ended n) = s
 stage_after s c es found Cut = record (failed_stage s c es None) { cut = true }
 
 abbrev pub turn : Command → List Entry → End → Turn
-turn c es end = record { command = c; entries = es; found = []; end = end }
+turn c es end = record { command = c; entries = es; found = []; figures = Plain; end = end }
+
+-- one that is done, with these figures
+abbrev pub done : Command → List Entry → Figures → Turn
+done c es figures = record { command = c; entries = es; found = []; figures = figures; end = Done }
 
 abbrev pub stage_step : Stage → Turn → Stage
 stage_step s t = stage_after s t.command t.entries t.found t.end

@@ -22,7 +22,7 @@ pub enum Stepped<L, F> {
 
 /// The log disk where a life may begin, where the run ends.
 pub fn disk_opened<L: Disk>(at: At<L, Opened<L>>) -> L
-    ensures { result ≡ disk_at (λ life. life.log.log.device) at }
+    ensures { result ≡ disk_at (λ log. log.log.log.device) at }
 {
     match at {
         At::Outside { disk } => disk,

@@ -46,20 +46,21 @@
 //! turns leave (`specs/Machine`, `specs/Promises`), and see neither source nor sink.
 #![tactic(auto)]
 
+mod asking;
 mod at;
+mod ending;
+mod failing;
 mod laws;
 mod life;
 mod living;
 mod opened;
 mod opening;
 mod outside;
-mod row;
 mod run;
-mod session;
 mod status;
 mod stop;
-mod transactions;
 mod turns;
+mod upkeep;
 
 pub use laws::{next_call_law, standing_law};
 pub use run::run_words;

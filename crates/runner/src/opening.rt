@@ -1,34 +1,28 @@
 //! Opening a life, and making the log that a life can open.
-ghost use Rattle.runner.specs.Bytes.{MayMake, MayOpen, StaysKnown, Allows};
-ghost use Rattle.std.specs.Prelude.{◌≡◌, ◌≤◌, ◌+◌, List, [], None, length, IsTrue, IfOk, IfErr, OnOk, IsErrAnd, MatchResult};
+ghost use Rattle.std.specs.Prelude.{◌≡◌, List, [], length, IsTrue, IfOk, IfErr, OnOk, IsErrAnd, MatchResult};
 ghost use Rattle.media.specs.Counted.{Blames};
-ghost use Rattle.log_blocks.specs.Log.{Block, first_lsn};
-ghost use Rattle.log_blocks.specs.LogState.{IsDurable};
-ghost use Rattle.log_manager.specs.Records.{AreRecordsOf, IsLogOf};
-ghost use Rattle.log_replay.specs.Answers.{Opens};
+ghost use Rattle.log_manager.specs.Records.{IsLogOf};
+ghost use Rattle.wal_record.specs.Checkpoints.{commits};
+ghost use Rattle.wal_record.specs.OpenWrites.{losers};
 ghost use Rattle.wal_record.specs.Rules.{is_limit};
-ghost use Rattle.wal_record.specs.State.{KeepsState};
 ghost use Rattle.wal_record.specs.declared.record.Record.{Record};
-ghost use Rattle.runner.specs.LogDisk.{View, seen};
-ghost use Rattle.runner.specs.Machine.{IsCalm};
+ghost use Rattle.runner.specs.Bytes.{MayMake, MayOpen, StaysKnown, Allows};
 ghost use Rattle.runner.specs.Causes.{Shows};
-ghost use Rattle.runner.specs.Openings.{Makes, IsMade, IsFirst, IsFault, IsNotMade, IsBegun, IsNotBegun, MadeStatus, ReadStatus, ReplayStatus};
+ghost use Rattle.runner.specs.LogDisk.{View, seen};
+ghost use Rattle.runner.specs.Machine.{BeginsOn};
+ghost use Rattle.runner.specs.Openings.{Makes, IsMade, IsFirst, IsFault, IsNotMade, IsBegun, IsNotBegun, MadeStatus, ReadStatus};
 ghost use Rattle.runner.specs.declared.status.Status.TheVariants as statuses;
 
 use crate::opened::Opened;
 use crate::status::Status;
-use log_blocks::{BlockLog, never_bad, one_log, open_log};
+use log_blocks::{never_bad, one_log, open_log};
 use log_manager::LogManager;
-use log_replay::{Found, NotReplayed, replay};
 use media::Disk;
-use operators::Operators;
+use opening::{Found, WhyNot, found, read_log};
 use std::alloc::Global;
 use std::slice;
 use store_model::Fault;
 use wal_record::{Format, Record};
-
-/// The numbers of a life stay below this: no log comes so far.
-const MOST: u64 = 1 << 62;
 
 /// A log that isn't opened or made, with its disk.
 #[derive(Drop)]
@@ -107,86 +101,45 @@ fn not_made(fault: &Fault) -> Status
     }
 }
 
-/// Reads the log of a disk, and opens a life on it. `line` is the line that asks for it.
-pub fn open<L: Disk>(
-    alloc: Global,
-    operators: &Operators,
-    disk: L,
-    line: u64,
-) -> Result<Opened<L>, NotOpened<L>>
-    ensures begun { IfOk result (λ life. (v : View L.tells) → Makes (seen L.Disk v) disk (IsBegun (seen L.Disk v) life.log.log life.standing)) }
-    ensures first { IfOk result (λ life. (life.standing.session ≡ None) × (life.log.log.ended ≡ None)) }
-    ensures not { IfErr result (λ r. (v : View L.tells) → IsNotBegun (seen L.Disk v) line disk r.disk r.status) }
+/// Reads the log of a disk, on which a life may begin then, and tells what was found.
+pub fn open<L: Disk>(alloc: Global, disk: L) -> Result<(Opened<L>, Found), NotOpened<L>>
+    ensures begun { IfOk result (λ r. (v : View L.tells) → Makes (seen L.Disk v) disk (IsBegun L.tells (seen L.Disk v) r.0)) }
+    ensures figures { IfOk result (λ r. (opening : List Record) → BeginsOn L.tells L.Disk r.0 opening → (r.1.commits ≡ commits opening) × (r.1.losers ≡ length (losers opening))) }
+    ensures not { IfErr result (λ r. (v : View L.tells) → IsNotBegun (seen L.Disk v) disk r.disk r.status) }
     ensures shows { IfErr result (λ r. Shows L.Disk r.disk r.status) }
-    ensures allows { IfOk result (λ life. Allows L.tells L.Disk disk MayOpen) }
-    ensures known { MatchResult result (λ life. StaysKnown L.tells L.Disk disk life.log.log.device) (λ r. StaysKnown L.tells L.Disk disk r.disk) }
-    ensures fuse { MatchResult result (λ life. Blames L.passes L.refused L.own disk life.log.log.device ⊥) (λ r. Blames L.passes L.refused L.own disk r.disk (r.status ≡ statuses.LogFault)) }
+    ensures allows { IfOk result (λ r. Allows L.tells L.Disk disk MayOpen) }
+    ensures known { MatchResult result (λ r. StaysKnown L.tells L.Disk disk r.0.log.log.device) (λ r. StaysKnown L.tells L.Disk disk r.disk) }
+    ensures fuse { MatchResult result (λ r. Blames L.passes L.refused L.own disk r.0.log.log.device ⊥) (λ r. Blames L.passes L.refused L.own disk r.disk (r.status ≡ statuses.LogFault)) }
 {
     // What the disk keeps can be read in one way only.
     one_log();
     never_bad();
-    let mut log = match open_log(alloc, disk) {
-        Ok(log) => log,
-        Err(refused) => return Err(NotOpened {
-            disk: refused.disk,
-            status: not_read(&refused.fault),
-        }),
-    };
-    match replay(alloc, &mut log, operators) {
-        Ok(found) => begin(alloc, log, found),
-        Err(why) => Err(NotOpened {
-            disk: log.into_device(),
-            status: not_replayed(&why, line),
-        }),
-    }
-}
-
-/// A life on a log in which this was found, where its numbers aren't used up.
-fn begin<L: Disk>(alloc: Global, log: BlockLog<L>, found: Found) -> Result<Opened<L>, NotOpened<L>>
-    requires rules { KeepsState found.page }
-    requires number { 1 ≤ found.next }
-    requires fresh { log.pending ≡ [] }
-    requires goes { log.ended ≡ None }
-    ensures begun { IfOk result (λ life. (v : View L.tells) → L.tells → (bs : List Block) (rs : List Record) → IsDurable L.told L.may_leave log bs → AreRecordsOf 0 bs rs → first_lsn bs ≡ 1 → Opens rs found → log.next ≡ length rs + 1
-        → IsCalm (seen L.Disk v) life.log.log life.standing (record { opening = rs; history = [] }) (length rs)) }
-    ensures first { IfOk result (λ life. (life.standing.session ≡ None) × (life.log.log.ended ≡ None) × (life.log.log.device ≡ log.device)) }
-    ensures not { IfErr result (λ r. (r.disk ≡ log.device) × (r.status ≡ statuses.Memory)) }
-{
-    if found.head == 0 || found.head >= MOST || found.next >= MOST {
-        return Err(NotOpened {
-            disk: log.into_device(),
-            status: Status::Memory,
-        });
-    }
-    Ok(Opened::new(LogManager::start(alloc, log), found))
-}
-
-/// The status of a log whose blocks can't be read.
-fn not_read(fault: &Fault) -> Status
-    ensures { ReadStatus fault.now result }
-{
-    match fault {
-        Fault::LogFault => Status::LogFault,
-        Fault::LogBad { block, byte } => Status::LogBad {
-            block: *block,
-            byte: *byte,
+    match read_log(alloc, disk) {
+        Ok(log) => match found(alloc, &log) {
+            Ok(found) => Ok((Opened::new(log), found)),
+            Err(_) => Err(NotOpened {
+                disk: Opened::new(log).into_device(),
+                status: Status::Memory,
+            }),
         },
-        _ => Status::Memory,
+        Err(refused) => Err(NotOpened {
+            status: not_read(&refused.why),
+            disk: refused.disk,
+        }),
     }
 }
 
-/// The status of a log whose records make no life.
-fn not_replayed(why: &NotReplayed, line: u64) -> Status
-    ensures { ReplayStatus line why.now result }
+/// The status of a log that can't be read.
+fn not_read(why: &WhyNot) -> Status
+    ensures { ReadStatus why.now result }
 {
     match why {
-        NotReplayed::Memory => Status::Memory,
-        NotReplayed::LogFault => Status::LogFault,
-        NotReplayed::LogBad { block, byte } => Status::LogBad {
+        WhyNot::NotFormatted => Status::NotFormatted,
+        WhyNot::Fault(Fault::LogFault) => Status::LogFault,
+        WhyNot::Fault(Fault::LogBad { block, byte }) => Status::LogBad {
             block: *block,
             byte: *byte,
         },
-        NotReplayed::NotFormatted => Status::NotFormatted,
-        NotReplayed::NotBuilt => Status::NotBuilt { line },
+        WhyNot::Fault(_) => Status::Memory,
     }
 }

@@ -25,14 +25,15 @@ pub enum Status {
     LogFault,
     /// An open gate of the log stands before bytes that are no block of this store, or a record breaks its form.
     LogBad { block: u64, byte: u64 },
+    /// A block of the log can't be read where a page or a transaction of an open life needs it. It comes only where the log disk
+    /// tells nothing, or stood for no log as it was opened.
+    BlockBad { block: u64, byte: u64 },
     /// The log is empty.
     NotFormatted,
     /// The log disk holds a log already.
     AlreadyFormatted,
     /// The line asks for what isn't built yet.
     NotBuilt { line: u64 },
-    /// The page has no room for the line's row, and isn't split yet.
-    NoSplit { line: u64 },
 }
 
 impl Status {
@@ -50,10 +51,10 @@ impl Status {
             Status::SinkFault => 5,
             Status::LogFault => 6,
             Status::LogBad { block: _, byte: _ } => 8,
+            Status::BlockBad { block: _, byte: _ } => 8,
             Status::NotFormatted => 10,
             Status::AlreadyFormatted => 11,
             Status::NotBuilt { line: _ } => 12,
-            Status::NoSplit { line: _ } => 13,
         }
     }
 }
@@ -70,10 +71,10 @@ impl fmt::Display for Status {
             Status::SinkFault => f.write_str("output failed"),
             Status::LogFault => f.write_str("log failed"),
             Status::LogBad { block, byte } => write!(f, "log block {block} bad at byte {byte}"),
+            Status::BlockBad { block, byte } => write!(f, "log block {block} bad at byte {byte}"),
             Status::NotFormatted => f.write_str("not formatted"),
             Status::AlreadyFormatted => f.write_str("already formatted"),
             Status::NotBuilt { line } => write!(f, "not built in line {line}"),
-            Status::NoSplit { line } => write!(f, "page full in line {line}"),
         }
     }
 }
