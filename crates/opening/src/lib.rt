@@ -11,10 +11,16 @@
 //! makes of these the journal of one thread, and tells the pass that goes on that the opening log is durable. `MayBegin` of
 //! `specs/Begins` says which logs the life may have begun with: each log for which the disk stood is one. A disk that is given
 //! back still stands for the logs for which it stood.
+//!
+//! Of any disk that tells its bytes, also one that stands for no log, `specs/Bytes` says what was seen in them: an open log
+//! has the blocks that they stood for, a log is refused as not formatted only where it is empty, and as bad only at a block
+//! and byte that are at fault. [`found`] counts what an opening has found: commits and losers.
 #![tactic(auto)]
 
 mod beginning;
+mod finding;
 mod reading;
 
 pub use beginning::{Begun, Prepared, prepare, start};
+pub use finding::{Found, found};
 pub use reading::{NotOpened, WhyNot, read_log};

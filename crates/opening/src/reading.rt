@@ -4,6 +4,7 @@ ghost use Rattle.media.specs.Counted.{Blames};
 ghost use Rattle.log_manager.specs.Devices.{DevicesStandFor};
 ghost use Rattle.wal_record.specs.declared.record.Record.{Record};
 ghost use Rattle.opening.specs.Begins.{IsForLogFault, IsWhyNot, MayBegin, RoseForWhy};
+ghost use Rattle.opening.specs.Bytes.{IsRead, ShowsWhy, StaysSame};
 
 use listed_log::ListedLog;
 use log_analysis::analyse;
@@ -41,6 +42,12 @@ pub fn read_log<L: Disk>(alloc: Global, disk: L) -> Result<ListedLog<L>, NotOpen
     ensures refused { IfErr result (λ r. L.tells → (opening : List Record) → DevicesStandFor L.told L.may_leave disk opening → IsWhyNot opening r.why) }
     // The disk that is given back stands for the logs for which it stood.
     ensures kept { IfErr result (λ r. L.tells → (opening : List Record) → DevicesStandFor L.told L.may_leave disk opening → DevicesStandFor L.told L.may_leave r.disk opening) }
+    // Of any disk, whatever it stood for: an open log has the blocks that were read,
+    ensures read { IfOk result (λ log. L.tells → IsRead L.told L.may_leave disk log.log.log) }
+    // a refusal for the log's sake is seen in the bytes that the disk still has,
+    ensures shows { IfErr result (λ r. L.tells → ShowsWhy (L.told r.disk) r.why) }
+    // and these stay as they were, now and after a crash.
+    ensures bytes { IfErr result (λ r. L.tells → StaysSame L.told L.may_leave disk r.disk) }
     ensures cause { IfErr result (λ r. RoseForWhy (L.faults disk) (L.faults r.disk) r.why) }
     ensures later { MatchResult result (λ log. L.faults disk ≤ L.faults log.log.log.device) (λ r. L.faults disk ≤ L.faults r.disk) }
     ensures fuse { MatchResult result (λ log. Blames L.passes L.refused L.own disk log.log.log.device ⊥) (λ r. Blames L.passes L.refused L.own disk r.disk (IsForLogFault r.why)) }
