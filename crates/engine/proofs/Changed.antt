@@ -1,5 +1,5 @@
 -- A change on its leaf, as the answer of its request.
-use Rattle.std.proofs.Common.{◌≡◌, ℕ, Bool, true, false, cond, suc, List, [], ◌∷◌, ◌++◌, length, Option, Some, None, Result, Ok, Err, refl, sym, ap, subst, ◌∙◌, append_assoc, inl, inr}
+use Rattle.std.proofs.Common.{◌≡◌, ◌+◌, ◌≤◌, ℕ, Bool, true, false, cond, suc, List, [], ◌∷◌, ◌++◌, length, Option, Some, None, Result, Ok, Err, refl, sym, ap, subst, ◌∙◌, append_assoc, inl, inr}
 use Rattle.std.specs.Prelude.{is_some, option_map}
 use Rattle.std.specs.List.{list_all}
 use Rattle.std.specs.FinMap.{get, insert}
@@ -21,13 +21,15 @@ use Rattle.wal_record.specs.Contents.{current}
 use Rattle.wal_record.specs.History.{Live, life_log, phase}
 use Rattle.wal_record.specs.Images.{purged}
 use Rattle.wal_record.specs.Legal.{IsAllowed, IsLegal, IsToldAs, RecordRule}
-use Rattle.wal_record.specs.Sound.{ValueRule}
+use Rattle.wal_record.specs.Checkpoints.{limit_of}
+use Rattle.wal_record.specs.Sound.{ValueRule, used}
 use Rattle.wal_record.specs.declared.page.PageState.{PageState}
 use Rattle.wal_record.specs.declared.record.Record.{Record}
 use Rattle.wal_record.specs.declared.record.Record.TheVariants as kinds
 use Rattle.wal_record.specs.declared.entry.Entry.{Entry}
 use Rattle.wal_record.specs.declared.entry.Entry.TheVariants as entries
 use Rattle.wal_record.proofs.Pushes.{legal_front, phase_push}
+use Rattle.page_ops.specs.Asking.{HasRoomFor, needed}
 use Rattle.page_ops.specs.Causes.{FailsToEnter, NoOther, OrFull}
 use Rattle.page_ops.specs.Claims.{Claims, no_claims}
 use Rattle.page_ops.specs.Desks.{Desk, Faults, KeepsFaults}
@@ -40,7 +42,7 @@ use Rattle.page_ops.specs.declared.group.Said.{Said}
 use Rattle.page_ops.specs.declared.outcome.Entered.TheVariants.{At}
 use Rattle.smo.specs.Purges.{purge_of}
 use Rattle.smo.specs.Splits.{split_by}
-use Rattle.leaf_writes.specs.Changes.{group_by, half_of, record_by, request_of, said_by, split_group_by}
+use Rattle.leaf_writes.specs.Changes.{group_by, half_of, is_told, record_by, request_of, said_by, split_group_by}
 use Rattle.leaf_writes.specs.KeyWrites.{WritesBy, WritesKey, WritesOn, has_room, needs_purge}
 use Rattle.leaf_writes.specs.Owners.{EndsWith}
 use Rattle.leaf_writes.specs.declared.change.Change.{Change}
@@ -48,7 +50,7 @@ use Rattle.leaf_writes.specs.declared.change.How.{How}
 use Rattle.leaf_writes.specs.declared.change.How.TheVariants as hows
 use Rattle.rollback.specs.Rolls.{standing}
 use Rattle.rollback.proofs.Composing.{faults_self, reclaimed}
-use Rattle.engine.specs.Answers.{IsReply, IsSaidAt}
+use Rattle.engine.specs.Answers.{IsReply, IsSaidAt, IsSplitOrNone}
 use Rattle.engine.specs.Beside.{is_beside}
 use Rattle.engine.specs.Completes.{Completes}
 use Rattle.engine.specs.Writes.{asked_by, old_of}
@@ -81,6 +83,11 @@ said_is (hows.Write old) key new s request asked = let is : request_of key new �
 said_is (hows.Apply old operator argument) key new s request asked = let is : requests.Apply operator key argument ≡ request = cc asked in ap (λ (r : Request). Some (told_of s r (replies.Was old))) is
 said_is (hows.Undo next) key new s request asked = absurd (cc asked)
 
+told_asks : (how : How) (key : List ℕ) (new : Option (List ℕ)) (request : Request) → asked_by how key new ≡ Some request → is_told how ≡ true
+told_asks (hows.Write old) key new request asked = refl
+told_asks (hows.Apply old operator argument) key new request asked = refl
+told_asks (hows.Undo next) key new request asked = absurd (cc asked)
+
 -- the entries end with a record and its answer, and before it nothing stands but what keeps the tree up
 pub record TellsLast (s : SessionClaim) (request : Request) (reply : Reply) (es : List Entry) : Type 0 where
   pub before : List Entry
@@ -90,6 +97,7 @@ pub record TellsLast (s : SessionClaim) (request : Request) (reply : Reply) (es 
   pub told : IsToldAs write request reply
   pub tx : tx_of write ≡ s.tx
   pub kinds : list_all (is_beside []) before ≡ true
+  pub alone : IsSplitOrNone before
 
 module _ (how : How) (tx : ℕ) (key : List ℕ) (new : Option (List ℕ)) (s : SessionClaim) (own : s.tx ≡ tx) (request : Request) (asked : asked_by how key new ≡ Some request) where
   abbrev was : Reply
@@ -109,12 +117,16 @@ module _ (how : How) (tx : ℕ) (key : List ℕ) (new : Option (List ℕ)) (s : 
     told = subst (λ (r : Record). IsToldAs r request was) (sym f.0.2) (told_by how made f.0.0 tx page key new request asked);
     tx = ap tx_of f.0.2 ∙ tx_by how made f.0.0 tx page key new ∙ sym own;
     kinds = refl;
+    alone = tt;
   }
 
   two_told : (made : Option ℕ) (child lsn page half : ℕ) (at : PageState) (xs : List Record) → AreFilledFrom made child (split_by page at 0 0 ∷ record_by how tx half key new ∷ []) xs → TellsLast s request was (group_entries lsn xs spoken)
+  unfolding one_told
   two_told made child lsn page half at [] f = absurd f
-  two_told made child lsn page half at (x ∷ xs) f =
-      let rest = one_told made child (suc lsn) half xs f.1 in
+  two_told made child lsn page half at (x ∷ []) f = absurd f.1
+  two_told made child lsn page half at (x ∷ y ∷ z ∷ xs) f = absurd f.1.1
+  two_told made child lsn page half at (x ∷ y ∷ []) f =
+      let rest = one_told made child (suc lsn) half (y ∷ []) f.1 in
       let kind : is_beside [] (entries.Rec lsn x) ≡ true = ap (λ (r : Record). is_beside [] (entries.Rec lsn r)) f.0.2 in
       record {
         before = entries.Rec lsn x ∷ rest.before;
@@ -124,6 +136,7 @@ module _ (how : How) (tx : ℕ) (key : List ℕ) (new : Option (List ℕ)) (s : 
         told = rest.told;
         tx = rest.tx;
         kinds = and_true (is_beside [] (entries.Rec lsn x)) (list_all (is_beside []) rest.before) kind rest.kinds;
+        alone = subst (λ (r : Record). IsSplitOrNone (entries.Rec lsn r ∷ [])) (sym f.0.2) tt;
       }
 
   group_told : (b : Bool) (child lsn page : ℕ) (at : PageState) (xs : List Record) → AreFilled child (cond b (group_by how tx key new (Some s) page) (split_group_by how tx key new (Some s) page at)).recs xs → TellsLast s request was (group_entries lsn xs spoken)
@@ -134,12 +147,18 @@ module _ (how : How) (tx : ℕ) (key : List ℕ) (new : Option (List ℕ)) (s : 
   said_on true page at = said_is how key new s request asked
   said_on false page at = said_is how key new s request asked
 
+  -- it asked for two places
+  room_on : (b : Bool) (page : ℕ) (at : PageState) (opening : List Record) (h : List Entry) → HasRoomFor opening h (cond b (group_by how tx key new (Some s) page) (split_group_by how tx key new (Some s) page at)) → used (life_log opening h) + 2 ≤ limit_of (life_log opening h)
+  room_on true page at opening h room = subst (λ (n : ℕ). used (life_log opening h) + n ≤ limit_of (life_log opening h)) (ap needed (said_is how key new s request asked)) (room (told_asks how key new request asked))
+  room_on false page at opening h room = subst (λ (n : ℕ). used (life_log opening h) + n ≤ limit_of (life_log opening h)) (ap needed (said_is how key new s request asked)) (room (told_asks how key new request asked))
+
 -- ---- what it enters
 
-pub record ToldOn (s : SessionClaim) (request : Request) (reply : Reply) (h : List Entry) : Type 0 where
+pub record ToldOn (opens : List Record → Type 0) (s : SessionClaim) (request : Request) (reply : Reply) (h : List Entry) : Type 0 where
   pub es : List Entry
   pub tells : TellsLast s request reply es
   pub ends : EndsWith es h
+  pub room : (opening : List Record) → opens opening → used (life_log opening ends.0) + 2 ≤ limit_of (life_log opening ends.0)
 
 module _ (opens : List Record → Type 0) (ledger sessions : LedgerName) (how : How) (tx : ℕ) (key : List ℕ) (new : Option (List ℕ)) (s : SessionClaim) (own : s.tx ≡ tx) (request : Request) (asked : asked_by how key new ≡ Some request)
     (d d' : Desk) (same : d'.faults ≡ d.faults) (a a' : Account) (t t' : PassSeen Entry) (y y' : Claims) (leaf leaf_now : Hand) where
@@ -155,7 +174,7 @@ module _ (opens : List Record → Type 0) (ledger sessions : LedgerName) (how : 
   -- entered
   module _ (pos : ℕ) where
     abbrev Entered_on : Type 0
-    Entered_on = Done (Ok (record { pos = pos; reply = replies.Was (old_of how) })) × ToldOn s request (replies.Was (old_of how)) t'.log
+    Entered_on = Done (Ok (record { pos = pos; reply = replies.Was (old_of how) })) × ToldOn opens s request (replies.Was (old_of how)) t'.log
 
     ok_on : (at : PageState) (first : List Entry) → list_all (is_beside []) first ≡ true → WritesOn opens ledger sessions c (Some s) at first t' leaf leaf_now (Ok (At pos)) (known a t y) (known a' t' y') → Entered_on
     ok_on at first kinds w =
@@ -173,7 +192,12 @@ module _ (opens : List Record → Type 0) (ledger sessions : LedgerName) (how : 
             by = (refl, inr (tells.lsn, tells.write, tells.told, tells.tx, refl));
             faults = kept;
           },
-          record { es = es; tells = tells; ends = subst (λ (o : Option Said). EndsWith (group_entries w.now.lsn w.now.recs o) t'.log) spoken_is w.last },
+          record {
+            es = es;
+            tells = tells;
+            ends = (w.last.0, subst (λ (o : Option Said). t'.log ≡ w.last.0 ++ group_entries w.now.lsn w.now.recs o) spoken_is w.last.1);
+            room = λ opening stands. room_on how tx key new s own request asked (has_room c at) leaf.page at opening w.last.0 (w.room opening stands w.last.0 w.last.1);
+          },
         )
 
     ok_by : (b : Bool) → WritesBy b opens ledger sessions c (Some s) t' leaf leaf_now (Ok (At pos)) (known a t y) (known a' t' y') → Entered_on
@@ -235,7 +259,7 @@ write_live opening h lsn (kinds.Write w) request reply told rule = phase_push h 
 write_live opening h lsn (kinds.Apply a) request reply told rule = phase_push h (entries.Rec lsn (kinds.Apply a)) a.tx ∙ rule.0
 write_live opening h lsn _ request reply told rule = absurd told
 
-module _ (opens : List Record → Type 0) (s : SessionClaim) (request : Request) (reply : Reply) (h : List Entry) (consistent : IsConsistent opens h) (on : ToldOn s request reply h) where
+module _ (opens : List Record → Type 0) (s : SessionClaim) (request : Request) (reply : Reply) (h : List Entry) (consistent : IsConsistent opens h) (on : ToldOn opens s request reply h) where
   abbrev front : List Entry
   front = on.ends.0 ++ on.tells.before
 
@@ -262,6 +286,7 @@ module _ (opens : List Record → Type 0) (s : SessionClaim) (request : Request)
     tells = inr (on.tells.lsn, on.tells.write, on.tells.told, on.tells.tx, refl);
     place = place;
     reply = λ opening stands. reply_of (life_log opening front) on.tells.write request reply on.tells.told (allowed opening stands).rule.lawful.value;
+    room = λ opening stands. record { first = on.ends.0; split = on.tells.before; is = refl; kind = on.tells.alone; places = on.room opening stands };
   }
 
   pub told_live : (opening : List Record) → opens opening → phase h s.tx ≡ Live

@@ -126,6 +126,7 @@ said_at opens ledger sessions old new s s' request reply pos session tx e place 
           let parts = legal_front opening e.moment one (subst (IsLegal opening) is (e.now.consistent.legal opening stands)) in
           let rule = subst (λ (d : Option Record). ReplyRule d (current (life_log opening e.moment)) (locks opening e.moment s.tx) s.tx request reply) e.found.consistent.told parts.1.rule.answer in
           reply_is (current (life_log opening e.moment)) (locks opening e.moment s.tx) s.tx request reply rule;
+      room = λ opening stands. tt;
     }
 
 -- ---- other answers told alone

@@ -153,7 +153,7 @@ module _ (opens : List Record → Type 0) (ledger sessions : LedgerName) (c : Ch
 
     -- entered
     module _ (pos : ℕ) (entered : result ≡ Ok (At pos)) (reply : Option (List ℕ)) (reply_is : reply ≡ old_of c.how) where
-      both : Completes opens ledger sessions whose.s request (Ok (record { pos = pos; reply = replies.Was (old_of c.how) })) (standing d a t) (standing d' a' t') × ToldOn whose.s request (replies.Was (old_of c.how)) t'.log
+      both : Completes opens ledger sessions whose.s request (Ok (record { pos = pos; reply = replies.Was (old_of c.how) })) (standing d a t) (standing d' a' t') × ToldOn opens whose.s request (replies.Was (old_of c.how)) t'.log
       both = entered_on opens ledger sessions c.how c.tx c.key c.new whose.s whose.tx request asked_is d d' same a a' t t' y y' leaf leaf_now pos (written (Ok (At pos)) entered)
 
       pub answers_ok : IfSome (asked_by c.how c.key c.new) (λ (r : Request). CompletesFor opens ledger sessions owner r (Ok (record { pos = pos; reply = replies.Was reply })) (standing d a t) (standing d' a' t'))

@@ -1,5 +1,5 @@
 -- What a request enters and answers.
-use Rattle.std.specs.Prelude.{◌≡◌, ◌⊎◌, ◌<◌, ℕ, List, [], ◌∷◌, ◌++◌, length, Some, Result, Ok, Err, Bool, true, false, IsTrue}
+use Rattle.std.specs.Prelude.{◌≡◌, ◌⊎◌, ◌<◌, ◌≤◌, ◌+◌, ℕ, List, [], ◌∷◌, ◌++◌, length, Some, Result, Ok, Err, Bool, true, false, IsTrue}
 use Rattle.std.specs.List.{list_all}
 use Rattle.std.specs.Option.{option_map}
 use Rattle.books.specs.Rights.{SessionClaim}
@@ -10,11 +10,14 @@ use Rattle.store_model.specs.declared.reply.Outcome.TheVariants as outcomes
 use Rattle.store_model.specs.declared.reply.Reply.{Reply}
 use Rattle.store_model.specs.declared.request.Request.{Request}
 use Rattle.wal_record.specs.Chains.{tx_of}
+use Rattle.wal_record.specs.Checkpoints.{limit_of}
 use Rattle.wal_record.specs.Contents.{current}
 use Rattle.wal_record.specs.History.{life_log}
 use Rattle.wal_record.specs.Legal.{IsToldAs}
 use Rattle.wal_record.specs.Locks.{Held}
+use Rattle.wal_record.specs.Sound.{used}
 use Rattle.wal_record.specs.declared.record.Record.{Record}
+use Rattle.wal_record.specs.declared.record.Record.TheVariants as kinds
 use Rattle.wal_record.specs.declared.entry.Entry.{Entry}
 use Rattle.wal_record.specs.declared.entry.Entry.TheVariants as entries
 use Rattle.page_ops.specs.Causes.{FailsToBring, IsOpen}
@@ -80,7 +83,28 @@ pub record Answers (opens : List Record → Type 0) (ledger sessions : LedgerNam
 abbrev pub IsReply : List Record → Request → Reply → Type 0
 IsReply log request reply = option_map (λ (a : Answer). a.reply) (answer (current log) request) ≡ Some reply
 
--- the history ends with the answer of the session's request, which stands here; its reply is that of the ordered map
+-- nothing, or the split of a leaf
+abbrev pub IsSplitOrNone : List Entry → Type 0
+IsSplitOrNone [] = Unit {0}
+IsSplitOrNone (entries.Rec lsn (kinds.Split s) ∷ []) = Unit {0}
+IsSplitOrNone _ = ⊥
+
+-- As the write behind these entries came, with the split of its leaf where it was split, two places were left, for it and
+-- its undo.
+pub record HadPlaces (opening : List Record) (before : List Entry) : Type 0 where
+  pub first : List Entry
+  pub split : List Entry
+  pub is : before ≡ first ++ split
+  pub kind : IsSplitOrNone split
+  pub places : used (life_log opening first) + 2 ≤ limit_of (life_log opening first)
+
+-- so it was if the answer has a write
+abbrev pub HadRoom : List Record → List Entry → List Entry → Type 0
+HadRoom opening before (entries.Rec lsn r ∷ es) = HadPlaces opening before
+HadRoom opening before _ = Unit {0}
+
+-- The history ends with the answer of the session's request, which stands here; its reply is that of the ordered map, and a
+-- write was entered only where there was room.
 pub record IsSaidAt (opens : List Record → Type 0) (s : SessionClaim) (request : Request) (h : List Entry) (a : Answered) : Type 0 where
   pub before : List Entry
   pub last : List Entry
@@ -88,6 +112,7 @@ pub record IsSaidAt (opens : List Record → Type 0) (s : SessionClaim) (request
   pub tells : Tells s request a.reply last
   pub place : a.pos ≡ length h
   pub reply : (opening : List Record) → opens opening → IsReply (life_log opening before) request a.reply
+  pub room : (opening : List Record) → opens opening → HadRoom opening before last
 
 -- ---- refusals
 

@@ -3,6 +3,7 @@ use Rattle.std.proofs.Common.{◌≡◌, ℕ, List, [], ◌∷◌, ◌++◌, Opt
 use Rattle.std.specs.Prelude.{IfOk, IfErr, IfSome, IsTrue, OnOk, not, ◌||◌, ◌<◌, ◌==◌}
 use Rattle.std.specs.List.{list_any}
 use mathlib.Core.List.{IsPrefix}
+use Rattle.std.proofs.lemmas.List.{append_cancel_right}
 use Rattle.books.specs.Rights.{SessionClaim}
 use Rattle.front.specs.Seen.{PassSeen}
 use Rattle.front.proofs.Keeping.{prefix_trans}
@@ -26,7 +27,7 @@ use Rattle.wal_record.specs.declared.entry.Entry.{Entry}
 use Rattle.wal_record.specs.declared.entry.Entry.TheVariants.{Rec}
 use Rattle.foster_laws.specs.Purges.{has_tombstone}
 use Rattle.foster_laws.proofs.Purging.{purge}
-use Rattle.page_ops.specs.Asking.{IsForestalled, IsLate, can_be_late, forestalls, last_place}
+use Rattle.page_ops.specs.Asking.{HasRoomFor, IsForestalled, IsLate, can_be_late, forestalls, last_place}
 use Rattle.page_ops.specs.Causes.{Ends, MeetsNoFault}
 use Rattle.page_ops.specs.Claims.{Claims, SessionAgrees}
 use Rattle.page_ops.specs.Desks.{Desk}
@@ -50,7 +51,7 @@ use Rattle.smo.specs.Purges.{EntersPurge, purge_of}
 use Rattle.smo.specs.Settled.{IsSettled}
 use Rattle.leaf_writes.specs.Changes.{UnlessEntered, change_group, half_of, record_by, said_by, split_change_group}
 use Rattle.leaf_writes.specs.Halves.{SplitsLeaf, lower_written}
-use Rattle.leaf_writes.specs.KeyWrites.{WritesAlone, WritesBy, WritesKey, group_on, has_room, needs_purge, state_on, desk_on, found}
+use Rattle.leaf_writes.specs.KeyWrites.{HadRoom, WritesAlone, WritesBy, WritesKey, group_on, has_room, needs_purge, state_on, desk_on, found}
 use Rattle.leaf_writes.specs.Owners.{EndsWith, IsDeclined, KeepsOwner}
 use Rattle.leaf_writes.specs.MayChange.{IsOwnUndo, IsWriter, MayBy, MayChange, undo_of}
 use Rattle.leaf_writes.specs.declared.change.Change.{Change}
@@ -69,6 +70,13 @@ module _ (opens : List Record → Type 0) (ledger sessions : LedgerName) (c : Ch
   last_of (Ok (Late pos)) g now old new e = tt
   last_of (Err fault) g now old new e = tt
 
+  room_of : (result : Result Entered Fault) (g now : Group) (old new : Known) → EntersGroup opens ledger sessions g now result old new → OnEntered result (HadRoom opens g now new.log)
+  room_of (Ok (At pos)) g now old new e = λ opening stands before is.
+      subst (λ (h : List Entry). HasRoomFor opening h g) (append_cancel_right e.enters.moment before (group_entries now.lsn now.recs g.said) (sym e.enters.is ∙ is)) (e.room opening stands)
+  room_of (Ok NoRoom) g now old new e = tt
+  room_of (Ok (Late pos)) g now old new e = tt
+  room_of (Err fault) g now old new e = tt
+
   abbrev Alone : Type 0
   Alone = WritesAlone opens ledger sessions c owner seen leaf leaf_now result old new
 
@@ -82,6 +90,7 @@ module _ (opens : List Record → Type 0) (ledger sessions : LedgerName) (c : Ch
       filled = subst (λ (h : Group). OnEntered result (AreFilled child h.recs now.recs)) is filled;
       settled = settled;
       last = subst (λ (h : Group). OnEntered result (EndsWith (group_entries now.lsn now.recs h.said) new.log)) is (last_of result g now old new enters.enters);
+      room = subst (λ (h : Group). OnEntered result (HadRoom opens h now new.log)) is (room_of result g now old new enters);
     };
     same = same;
   }
@@ -254,6 +263,7 @@ module _ (opens : List Record → Type 0) (ledger sessions : LedgerName) (c : Ch
           filled = subst (λ (q : ℕ × PageState). OnEntered result (AreFilled h.writes.child (group_on c owner q.0 q.1).recs now.recs)) (λ i. (made.page i, made.state i)) h.writes.filled;
           settled = settled_done result h.writes.child h.writes.settled;
           last = subst (λ (q : ℕ × PageState). OnEntered result (EndsWith (group_entries now.lsn now.recs (group_on c owner q.0 q.1).said) seen'.log)) (λ i. (made.page i, made.state i)) h.writes.last;
+          room = subst (λ (q : ℕ × PageState). OnEntered result (HadRoom opens (group_on c owner q.0 q.1) now seen'.log)) (λ i. (made.page i, made.state i)) h.writes.room;
         };
         same = same_on result h.same;
       }))

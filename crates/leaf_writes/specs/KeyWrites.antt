@@ -10,6 +10,7 @@ use Rattle.wal_record.specs.declared.record.Record.{Record}
 use Rattle.wal_record.specs.declared.entry.Entry.{Entry}
 use Rattle.wal_record.specs.declared.entry.Entry.TheVariants as entries
 use Rattle.foster_laws.specs.Purges.{has_tombstone}
+use Rattle.page_ops.specs.Asking.{HasRoomFor}
 use Rattle.page_ops.specs.Causes.{FailsToEnter, NoOther}
 use Rattle.page_ops.specs.Desks.{Desk}
 use Rattle.page_ops.specs.Gains.{Gains}
@@ -51,6 +52,10 @@ state_on child c at = if has_room c at then with_value c.key c.new at else lower
 abbrev pub desk_on : Bool → Desk → Result Entered Fault → Desk
 desk_on room d result = if room then d else desk_behind d result
 
+-- as the group came, which stands last in this history, there was the room that it asks for
+abbrev pub HadRoom : (List Record → Type 0) → Group → Group → List Entry → Type 0
+HadRoom opens asked now h = (opening : List Record) → opens opening → (before : List Entry) → h ≡ before ++ group_entries now.lsn now.recs asked.said → HasRoomFor opening before asked
+
 -- The group on a leaf of this state was handed in, behind these entries of the call's own; what it entered, and the leaf
 -- in hand, are as the answer says.
 pub record WritesOn (opens : List Record → Type 0) (ledger sessions : LedgerName) (c : Change) (owner : Option SessionClaim) (at : PageState) (first : List Entry)
@@ -62,6 +67,7 @@ pub record WritesOn (opens : List Record → Type 0) (ledger sessions : LedgerNa
   pub settled : OnEntered result (IsSettled (state_on child c at) seen leaf leaf_now)
   -- the group stands last
   pub last : OnEntered result (EndsWith (group_entries now.lsn now.recs (group_on c owner leaf.page at).said) new.log)
+  pub room : OnEntered result (HadRoom opens (group_on c owner leaf.page at) now new.log)
 
 -- the purge was refused, and nothing was entered
 pub record PurgeRefused (opens : List Record → Type 0) (ledger sessions : LedgerName) (leaf leaf_now : Hand) (result : Result Entered Fault) (old new : Known) : Type 0 where
