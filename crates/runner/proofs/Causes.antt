@@ -17,7 +17,7 @@ run_cause_since s0 s1 s2 k0 k1 k2 l0 l1 l2 status s k l cause = record {
   log = λ e. rose_since l0 l1 l2 l (cause.log e);
 }
 
-pub lived_since : {D : Type 0} (L : Ghosts D) (d0 d1 : D) (s0 s1 k0 k1 k2 : ℕ) (r : Lived D) → L.own d0 ≤ L.own d1 → s0 ≤ s1 → k0 ≤ k1 → LivedCause L d1 s1 s1 k1 k2 r → LivedCause L d0 s0 s1 k0 k2 r
-lived_since L d0 d1 s0 s1 k0 k1 k2 (ways.Stopped left) own source sink h = omega (arith, own, h)
-lived_since L d0 d1 s0 s1 k0 k1 k2 (ways.Ends status left) own source sink h =
-    (omega (arith, own, h.0), run_cause_since s0 s1 s1 k0 k1 k2 (L.own d0) (L.own d1) (L.own left) status source sink own h.1, h.2, h.3, h.4)
+pub lived_since : {D : Type 0} (L : Ghosts D) (l0 l1 s0 s1 k0 k1 k2 : ℕ) (r : Lived D) → l0 ≤ l1 → s0 ≤ s1 → k0 ≤ k1 → LivedCause L l1 s1 s1 k1 k2 r → LivedCause L l0 s0 s1 k0 k2 r
+lived_since L l0 l1 s0 s1 k0 k1 k2 (ways.Stopped left) own source sink h = omega (arith, own, h)
+lived_since L l0 l1 s0 s1 k0 k1 k2 (ways.Ends status left) own source sink h =
+    (omega (arith, own, h.0), run_cause_since s0 s1 s1 k0 k1 k2 l0 l1 (L.own left) status source sink own h.1, h.2, h.3, h.4)

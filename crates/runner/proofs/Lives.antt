@@ -1,31 +1,26 @@
 -- What holds at any place of a run: lives are right, and the log disk keeps a log that may be found.
-use Rattle.std.proofs.Common.{◌≡◌, ℕ, ◌≤◌, List, [], ◌∷◌, ◌++◌, Option, Some, None, refl, sym, ap, subst, ◌∙◌, append_assoc, inl, inr}
+use Rattle.std.proofs.Common.{◌≡◌, ℕ, ◌≤◌, true, List, [], ◌∷◌, ◌++◌, Option, Some, None, refl, sym, ap, subst, ◌∙◌, append-nil, inl, inr}
 use Rattle.std.specs.List.{All, list_any}
-use Rattle.std.proofs.lemmas.List.Folds.{list_any-append}
 use Rattle.std.proofs.lemmas.List.Elements.{All-cons, All-nil, All-append}
 use Rattle.media.specs.Crash.{Only, NoMore, LeavesOnly}
 use Rattle.media.specs.Kept.{Kept}
 use Rattle.media.specs.declared.disk.Disk.{Ghosts}
 use Rattle.log_blocks.specs.Log.{first_lsn}
-use Rattle.log_blocks.specs.LogState.{LogState}
+use Rattle.log_manager.specs.Devices.{DevicesStandFor}
 use Rattle.log_manager.specs.Records.{StandsForRecords}
-use Rattle.log_replay.proofs.WholeLogs.{hold_whole}
-use Rattle.wal_record.specs.Left.{IsLeft}
-use Rattle.wal_record.specs.History.{life_log}
-use Rattle.wal_record.specs.Sound.{IsLawful, AreLawful, HasRoom, IsSound}
-use Rattle.wal_record.proofs.Along.{AllAlong_less}
+use Rattle.stop_laws.specs.Stops.{StandsForLeft}
+use Rattle.wal_record.specs.Left.{IsLeft, acknowledges}
+use Rattle.wal_record.specs.History.{log_of}
+use Rattle.wal_record.specs.Sound.{IsSound}
 use Rattle.wal_record.specs.declared.record.Record.{Record}
-use Rattle.life_laws.specs.Calm.{splits_page}
-use Rattle.life_laws.proofs.Leaving.{either_false, has_room}
-use Rattle.life_laws.proofs.CalmLives.{calm_right, calm_sound}
-use Rattle.runner.specs.Active.{opened_by}
+use Rattle.wal_record.specs.declared.entry.Entry.{Entry}
+use Rattle.own_life.specs.State.{LifeState}
 use Rattle.runner.specs.Bytes.{Known}
-use Rattle.runner.specs.Leaf.{rows_of}
-use Rattle.runner.specs.LogDisk.{View, Whole, Form, IsWhole, StandsOn, Keeps, HoldsOne, lsn_from}
-use Rattle.runner.specs.Machine.{Out, In, Safe, IsCalm, IsOver, LivesOn}
+use Rattle.runner.specs.LogDisk.{View, Whole, Form, IsWhole, StandsOn, Keeps, HoldsOne}
+use Rattle.runner.specs.Machine.{Beginning, Begun, IsDiskOf, Out, Safe, Within}
 use Rattle.runner.specs.Turns.{Last, Found, Unsynced, Formatted, Unformatted, Stopped, Life, Stage, LeftBy, IsLeftBy, MayFind, MayBeLeft, IsRightLife, lives_of, last_after, bytes_after}
-use Rattle.runner.specs.Standing.{Standing}
-use Rattle.runner.proofs.Lists.{first_is}
+use Rattle.runner.proofs.Rights.{right_life}
+use Rattle.runner.proofs.Whole.{hold_whole}
 
 -- ---- views
 
@@ -70,37 +65,24 @@ pub stands_on : (log : List Record) (k : Kept) → IsSound log → (s : StandsFo
 stands_on log k sound s one = record { sound = sound; bs = s.bs; stands = s.stands; records = hold_whole log s.bs s.records one }
 
 -- a member of what a stop may leave of a life
-pub left_stands : (l : Life) (own : List Record) (k : Kept) → IsLeft l.opening l.history own → (s : StandsForRecords 0 (l.opening ++ own) k) → first_lsn s.bs ≡ 1 → HoldsOne (IsLeftBy l) k
-left_stands l own k left s one = (l.opening ++ own, (own, left, refl), stands_on (l.opening ++ own) k left.sound s one)
+left_stands : (l : Life) (h : List Entry) (least : ℕ) (k : Kept) → l.history ≡ h → StandsForLeft l.opening h least k → HoldsOne (IsLeftBy l) k
+left_stands l h least k same z = (
+  l.opening ++ z.own,
+  (z.own, subst (λ (x : List Entry). IsLeft l.opening x z.own) (sym same) z.left, refl),
+  record { sound = z.left.sound; bs = z.stands.bs; stands = z.stands.stands; records = z.stands.records },
+)
 
 -- ---- lives
 
 module _ {D : Type 0} (L : Ghosts D) where
-  module _ (log : LogState D) (standing : Standing) (l : Life) (lsn : ℕ) (c : IsCalm L log standing l lsn) where
-    pub calm_is_right : IsRightLife l
-    calm_is_right = calm_right l.opening l.history (rows_of standing.page) standing.head (opened_by standing.session) standing.next standing.commits lsn c.calm
-
-    -- without splits there is room at each place
-    durable_room : HasRoom (l.opening ++ c.durable)
-    durable_room =
-        let parts : life_log l.opening l.history ≡ (l.opening ++ c.durable) ++ c.waiting = ap (λ (rs : List Record). l.opening ++ rs) c.whole ∙ sym (append_assoc l.opening c.durable c.waiting) in
-        let sound = calm_sound l.opening l.history (rows_of standing.page) standing.head (opened_by standing.session) standing.next standing.commits lsn c.calm in
-        let unsplit = sym (ap (list_any splits_page) parts ∙ list_any-append splits_page (l.opening ++ c.durable) c.waiting) ∙ c.calm.log.whole in
-        has_room (l.opening ++ c.durable) (AllAlong_less IsLawful (l.opening ++ c.durable) c.waiting (subst AreLawful parts sound))
-        (either_false (list_any splits_page (l.opening ++ c.durable)) (list_any splits_page c.waiting) unsplit).0
-
-    pub calm_left : IsLeft l.opening l.history c.durable
-    calm_left = calm_is_right.behind c.durable c.waiting c.whole c.uncommitted durable_room
-
-    first_here : first_lsn c.stands.bs ≡ 1
-    first_here = sym (first_is (L.told log.device).start c.stands.bs) ∙ ap lsn_from (sym c.stands.durable.places_are) ∙ c.first
-
-    pub calm_keeps : Keeps L (LeftBy l) log.device
-    calm_keeps = keeps_only L (LeftBy l) log.device (left_stands l c.durable (L.told log.device) calm_left (record { bs = c.stands.bs; stands = c.stands.durable.stands; records = c.stands.records }) first_here) c.stands.durable.only
-
-  pub over : (log : LogState D) (standing : Standing) (l : Life) (e : Option ℕ) → LivesOn L log standing l e → L.tells → IsOver L log l
-  over log standing l None h t = record { right = calm_is_right log standing l h.lsn (h.calm t); keeps = calm_keeps log standing l h.lsn (h.calm t) }
-  over log standing l (Some n) h t = h t
+  -- the disk of a life that has stopped
+  pub life_keeps : (opens : List Record → Type 0) (x : LifeState) (l : Life) (disk : D) → opens l.opening → l.history ≡ x.history → IsDiskOf L opens x disk → Keeps L (LeftBy l) disk
+  life_keeps opens x l disk may same d =
+      let left = d.left l.opening may in
+      record {
+        now = left_stands l x.history d.least (L.told disk) same left.now;
+        crash = λ c m. left_stands l x.history d.least c same (left.crash c m);
+      }
 
   pub safe_out : (T : Type 0) (disk : D) (s : Stage) → Out T L disk s → Safe T L disk s
   safe_out T disk s h = record {
@@ -115,15 +97,45 @@ module _ {D : Type 0} (L : Ghosts D) where
   pub right_more : (past : List Life) (l : Life) → All IsRightLife past → IsRightLife l → All IsRightLife (past ++ l ∷ [])
   right_more past l h r = All-append IsRightLife past (l ∷ []) h (All-cons IsRightLife l [] r (All-nil IsRightLife))
 
-  pub safe_in : (T : Type 0) (log : LogState D) (standing : Standing) (s : Stage) → In L log standing s → Safe T L log.device s
-  safe_in T log standing s h = record {
-    right = λ t. subst (λ (x : Option Life). All IsRightLife (lives_of x s.past)) (sym h.life) (right_more s.past h.here (h.past t) (over log standing h.here log.ended h.lives t).right);
-    leaves = λ t. subst (λ (x : Option Life). Keeps L (last_after x s.last) log.device) (sym h.life) (over log standing h.here log.ended h.lives t).keeps;
-    bytes = subst (λ (x : Option Life). Known T L (bytes_after x s.bytes) log.device) (sym h.life) tt;
+  -- a life that has just begun, as its log disk stands
+  pub begun_keeps : (l : Life) (disk : D) → ◌≡◌ {A = List Entry} l.history [] → DevicesStandFor L.told L.may_leave disk l.opening → Keeps L (LeftBy l) disk
+  begun_keeps l disk none d =
+      let left : IsLeft l.opening l.history [] = record {
+        lost = [];
+        whole = ap log_of none;
+        sound = subst IsSound (sym (append-nil l.opening)) d.sound;
+        acknowledged = λ t acked. absurd (let e : list_any (acknowledges t) [] ≡ true = subst (λ (h : List Entry). list_any (acknowledges t) h ≡ true) none acked in cc);
+      } in
+      let here : IsLeftBy l l.opening = ([], left, sym (append-nil l.opening)) in
+      keeps_only L (LeftBy l) disk (l.opening, here, record { sound = d.sound; bs = d.log_disk.bs; stands = d.log_disk.stands; records = d.log_disk.records }) d.log_disk.only
+
+  -- the lives with one more
+  pub right_more : (past : List Life) (l : Life) → All IsRightLife past → IsRightLife l → All IsRightLife (past ++ l ∷ [])
+  right_more past l h r = All-append IsRightLife past (l ∷ []) h (All-cons IsRightLife l [] r (All-nil IsRightLife))
+
+  module _ (T : Type 0) (opens : List Record → Type 0) (x : LifeState) (s : Stage) (h : Within L opens x s) where
+    -- of any disk nothing is known within a life
+    pub known_in : (disk : D) → Known T L (bytes_after s.life s.bytes) disk
+    known_in disk = subst (λ (o : Option Life). Known T L (bytes_after o s.bytes) disk) (sym h.life) tt
+
+    pub safe_in : (disk : D) → IsDiskOf L opens x disk → Safe T L disk s
+    safe_in disk d = record {
+      right = λ t. subst (λ (o : Option Life). All IsRightLife (lives_of o s.past)) (sym h.life) (right_more s.past h.here (h.past t) (h.right t));
+      leaves = λ t. subst (λ (o : Option Life). Keeps L (last_after o s.last) disk) (sym h.life) (life_keeps opens x h.here disk (h.begins t) h.history d);
+      bytes = known_in disk;
+      goes = h.goes;
+      fuse = h.fused.fuse;
+    }
+
+  -- nothing has happened in it, so it is right
+  pub begun_right : (opening : List Record) → IsSound opening → IsRightLife (record { opening = opening; history = [] })
+  begun_right opening sound = right_life opening sound
+
+  pub safe_begun : (T : Type 0) (b : Beginning D) (s : Stage) → Begun T L b s → Safe T L b.log.log.device s
+  safe_begun T b s h = record {
+    right = λ t. subst (λ (o : Option Life). All IsRightLife (lives_of o s.past)) (sym h.life) (right_more s.past (record { opening = h.opening; history = [] }) (h.past t) (begun_right h.opening (h.begins t).may.sound));
+    leaves = λ t. subst (λ (o : Option Life). Keeps L (last_after o s.last) b.log.log.device) (sym h.life) (begun_keeps (record { opening = h.opening; history = [] }) b.log.log.device refl (h.begins t).stands);
+    bytes = subst (λ (o : Option Life). Known T L (bytes_after o s.bytes) b.log.log.device) (sym h.life) tt;
     goes = h.goes;
     fuse = h.fused.fuse;
   }
-
-  -- of any disk nothing is known within a life
-  pub known_in : (T : Type 0) (s : Stage) (log : LogState D) (standing : Standing) → In L log standing s → (disk : D) → Known T L (bytes_after s.life s.bytes) disk
-  known_in T s log standing h disk = subst (λ (x : Option Life). Known T L (bytes_after x s.bytes) disk) (sym h.life) tt

@@ -1,24 +1,22 @@
 -- Openings and formats of a disk that keeps a log that may be found.
-use Rattle.std.proofs.Common.{◌≡◌, ◌≢◌, ℕ, zero, suc, ◌+◌, ◌≤◌, true, List, [], ◌∷◌, ◌++◌, Option, refl, sym, ap, subst, ◌∙◌, arith, inl, inr, ⊎_elim, append-nil, length, length-append, take, Result, Ok, Err}
+use Rattle.std.proofs.Common.{◌≡◌, ◌≢◌, ℕ, zero, suc, ◌+◌, ◌≤◌, true, List, [], ◌∷◌, ◌++◌, Option, refl, sym, ap, subst, ◌∙◌, arith, inl, inr, ⊎_elim, length, length-append, take, Result, Ok, Err}
 use Rattle.std.specs.Prelude.{IfOk}
 use Rattle.media.specs.Crash.{NoMore}
 use Rattle.media.specs.Counted.{Blames}
 use Rattle.media.specs.Kept.{Kept}
 use Rattle.media.specs.declared.disk.Disk.{Ghosts}
-use Rattle.log_blocks.specs.Log.{Block, StandsFor, IsRun, open_gate, body, blocks, first_lsn}
+use Rattle.log_blocks.specs.Log.{Block, StandsFor, IsRun, first_lsn}
 use Rattle.log_blocks.specs.LogState.{LogState, IsDurable, durable_lsn}
 use Rattle.log_blocks.specs.Opening.{IsBadAt, IsLogFault, TellsFault, places}
 use Rattle.log_manager.specs.Managed.{HasMore, RecordsLeft, first_kept}
 use Rattle.log_manager.specs.Records.{AreIn, AreRecordsOf, IsLogOf, StandsForRecords, StandsForMoreRecords}
-use Rattle.log_replay.specs.Answers.{IsBadIn, Opens, IsNotReplayed}
-use Rattle.log_replay.specs.Answers.{IsLogFault as IsReplayFault}
-use Rattle.log_manager.specs.Devices.{HoldEnd}
-use Rattle.log_replay.specs.declared.found.Found.{Found}
-use Rattle.log_replay.specs.declared.found.NotReplayed.{NotReplayed}
-use Rattle.log_replay.specs.declared.found.NotReplayed.TheVariants as whys
+use Rattle.log_manager.specs.Devices.{HoldEnd, StandsForLog}
+use Rattle.opening.specs.Begins.{IsForLogFault, IsKept, IsWhyNot, MayBegin}
+use Rattle.opening.specs.Bytes.{IsRead, ShowsWhy, StaysSame}
+use Rattle.opening.specs.declared.reading.WhyNot.{WhyNot}
+use Rattle.opening.specs.declared.reading.WhyNot.TheVariants as causes
 use Rattle.store_model.specs.declared.fault.Fault.{Fault}
 use Rattle.store_model.specs.declared.fault.Fault.TheVariants as faults
-use Rattle.wal_record.specs.Checkpoints.{last_checkpoint}
 use Rattle.wal_record.specs.Rules.{is_limit}
 use Rattle.wal_record.specs.Sound.{IsSound}
 use Rattle.wal_record.specs.declared.record.Record.{Record}
@@ -26,24 +24,15 @@ use Rattle.log_laws.specs.Right.{first_log}
 use Rattle.life_laws.proofs.Leaving.{has_room}
 use Rattle.life_laws.proofs.Start.{calm_start}
 use Rattle.runner.specs.LogDisk.{StandsOn, Keeps, HoldsOne, lsn_from}
-use Rattle.runner.specs.Bytes.{IsFormatted}
 use Rattle.runner.specs.Causes.{Shows}
-use Rattle.runner.specs.Machine.{IsCalm}
-use Rattle.runner.specs.Openings.{IsMade, IsFirst, IsNotMade, IsNotBegun, IsBegun, IsFault, MadeStatus, ReadStatus, ReplayStatus}
-use Rattle.runner.specs.Turns.{Last, Life, LeftBy, IsLeftBy, Unformatted, MayFind, MayBeLeft}
-use Rattle.runner.specs.Standing.{Standing}
+use Rattle.runner.specs.Machine.{Beginning, BeginsOn}
+use Rattle.runner.specs.Openings.{IsMade, IsFirst, IsNotMade, IsNotBegunAt, IsBegun, IsFault, MadeStatus, ReadStatus}
+use Rattle.runner.specs.Turns.{Last, Unformatted, MayFind, MayBeLeft}
 use Rattle.runner.specs.declared.status.Status.{Status}
 use Rattle.runner.specs.declared.status.Status.TheVariants as statuses
+use Rattle.runner.proofs.Gates.{NeverBad, OneLog, bad_formatted, log_formatted}
 use Rattle.runner.proofs.Lists.{first_kept_is, next_is, next_of}
-use Rattle.runner.proofs.Lives.{calm_keeps, left_too, keeps_map, keeps_same, keeps_only, stands_on}
-
--- the laws on blocks that are used: the kept bytes stand for one list of blocks at most, and where they stand for one, no
--- block is bad
-abbrev pub OneLog : Type 0
-OneLog = (bs cs : List Block) (k : Kept) → StandsFor bs k → StandsFor cs k → bs ≡ cs
-
-abbrev pub NeverBad : Type 0
-NeverBad = (bs : List Block) (block byte : ℕ) (k : Kept) → StandsFor bs k → IsBadAt block byte k → ⊥
+use Rattle.runner.proofs.Lives.{left_too, keeps_map, keeps_same, keeps_only, stands_on}
 
 -- ---- which log is found
 
@@ -72,13 +61,6 @@ some_records : (log : List Record) (b : Block) (bs : List Block) → IsRun (firs
 some_records log b bs run h none =
     let own = h.records.records in
     omega (arith, run.1.count.0, own.3.records.count_is, ap length own.2, length-append own.0 own.1, ap length (sym h.is ∙ none), length-append h.dropped h.kept)
-
--- all records of the log are kept
-all_kept : (log : List Record) (bs : List Block) → AreRecordsOf 0 bs log → HoldEnd log bs → first_lsn bs ≡ 1
-all_kept log bs r h =
-    let a = next_of 0 0 bs log r.records in
-    let b = next_of 0 (last_checkpoint h.dropped) bs h.kept h.records.records in
-    h.first ∙ omega (arith, a, b, ap length h.is, length-append h.dropped h.kept)
 
 -- ---- a format
 
@@ -129,23 +111,6 @@ module _ (one_log : OneLog) {D : Type 0} (L : Ghosts D) (limit : ℕ) (is : is_l
 
 -- ---- an open gate
 
-bad_formatted : (block byte : ℕ) (k : Kept) → IsBadAt block byte k → IsFormatted k
-bad_formatted block byte k b = by b.before b.bytes
-  where
-    by : (before : List Block) → k.bytes ≡ blocks before ++ open_gate ∷ b.rest → IsFormatted k
-    by [] e = record { long = b.long; rest = b.rest; gate = e }
-    by (x ∷ xs) e = record { long = b.long; rest = (body x ++ blocks xs) ++ open_gate ∷ b.rest; gate = e }
-
-log_formatted : (b : Block) (bs : List Block) (k : Kept) → StandsFor (b ∷ bs) k → IsFormatted k
-log_formatted b bs k s = ⊎_elim
-    (λ short. absurd (let e : b ∷ bs ≡ [] = short.1 in cc))
-    (λ h. record {
-      long = omega (arith, ap length h.bytes, length-append (blocks (b ∷ bs)) (h.gate ∷ h.rest));
-      rest = (body b ++ blocks bs) ++ h.gate ∷ h.rest;
-      gate = h.bytes;
-    })
-    s.bytes
-
 module _ (never_bad : NeverBad) {D : Type 0} (L : Ghosts D) (disk left : D) (same : L.tells → L.told left ≡ L.told disk) (more : NoMore L.may_leave disk left) where
   kept : L.tells → (last : Last) → Keeps L last disk → Keeps L last left
   kept t last k = keeps_same L last disk left (same t) more k
@@ -158,18 +123,6 @@ module _ (never_bad : NeverBad) {D : Type 0} (L : Ghosts D) (disk left : D) (sam
     (λ t. bad_formatted block byte (L.told left) (subst (IsBadAt block byte) (sym (same t)) (bad t))),
   )
   made_refused limit _ status is bad = subst (λ (x : Status). IsNotMade L limit disk left x × Shows L left x) (sym is) ((λ t last k. kept t last k), tt)
-
-  -- an opening that read no log
-  pub read_refused : (line : ℕ) (fault : Fault) (status : Status) → ReadStatus fault status → (L.tells → TellsFault (L.told disk) fault) → IsNotBegun L line disk left status
-  read_refused line faults.LogFault status is bad = subst (IsNotBegun L line disk left) (sym is) (λ t last k. kept t last k)
-  read_refused line (faults.LogBad block byte) status is bad = subst (IsNotBegun L line disk left) (sym is) (λ t last k. never_bad k.now.2.bs block byte (L.told disk) k.now.2.stands (bad t))
-  read_refused line _ status is bad = subst (IsNotBegun L line disk left) (sym is) (λ t last k. kept t last k)
-
-  -- what it shows
-  pub read_shows : (fault : Fault) (status : Status) → ReadStatus fault status → (L.tells → TellsFault (L.told disk) fault) → Shows L left status
-  read_shows faults.LogFault status is bad = subst (Shows L left) (sym is) tt
-  read_shows (faults.LogBad block byte) status is bad = subst (Shows L left) (sym is) (λ t. inl (subst (IsBadAt block byte) (sym (same t)) (bad t)))
-  read_shows _ status is bad = subst (Shows L left) (sym is) tt
 
   -- want of memory
   pub made_no_memory : (limit : ℕ) → IsNotMade L limit disk left statuses.Memory
@@ -220,49 +173,65 @@ module _ (one_log : OneLog) {D : Type 0} (L : Ghosts D) (disk : D) (log : LogSta
 
 -- ---- an opening
 
-module _ (one_log : OneLog) {D : Type 0} (L : Ghosts D) (disk : D) (old new : LogState D) (found : L.tells → (bs : List Block) × IsDurable L.told L.may_leave old bs) (same : L.tells → L.told old.device ≡ L.told disk) (durable : L.tells → (bs : List Block) → IsDurable L.told L.may_leave old bs → IsDurable L.told L.may_leave new bs) where
-  module _ (t : L.tells) (last : Last) (k : Keeps L last disk) where
-    here : Finds last (found t).0
-    here = finds one_log L last disk old (found t).0 k (same t) (found t).1
+-- a disk on which this log was found
+module _ (one_log : OneLog) {D : Type 0} (T : Type 0) (L : Ghosts D) (disk : D) (last : Last) (k : Keeps L last disk) where
+  found_on : (bs : List Block) → StandsFor bs (L.told disk) → Finds last bs
+  found_on bs s =
+      let z : StandsOn k.now.0 (L.told disk) = k.now.2 in
+      record { log = k.now.0; may = k.now.1; sound = z.sound; records = subst (HoldEnd k.now.0) (one_log z.bs bs (L.told disk) z.stands s) z.records }
 
-    durable_new : IsDurable L.told L.may_leave new (found t).0
-    durable_new = durable t (found t).0 (found t).1
+  stands_for : StandsForLog k.now.0 (L.told disk)
+  stands_for = let z : StandsOn k.now.0 (L.told disk) = k.now.2 in record { bs = z.bs; stands = z.stands; records = z.records }
 
-    on_new : StandsOn here.log (L.told new.device)
-    on_new = record { sound = here.sound; bs = (found t).0; stands = durable_new.stands; records = here.records }
+  -- a life may begin on it
+  pub is_begun : (b : Beginning D) → IsRead L.told L.may_leave disk b.log.log → ((opening : List Record) → IsKept L.told disk opening → MayBegin T L.told L.may_leave b.log b.listing opening) → IsBegun T L b last
+  is_begun b read begins =
+      let f = found_on read.0 read.1 in
+      let z : StandsOn k.now.0 (L.told disk) = k.now.2 in
+      record {
+        opening = k.now.0;
+        found = k.now.1;
+        begins = record {
+          may = begins k.now.0 (record { sound = z.sound; stands = stands_for });
+          stands = record { sound = z.sound; log_disk = record { bs = read.0; stands = read.2.stands; only = read.2.only; records = f.records } };
+        };
+      }
 
-    keeps_new : Keeps L last new.device
-    keeps_new = keeps_only L last new.device (here.log, here.may, on_new) durable_new.only
+  -- the disk that was read keeps it
+  pub read_keeps : (log : LogState D) → IsRead L.told L.may_leave disk log → Keeps L last log.device
+  read_keeps log read =
+      let f = found_on read.0 read.1 in
+      keeps_only L last log.device (f.log, f.may, record { sound = f.sound; bs = read.0; stands = read.2.stands; records = f.records }) read.2.only
 
-  pub open_no_memory : (line : ℕ) → IsNotBegun L line disk new.device statuses.Memory
-  open_no_memory line = λ t last k. keeps_new t last k
+  pub same_keeps : (left : D) → StaysSame L.told L.may_leave disk left → Keeps L last left
+  same_keeps left same = ⊎_elim
+      (λ x. keeps_same L last disk left x.0 x.1 k)
+      (λ x.
+          let f = found_on x.0 x.1 in
+          keeps_only L last left (f.log, f.may, record { sound = f.sound; bs = x.0; stands = x.2; records = f.records }) x.3)
+      same
 
-  pub replay_refused : (line : ℕ) (why : NotReplayed) (status : Status) → ReplayStatus line why status → (L.tells → (bs : List Block) (rs : List Record) → IsDurable L.told L.may_leave old bs → HoldEnd rs bs → IsSound rs → IsNotReplayed rs bs why) → IsNotBegun L line disk new.device status
-  unfolding on_new
-  replay_refused line whys.Memory status is met = subst (IsNotBegun L line disk new.device) (sym is) (λ t last k. keeps_new t last k)
-  replay_refused line whys.LogFault status is met = subst (IsNotBegun L line disk new.device) (sym is) (λ t last k. keeps_new t last k)
-  replay_refused line (whys.LogBad block byte) status is met = subst (IsNotBegun L line disk new.device) (sym is) (λ t last k. let h = here t last k in met t (found t).0 h.log (found t).1 h.records h.sound)
-  replay_refused line whys.NotFormatted status is met = subst (IsNotBegun L line disk new.device) (sym is) (λ t last k. let h = here t last k in (subst (MayFind last) (met t (found t).0 h.log (found t).1 h.records h.sound) h.may, keeps_new t last k))
-  replay_refused line whys.NotBuilt status is met = subst (IsNotBegun L line disk new.device) (sym is) (
-    refl,
-    (λ t last k. let h = here t last k in (record { log = h.log; found = h.may; stands = on_new t last k; unbuilt = met t (found t).0 h.log (found t).1 h.records h.sound }, keeps_new t last k)),
-  )
+  kept_here : IsKept L.told disk k.now.0
+  kept_here = let z : StandsOn k.now.0 (L.told disk) = k.now.2 in record { sound = z.sound; stands = stands_for }
 
-  pub replay_shows : (line : ℕ) (why : NotReplayed) (status : Status) → ReplayStatus line why status → (L.tells → (bs : List Block) → IsDurable L.told L.may_leave old bs → IsBadIn bs why) → Shows L new.device status
-  replay_shows line (whys.LogBad block byte) status is bad = subst (Shows L new.device) (sym is) (λ t. inr ((found t).0, (durable t (found t).0 (found t).1).stands, bad t (found t).0 (found t).1))
-  replay_shows line whys.NotFormatted status is bad = subst (Shows L new.device) (sym is) (λ t. subst (λ (bs : List Block). StandsFor bs (L.told new.device)) (bad t (found t).0 (found t).1) (durable t (found t).0 (found t).1).stands)
-  replay_shows line whys.Memory status is bad = subst (Shows L new.device) (sym is) tt
-  replay_shows line whys.LogFault status is bad = subst (Shows L new.device) (sym is) tt
-  replay_shows line whys.NotBuilt status is bad = subst (Shows L new.device) (sym is) tt
+  -- why none begins
+  pub why_not : (left : D) (why : WhyNot) (status : Status) → ReadStatus why status → ((opening : List Record) → IsKept L.told disk opening → IsWhyNot opening why) → StaysSame L.told L.may_leave disk left → IsNotBegunAt L last left status
+  why_not left causes.NotFormatted status is not same = subst (IsNotBegunAt L last left) (sym is) (subst (MayFind last) (not k.now.0 kept_here) k.now.1, same_keeps left same)
+  why_not left (causes.Fault faults.LogFault) status is not same = subst (IsNotBegunAt L last left) (sym is) (same_keeps left same)
+  why_not left (causes.Fault (faults.LogBad block byte)) status is not same = subst (IsNotBegunAt L last left) (sym is) (not k.now.0 kept_here)
+  why_not left (causes.Fault _) status is not same = subst (IsNotBegunAt L last left) (sym is) (same_keeps left same)
 
-  pub did_begin_life : (log : LogState D) (standing : Standing) (ok : Found) → (L.tells → (bs : List Block) (rs : List Record) → IsDurable L.told L.may_leave old bs → HoldEnd rs bs → IsSound rs → Opens rs ok)
-      → (L.tells → (bs : List Block) (rs : List Record) → IsDurable L.told L.may_leave old bs → HoldEnd rs bs → IsSound rs → AreRecordsOf 0 bs rs × (new.next ≡ length rs + 1))
-      → (L.tells → (bs : List Block) (rs : List Record) → IsDurable L.told L.may_leave new bs → AreRecordsOf 0 bs rs → first_lsn bs ≡ 1 → Opens rs ok → new.next ≡ length rs + 1 → IsCalm L log standing (record { opening = rs; history = [] }) (length rs))
-      → L.tells → (last : Last) → Keeps L last disk → IsBegun L log standing last
-  did_begin_life log standing ok opens records begun t last k =
-      let h = here t last k in
-      let r = records t (found t).0 h.log (found t).1 h.records h.sound in
-      record { opening = h.log; found = h.may; calm = begun t (found t).0 h.log (durable_new t last k) r.0 (all_kept h.log (found t).0 r.0 h.records) (opens t (found t).0 h.log (found t).1 h.records h.sound) r.1 }
+pub read_shows : {D : Type 0} (L : Ghosts D) (left : D) (why : WhyNot) (status : Status) → ReadStatus why status → (L.tells → ShowsWhy (L.told left) why) → Shows L left status
+read_shows L left causes.NotFormatted status is shows = subst (Shows L left) (sym is) shows
+read_shows L left (causes.Fault (faults.LogBad block byte)) status is shows = subst (Shows L left) (sym is) shows
+read_shows L left (causes.Fault faults.LogFault) status is shows = subst (Shows L left) (sym is) tt
+read_shows L left (causes.Fault _) status is shows = subst (Shows L left) (sym is) tt
+
+pub read_fault : (why : WhyNot) (status : Status) → ReadStatus why status → (IsForLogFault why → status ≡ statuses.LogFault) × (status ≡ statuses.LogFault → IsForLogFault why)
+read_fault causes.NotFormatted status is = ((λ f. absurd f), (λ e. let x : statuses.NotFormatted ≡ statuses.LogFault = sym is ∙ e in absurd cc))
+read_fault (causes.Fault faults.LogFault) status is = ((λ f. is), (λ e. tt))
+read_fault (causes.Fault (faults.LogBad block byte)) status is = ((λ f. absurd f), (λ e. let x : statuses.LogBad block byte ≡ statuses.LogFault = sym is ∙ e in absurd cc))
+read_fault (causes.Fault _) status is = ((λ f. absurd f), (λ e. let x : statuses.Memory ≡ statuses.LogFault = sym is ∙ e in absurd cc))
 
 -- the first record of a log, flushed or not
 pub first_left : {D : Type 0} (L : Ghosts D) (limit : ℕ) (mid new : LogState D) → first_kept mid ≡ 1 → (left : RecordsLeft L.told L.may_leave 0 [] (first_log limit) mid new) → (least : ℕ) → least ≤ left.done → IsFirst L.told L.may_leave limit least new.device
@@ -282,18 +251,6 @@ made_fault faults.LogFault status is = ((λ f. is), (λ e. tt))
 made_fault (faults.LogBad block byte) status is = ((λ f. absurd f), (λ e. let x : statuses.AlreadyFormatted ≡ statuses.LogFault = sym is ∙ e in absurd cc))
 made_fault _ status is = ((λ f. absurd f), (λ e. let x : statuses.Memory ≡ statuses.LogFault = sym is ∙ e in absurd cc))
 
-pub read_fault : (fault : Fault) (status : Status) → ReadStatus fault status → (IsLogFault fault → status ≡ statuses.LogFault) × (status ≡ statuses.LogFault → IsLogFault fault)
-read_fault faults.LogFault status is = ((λ f. is), (λ e. tt))
-read_fault (faults.LogBad block byte) status is = ((λ f. absurd f), (λ e. let x : statuses.LogBad block byte ≡ statuses.LogFault = sym is ∙ e in absurd cc))
-read_fault _ status is = ((λ f. absurd f), (λ e. let x : statuses.Memory ≡ statuses.LogFault = sym is ∙ e in absurd cc))
-
-pub replay_fault : (line : ℕ) (why : NotReplayed) (status : Status) → ReplayStatus line why status → (IsReplayFault why → status ≡ statuses.LogFault) × (status ≡ statuses.LogFault → IsReplayFault why)
-replay_fault line whys.LogFault status is = ((λ f. is), (λ e. tt))
-replay_fault line whys.Memory status is = ((λ f. absurd f), (λ e. let x : statuses.Memory ≡ statuses.LogFault = sym is ∙ e in absurd cc))
-replay_fault line (whys.LogBad block byte) status is = ((λ f. absurd f), (λ e. let x : statuses.LogBad block byte ≡ statuses.LogFault = sym is ∙ e in absurd cc))
-replay_fault line whys.NotFormatted status is = ((λ f. absurd f), (λ e. let x : statuses.NotFormatted ≡ statuses.LogFault = sym is ∙ e in absurd cc))
-replay_fault line whys.NotBuilt status is = ((λ f. absurd f), (λ e. let x : statuses.NotBuilt line ≡ statuses.LogFault = sym is ∙ e in absurd cc))
-
 -- no block without records
 no_blocks : (n k : ℕ) (bs : List Block) → IsRun n bs → AreIn k bs [] → bs ≡ []
 no_blocks n k [] run r = refl
@@ -310,18 +267,3 @@ pub ok_map : {A B : Type 0} (r : Result A B) (P Q : A → Type 0) → ((a : A) �
 ok_map (Ok a) P Q f h = f a h
 ok_map (Err e) P Q f h = tt
 
-nothing_left : (own lost : List Record) → [] ≡ own ++ lost → ◌≡◌ {A = List Record} own []
-nothing_left [] lost e = refl
-nothing_left (r ∷ own) lost e = absurd cc
-
--- a life that has only begun leaves the log that it found
-pub begun_keeps : {D : Type 0} (L : Ghosts D) (log : LogState D) (standing : Standing) (last : Last) → IsBegun L log standing last → Keeps L last log.device
-begun_keeps L log standing last k =
-    keeps_map L (LeftBy begun) last log.device found (λ rs h. left_too last rs (found rs h))
-    (calm_keeps L log standing begun (length k.opening) k.calm)
-  where
-    begun : Life
-    begun = record { opening = k.opening; history = [] }
-
-    found : (rs : List Record) → IsLeftBy begun rs → MayFind last rs
-    found rs h = subst (MayFind last) (sym (h.2 ∙ ap (λ (own : List Record). k.opening ++ own) (nothing_left h.0 h.1.lost h.1.whole) ∙ append-nil k.opening)) k.found

@@ -1,5 +1,5 @@
 -- A run, turn by turn.
-use Rattle.std.proofs.Common.{◌≡◌, ◌≤◌, ℕ, ◌+◌, true, false, List, [], ◌∷◌, ◌++◌, Option, Some, None, Err, refl, sym, ap, subst, ◌∙◌, arith, inl, inr, append_assoc, append-nil, length, length-append}
+use Rattle.std.proofs.Common.{◌≡◌, ◌≤◌, ℕ, ◌+◌, true, false, List, [], ◌∷◌, ◌++◌, Option, Some, None, Err, refl, sym, ap, subst, ◌∙◌, arith, inl, inr, ⊎_elim, append_assoc, append-nil, length, length-append}
 use Rattle.std.specs.Prelude.{◌⊎◌, codes}
 use Rattle.std.specs.List.{All}
 use Rattle.std.proofs.lemmas.List.Elements.{All-nil}
@@ -11,21 +11,22 @@ use Rattle.store_model.specs.Along.{along, AllAlong}
 use Rattle.script.specs.declared.command.Command.{Command}
 use Rattle.script.specs.declared.command.Command.TheVariants as commands
 use Rattle.wal_record.specs.declared.entry.Entry.{Entry}
+use Rattle.wal_record.specs.declared.record.Record.{Record}
 use Rattle.script.specs.Line.{reads}
 use Rattle.runner.specs.declared.status.Status.{Status}
 use Rattle.runner.specs.declared.status.Status.TheVariants as statuses
 use Rattle.line_reader.specs.Lines.{Reader, to_come, first_reader, longest_script, IsBounded, IsLine, IsNoLine}
 use Rattle.line_reader.specs.Built.{is_built}
 use Rattle.runner.specs.Causes.{LineCause}
-use Rattle.runner.specs.Rows.{Fits, is_lawful}
-use Rattle.runner.specs.Turns.{Start, Turn, Stage, Cut, turn, stage, stage_step, begin_stage, bytes_after, longer, Life, IsRightLife, lives}
+use Rattle.runner.specs.Rows.{Fits, FitsAt, IsOfLife, is_lawful}
+use Rattle.runner.specs.Turns.{Start, Turn, Stage, End, Done, TooMany, LogFault, VaultFault, Ended as EndedBefore, Cut, turn, stage, stage_step, stage_after, begin_stage, bytes_after, longer, Life, IsRightLife, lives}
 use Rattle.runner.specs.Text.{text, lines}
-use Rattle.runner.specs.Refusals.{RefusesAt, CutAt, IsOpen, IsFormat, IsNotBuilt, IsSplit}
+use Rattle.runner.specs.Refusals.{RefusesAt, CutAt, LacksLines, IsOpen, IsFormat, IsNotBuilt}
 use Rattle.runner.specs.Machine.{Safe, Out, Adds}
 use Rattle.runner.specs.Bytes.{Bytes, Known}
 use Rattle.runner.specs.LogDisk.{Leaves}
 use Rattle.runner.specs.Vault.{Beside, IsVault}
-use Rattle.runner.specs.Status.{cuts}
+use Rattle.runner.specs.Status.{MayCut}
 use Rattle.runner.specs.Clause.{IsNext, IsPrefix, Partly, BadLine, Unlawful, OfCommand, NextLine, Ended, HandsBack, Headline, Between, Stopping, TakesCommand}
 use Rattle.runner.proofs.Turning.{stage_push, text_push, fits_push, script_push}
 use Rattle.runner.proofs.Vaults.{vault_first}
@@ -40,19 +41,73 @@ of_command : (P : Command → Type 0) (taken : ℕ) (bytes rest : List ℕ) (c :
 of_command P taken bytes rest c next e p = (bytes, next, subst (OfCommand P) (sym e) p)
 
 -- what a cut turn enters opens no life
+longer_bytes : (life : Option Life) (es : List Entry) (bytes : Bytes) → bytes_after (longer life es) bytes ≡ bytes_after life bytes
+longer_bytes None es bytes = refl
+longer_bytes (Some l) es bytes = refl
+
 cut_bytes : (s : Stage) (c : Command) (es : List Entry) → bytes_after (stage_step s (turn c es Cut)).life (stage_step s (turn c es Cut)).bytes ≡ bytes_after s.life s.bytes
 cut_bytes s (commands.Format limit) es = refl
-cut_bytes s (commands.Commit name) es = by s.life
-  where
-    by : (life : Option Life) → bytes_after (longer life es) s.bytes ≡ bytes_after life s.bytes
-    by None = refl
-    by (Some l) = refl
+cut_bytes s (commands.Begin name) es = longer_bytes s.life es s.bytes
+cut_bytes s (commands.Ask name request) es = longer_bytes s.life es s.bytes
+cut_bytes s (commands.Commit name) es = longer_bytes s.life es s.bytes
+cut_bytes s (commands.Abort name) es = longer_bytes s.life es s.bytes
+cut_bytes s commands.Checkpoint es = longer_bytes s.life es s.bytes
 cut_bytes s _ es = refl
 
 cut_vault : (s : Stage) (c : Command) (es : List Entry) → (stage_step s (turn c es Cut)).cycled ≡ s.cycled
 cut_vault s (commands.Format limit) es = refl
+cut_vault s (commands.Begin name) es = refl
+cut_vault s (commands.Ask name request) es = refl
 cut_vault s (commands.Commit name) es = refl
+cut_vault s (commands.Abort name) es = refl
+cut_vault s commands.Checkpoint es = refl
 cut_vault s _ es = refl
+
+cut_cut : (s : Stage) (c : Command) (es : List Entry) → (stage_step s (turn c es Cut)).cut ≡ true
+cut_cut s c es = refl
+
+-- a turn of a life opens none, and doesn't stop the machine
+life_still : (s : Stage) (l : Life) (t : Turn) → s.life ≡ Some l → IsOfLife t.command → ((stage_step s t).cycled ≡ s.cycled) × (bytes_after (stage_step s t).life (stage_step s t).bytes ≡ bytes_after s.life s.bytes)
+life_still s l t open kind = by t.command t.entries t.found t.end kind
+  where
+    by : (c : Command) (es : List Entry) (found : List Record) (end : End) → IsOfLife c → ((stage_after s c es found end).cycled ≡ s.cycled) × (bytes_after (stage_after s c es found end).life (stage_after s c es found end).bytes ≡ bytes_after s.life s.bytes)
+    by (commands.Begin name) es found Done k = (refl, longer_bytes s.life es s.bytes)
+    by (commands.Begin name) es found TooMany k = (refl, refl)
+    by (commands.Begin name) es found (LogFault n) k = (refl, longer_bytes s.life es s.bytes)
+    by (commands.Begin name) es found VaultFault k = (refl, longer_bytes s.life es s.bytes)
+    by (commands.Begin name) es found (EndedBefore n) k = (refl, refl)
+    by (commands.Begin name) es found Cut k = (refl, longer_bytes s.life es s.bytes)
+    by (commands.Ask name request) es found Done k = (refl, longer_bytes s.life es s.bytes)
+    by (commands.Ask name request) es found TooMany k = (refl, refl)
+    by (commands.Ask name request) es found (LogFault n) k = (refl, longer_bytes s.life es s.bytes)
+    by (commands.Ask name request) es found VaultFault k = (refl, longer_bytes s.life es s.bytes)
+    by (commands.Ask name request) es found (EndedBefore n) k = (refl, refl)
+    by (commands.Ask name request) es found Cut k = (refl, longer_bytes s.life es s.bytes)
+    by (commands.Commit name) es found Done k = (refl, longer_bytes s.life es s.bytes)
+    by (commands.Commit name) es found TooMany k = (refl, refl)
+    by (commands.Commit name) es found (LogFault n) k = (refl, longer_bytes s.life es s.bytes)
+    by (commands.Commit name) es found VaultFault k = (refl, longer_bytes s.life es s.bytes)
+    by (commands.Commit name) es found (EndedBefore n) k = (refl, refl)
+    by (commands.Commit name) es found Cut k = (refl, longer_bytes s.life es s.bytes)
+    by (commands.Abort name) es found Done k = (refl, longer_bytes s.life es s.bytes)
+    by (commands.Abort name) es found TooMany k = (refl, refl)
+    by (commands.Abort name) es found (LogFault n) k = (refl, longer_bytes s.life es s.bytes)
+    by (commands.Abort name) es found VaultFault k = (refl, longer_bytes s.life es s.bytes)
+    by (commands.Abort name) es found (EndedBefore n) k = (refl, refl)
+    by (commands.Abort name) es found Cut k = (refl, longer_bytes s.life es s.bytes)
+    by commands.Checkpoint es found Done k = (refl, longer_bytes s.life es s.bytes)
+    by commands.Checkpoint es found TooMany k = (refl, refl)
+    by commands.Checkpoint es found (LogFault n) k = (refl, longer_bytes s.life es s.bytes)
+    by commands.Checkpoint es found VaultFault k = (refl, longer_bytes s.life es s.bytes)
+    by commands.Checkpoint es found (EndedBefore n) k = (refl, refl)
+    by commands.Checkpoint es found Cut k = (refl, longer_bytes s.life es s.bytes)
+    by commands.Stat es found Done k = (refl, refl)
+    by commands.Stat es found TooMany k = (refl, refl)
+    by commands.Stat es found (LogFault n) k = (refl, refl)
+    by commands.Stat es found VaultFault k = (refl, longer_bytes s.life es s.bytes)
+    by commands.Stat es found (EndedBefore n) k = (refl, refl)
+    by commands.Stat es found Cut k = (refl, refl)
+    by _ es found end k = absurd k
 
 module _ {D E : Type 0} (T : Type 0) (L : Ghosts D) (V : vaults.Ghosts E) (start : Start) (disk : D) (first vault : E) (left0 told0 : Option (List ℕ)) (old new : Reader) (lo ln told : Option (List ℕ)) (turns : List Turn) (H : Stage → Type 0)
     (safe : (s : Stage) → H s → Safe T L disk s) (b : Between L.tells start (Beside V first vault H) left0 told0 old turns lo told) (most : IsBounded new) where
@@ -70,7 +125,7 @@ module _ {D E : Type 0} (T : Type 0) (L : Ghosts D) (V : vaults.Ghosts E) (start
   back = record { leaves = here.leaves; bytes = here.bytes; stored = b.holds.vault }
 
   -- between two turns
-  pub stop : (now : D) (rest : List ℕ) (status : Status) → cuts status ≡ false → Consumes (to_come old lo) (to_come new ln) rest → new.taken ≡ old.taken + length rest → Ended L start now status turns b.read rest (text start turns) (to_come new ln)
+  pub stop : (now : D) (rest : List ℕ) (status : Status) → MayCut status false → Consumes (to_come old lo) (to_come new ln) rest → new.taken ≡ old.taken + length rest → Ended L start status turns b.read rest (text start turns) (to_come new ln)
       → HandsBack T L V now first vault (stage start turns) → Ends now vault told status
   stop now rest status whole took size ended hands = record {
     turns = turns;
@@ -81,14 +136,14 @@ module _ {D E : Type 0} (T : Type 0) (L : Ghosts D) (V : vaults.Ghosts E) (start
     within = b.within;
     most = omega (arith, most, size, b.size);
     ran = record { script = b.script; fits = b.fits; right = here.right };
-    cut = here.goes ∙ sym whole;
+    cut = subst (MayCut status) (sym here.goes) whole;
     wrote = b.wrote;
     ended = ended;
     back = hands;
   }
 
   pub no_memory : (rest : List ℕ) → Consumes (to_come old lo) (to_come new ln) rest → new.taken ≡ old.taken + length rest → Ends disk vault told statuses.Memory
-  no_memory rest took size = stop disk rest statuses.Memory refl took size (all_of start turns) back
+  no_memory rest took size = stop disk rest statuses.Memory tt took size (all_of start turns) back
 
   at_line : (line : ℕ) → line ≡ old.lines + 1 → line ≡ length turns + 1
   at_line line is = is ∙ ap (λ (n : ℕ). n + 1) b.count
@@ -126,33 +181,50 @@ module _ {D E : Type 0} (T : Type 0) (L : Ghosts D) (V : vaults.Ghosts E) (start
     next : IsNext (length b.read) (bytes ++ 10 ∷ []) bytes
     next = record { is = refl; one = is; within = omega (arith, within, size, b.size, length-append bytes (10 ∷ [])) }
 
-    -- the log disk's own fault cuts a command off
-    cut_off : (now : D) → CutAt L now (stage start turns) c → IsKnown now → Ends now vault told statuses.LogFault
-    cut_off now cut known =
+    -- the run ends behind a turn of the line's command, whose lines aren't written
+    turned_off : (now : D) (status : Status) (t : Turn) → t.command ≡ c → FitsAt L.tells (stage start turns) t → (L.tells → All IsRightLife (lives (stage_step (stage start turns) t))) → Leaves L now (stage_step (stage start turns) t)
+        → (stage_step (stage start turns) t).cycled ≡ (stage start turns).cycled → bytes_after (stage_step (stage start turns) t).life (stage_step (stage start turns) t).bytes ≡ bytes_after (stage start turns).life (stage start turns).bytes
+        → MayCut status (stage_step (stage start turns) t).cut → Ended L start status (turns ++ t ∷ []) (b.read ++ (bytes ++ 10 ∷ [])) [] (text start turns) (to_come new ln) → IsKnown now → Ends now vault told status
+    turned_off now status t same fits right leaves vault_is bytes_are cut ended known = record {
+      turns = turns ++ t ∷ [];
+      read = b.read ++ (bytes ++ 10 ∷ []);
+      rest = [];
+      written = text start turns;
+      taken = taken_whole;
+      within = within_more;
+      most = omega (arith, most, read_more);
+      ran = record {
+        script = script_push b.read bytes turns t b.script is (e ∙ ap (λ (d : Command). Some d) (sym same));
+        fits = fits_push L.tells start turns t b.fits fits;
+        right = λ u. subst (λ (z : Stage). All IsRightLife (lives z)) (sym (stage_push start turns t)) (right u);
+      };
+      cut = subst (λ (z : Stage). MayCut status z.cut) (sym (stage_push start turns t)) cut;
+      wrote = b.wrote;
+      ended = ended;
+      back = subst (HandsBack T L V now first vault) (sym (stage_push start turns t)) (record {
+        leaves = leaves;
+        bytes = subst (λ (z : Bytes). Known T L z now) (sym bytes_are) known;
+        stored = subst (IsVault V first vault) (sym vault_is) b.holds.vault;
+      });
+    }
+
+    -- a cut turn has no lines
+    cut_text : (es : List Entry) → text start turns ≡ text start (turns ++ turn c es Cut ∷ [])
+    cut_text es = sym (text_push start turns (turn c es Cut) ∙ append-nil (text start turns))
+
+    -- a status cuts a command off
+    cut_off : (now : D) (status : Status) → MayCut status true → ((cut : CutAt L now (stage start turns) c) → Ended L start status (turns ++ turn c cut.entries Cut ∷ []) (b.read ++ (bytes ++ 10 ∷ [])) [] (text start turns) (to_come new ln)) → CutAt L now (stage start turns) c → IsKnown now → Ends now vault told status
+    cut_off now status may ended cut known =
         let s = stage start turns in
-        let t : Turn = turn c cut.entries Cut in
-        record {
-          turns = turns ++ t ∷ [];
-          read = b.read ++ (bytes ++ 10 ∷ []);
-          rest = [];
-          written = text start turns;
-          taken = taken_whole;
-          within = within_more;
-          most = omega (arith, most, read_more);
-          ran = record {
-            script = script_push b.read bytes turns t b.script is e;
-            fits = fits_push L.tells start turns t b.fits cut.fits;
-            right = λ u. subst (λ (s : Stage). All IsRightLife (lives s)) (sym (stage_push start turns t)) (cut.right u);
-          };
-          cut = ap (λ (s : Stage). s.cut) (stage_push start turns t);
-          wrote = b.wrote;
-          ended = sym (text_push start turns t ∙ append-nil (text start turns));
-          back = subst (HandsBack T L V now first vault) (sym (stage_push start turns t)) (record {
-            leaves = cut.leaves;
-            bytes = subst (λ (x : Bytes). Known T L x now) (sym (cut_bytes s c cut.entries)) known;
-            stored = subst (IsVault V first vault) (sym (cut_vault s c cut.entries)) b.holds.vault;
-          });
-        }
+        turned_off now status (turn c cut.entries Cut) refl cut.fits cut.right cut.leaves (cut_vault s c cut.entries) (cut_bytes s c cut.entries) may (ended cut) known
+
+    -- want of memory for the lines of a turn
+    lacks_lines : (now : D) → LacksLines L now (stage start turns) c → IsKnown now → Ends now vault told statuses.Memory
+    lacks_lines now lacks known =
+        let s = stage start turns in
+        let still = life_still s lacks.here lacks.turn lacks.life (subst IsOfLife (sym lacks.is) lacks.kind) in
+        turned_off now statuses.Memory lacks.turn lacks.is lacks.fits lacks.right lacks.leaves still.0 still.1 tt
+            (turns, lacks.turn ∷ [], omega arith, refl, prefix_self (text start turns), (lines s lacks.turn, text_push start turns lacks.turn)) known
 
     -- a command ends the run
     pub refused : (now : D) (line : ℕ) (status : Status) → line ≡ old.lines + 1 → is_built bytes ≡ true → RefusesAt L now (stage start turns) c line status × IsKnown now → Ends now vault told status
@@ -168,13 +240,12 @@ module _ {D E : Type 0} (T : Type 0) (L : Ghosts D) (V : vaults.Ghosts E) (start
         hands leaves = record { leaves = leaves; bytes = known; stored = b.holds.vault }
 
         by : (status : Status) → RefusesAt L now (stage start turns) c line status → Ends now vault told status
-        by statuses.Memory why = stop now whole statuses.Memory refl took count (all_of start turns) (hands why)
+        by statuses.Memory why = ⊎_elim (λ (left : Leaves L now (stage start turns)). stop now whole statuses.Memory tt took count (all_of start turns) (hands left)) (λ lacks. lacks_lines now lacks known) why
         by (statuses.Script m) why = stop now whole (statuses.Script m) refl took count (refl, why.0 ∙ at_line line n, inl (bytes, next, built, subst (Unlawful (stage start turns)) (sym e) why.1)) (hands why.2)
         by (statuses.NotBuilt m) why =
-            stop now whole (statuses.NotBuilt m) refl took count (refl, why.0 ∙ at_line line n, inr (of_command (λ d. (is_lawful (stage start turns) d ≡ true) × IsNotBuilt L now (stage start turns) d) (length b.read) bytes whole c next e (why.1, why.2))) (hands why.3)
-        by (statuses.NoSplit m) why =
-            stop now whole (statuses.NoSplit m) refl took count (refl, why.0 ∙ at_line line n, of_command (λ d. (is_lawful (stage start turns) d ≡ true) × IsSplit L.tells (stage start turns) d) (length b.read) bytes whole c next e (why.1, why.2)) (hands why.3)
-        by statuses.LogFault why = cut_off now why known
+            stop now whole (statuses.NotBuilt m) refl took count (refl, why.0 ∙ at_line line n, inr (of_command (λ d. (is_lawful (stage start turns) d ≡ true) × IsNotBuilt d) (length b.read) bytes whole c next e (why.1, why.2))) (hands why.3)
+        by statuses.LogFault why = cut_off now statuses.LogFault refl (λ cut. cut_text cut.entries) why known
+        by (statuses.BlockBad block byte) why = cut_off now (statuses.BlockBad block byte) refl (λ cut. (cut_text cut.entries, why.1)) why.0 known
         by (statuses.LogBad block byte) why = stop now whole (statuses.LogBad block byte) refl took count (refl, of_command IsOpen (length b.read) bytes whole c next e why.0, why.1) (hands (λ t. absurd (why.1 t)))
         by statuses.NotFormatted why = stop now whole statuses.NotFormatted refl took count (refl, of_command IsOpen (length b.read) bytes whole c next e why.0, why.1) (hands why.2)
         by statuses.AlreadyFormatted why = stop now whole statuses.AlreadyFormatted refl took count (refl, of_command IsFormat (length b.read) bytes whole c next e why.0, why.1) (hands why.2)
@@ -278,7 +349,7 @@ module _ {D E : Type 0} (T : Type 0) (L : Ghosts D) (V : vaults.Ghosts E) (start
   abbrev NotRun : Option (List ℕ) → Option (List ℕ) → Status → Type 0
   NotRun left told status = (pending : List ℕ) × Headline T L V start disk vault vault left pending left told told status
 
-  not_begun : (left told : Option (List ℕ)) (status : Status) → cuts status ≡ false → Ended L start disk status [] [] [] [] (prepend_known [] left) → Leaves L disk (begin_stage start) → Known T L start.bytes disk → NotRun left told status
+  not_begun : (left told : Option (List ℕ)) (status : Status) → MayCut status false → Ended L start status [] [] [] [] (prepend_known [] left) → Leaves L disk (begin_stage start) → Known T L start.bytes disk → NotRun left told status
   unfolding Fits AllAlong stage text along
   not_begun left told status whole ended leaves known = (
     [],
@@ -291,7 +362,7 @@ module _ {D E : Type 0} (T : Type 0) (L : Ghosts D) (V : vaults.Ghosts E) (start
       within = omega arith;
       most = omega arith;
       ran = record { script = refl; fits = tt; right = λ _. All-nil IsRightLife };
-      cut = sym whole;
+      cut = whole;
       wrote = Appends-nil told;
       ended = ended;
       back = record { leaves = leaves; bytes = known; stored = vault_first V vault };
@@ -309,7 +380,7 @@ module _ {D E : Type 0} (T : Type 0) (L : Ghosts D) (V : vaults.Ghosts E) (start
   not_generated left told leaves known = not_begun left told statuses.NoGenerator refl (refl, refl, refl, refl) leaves known
 
   pub no_buffer : (left told : Option (List ℕ)) → Leaves L disk (begin_stage start) → Known T L start.bytes disk → NotRun left told statuses.Memory
-  no_buffer left told leaves known = not_begun left told statuses.Memory refl nothing_written leaves known
+  no_buffer left told leaves known = not_begun left told statuses.Memory tt nothing_written leaves known
 
   pub ran_whole : (vault' : E) (left left' told told' : Option (List ℕ)) (old new : Reader) (status : Status) → old ≡ first_reader → Headline T L V start disk vault vault' (to_come old left) new.pending left' told told' status
       → (pending : List ℕ) × Headline T L V start disk vault vault' left pending left' told told' status

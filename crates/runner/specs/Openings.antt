@@ -43,13 +43,24 @@ pub record IsBegun {D : Type 0} (tells : Type 0) (L : Ghosts D) (b : Beginning D
   pub found : MayFind last opening
   pub begins : BeginsOn tells L b opening
 
--- why no life begins
+-- the statuses of an opening
+abbrev pub CanRefuseOpening : Status → Type 0
+CanRefuseOpening statuses.Memory = Unit {0}
+CanRefuseOpening statuses.LogFault = Unit {0}
+CanRefuseOpening (statuses.LogBad block byte) = Unit {0}
+CanRefuseOpening statuses.NotFormatted = Unit {0}
+CanRefuseOpening _ = ⊥
+
+-- why no life begins, where the disk was used so last
+abbrev pub IsNotBegunAt : {D : Type 0} → Ghosts D → Last → D → Status → Type 0
+IsNotBegunAt L last left statuses.Memory = Keeps L last left
+IsNotBegunAt L last left statuses.LogFault = Keeps L last left
+IsNotBegunAt L last left (statuses.LogBad block byte) = ⊥
+IsNotBegunAt L last left statuses.NotFormatted = MayFind last [] × Keeps L last left
+IsNotBegunAt L last left _ = ⊥
+
 abbrev pub IsNotBegun : {D : Type 0} → Ghosts D → D → D → Status → Type 0
-IsNotBegun L disk left statuses.Memory = Makes L disk (λ last. Keeps L last left)
-IsNotBegun L disk left statuses.LogFault = Makes L disk (λ last. Keeps L last left)
-IsNotBegun L disk left (statuses.LogBad block byte) = Makes L disk (λ last. ⊥)
-IsNotBegun L disk left statuses.NotFormatted = Makes L disk (λ last. MayFind last [] × Keeps L last left)
-IsNotBegun L disk left _ = ⊥
+IsNotBegun L disk left status = CanRefuseOpening status × Makes L disk (λ last. IsNotBegunAt L last left status)
 
 -- the status of a fault, where a log isn't made, and where it isn't opened
 abbrev pub MadeStatus : Fault → Status → Type 0

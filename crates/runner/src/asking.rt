@@ -9,7 +9,7 @@ ghost use Rattle.runner.specs.Promises.{Did, Refused};
 use crate::failing::{MOST, fail, told};
 use crate::status::Status;
 use media::Disk;
-use own_life::OwnLife;
+use own_life::{LifePages, OwnLife};
 use page_ops::Life;
 use script::{Device, Name};
 use std::alloc::{AllocError, Global};
@@ -17,15 +17,18 @@ use std::sync::Wait;
 use store_model::{Fault, Request};
 
 /// A request of an active transaction.
-pub fn ask_open<'a, N: Life, L: Disk, R: Wait>(
+pub fn ask_open<'a, N: Life, L: Disk, P: LifePages<N>, R: Wait>(
     rt: &R,
     alloc: Global,
     life: &mut OwnLife<'a, L, N>,
+    pages: &mut P,
     name: &Name,
     request: &Request,
 ) -> Result<Vec<u8>, Status>
     requires active { is_active life.old.active name.now ≡ true }
     requires goes { life.old.ended ≡ None }
+    requires idle { P.idle pages.old }
+    ensures idle { P.idle pages.new }
     ensures ok { IfOk result (λ lines. Did L.Disk N.opens life.old life.new (commands.Ask name.now request.now) lines.items) }
     ensures err { IfErr result (λ status. (line : ℕ) → Refused L.Disk N.opens life.old life.new (commands.Ask name.now request.now) line status) }
     ensures cause { IfErr result (LifeCause life.old.calls.own life.new.calls.own) }
@@ -43,7 +46,7 @@ pub fn ask_open<'a, N: Life, L: Disk, R: Wait>(
         Ok(asked) => asked,
         Err(_) => return Err(Status::Memory),
     };
-    let answered = life.ask(rt, alloc, name, asked);
+    let answered = life.ask(rt, alloc, pages, name, asked);
     life.look();
     match answered {
         Ok(answer) => told(transcript::request_lines(alloc, name, request, &answer.reply)),

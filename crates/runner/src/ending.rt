@@ -8,7 +8,7 @@ ghost use Rattle.runner.specs.Promises.{Did, Refused};
 use crate::failing::{MOST, fail, told};
 use crate::status::Status;
 use media::Disk;
-use own_life::OwnLife;
+use own_life::{LifePages, OwnLife};
 use page_ops::Life;
 use script::{Device, Name};
 use std::alloc::Global;
@@ -45,14 +45,17 @@ pub fn commit_open<'a, N: Life, L: Disk, R: Wait>(
 }
 
 /// An active transaction is undone, and ends.
-pub fn abort_open<'a, N: Life, L: Disk, R: Wait>(
+pub fn abort_open<'a, N: Life, L: Disk, P: LifePages<N>, R: Wait>(
     rt: &R,
     alloc: Global,
     life: &mut OwnLife<'a, L, N>,
+    pages: &mut P,
     name: &Name,
 ) -> Result<Vec<u8>, Status>
     requires active { is_active life.old.active name.now ≡ true }
     requires goes { life.old.ended ≡ None }
+    requires idle { P.idle pages.old }
+    ensures idle { P.idle pages.new }
     ensures ok { IfOk result (λ lines. Did L.Disk N.opens life.old life.new (commands.Abort name.now) lines.items) }
     ensures err { IfErr result (λ status. (line : ℕ) → Refused L.Disk N.opens life.old life.new (commands.Abort name.now) line status) }
     ensures cause { IfErr result (LifeCause life.old.calls.own life.new.calls.own) }
@@ -70,7 +73,7 @@ pub fn abort_open<'a, N: Life, L: Disk, R: Wait>(
         Ok(failed) => failed,
         Err(status) => return Err(status),
     };
-    let undone = life.abort(rt, alloc, name);
+    let undone = life.abort(rt, alloc, pages, name);
     life.look();
     match undone {
         Ok(_) => Ok(done),

@@ -12,7 +12,7 @@ use crate::failing::told;
 use crate::status::Status;
 use crate::upkeep::{checkpoint_open, stat_open};
 use media::Disk;
-use own_life::OwnLife;
+use own_life::{LifePages, OwnLife};
 use page_ops::Life;
 use script::{Command, Device, Name};
 use std::alloc::Global;
@@ -21,14 +21,17 @@ use store_model::{Fault, Request};
 use transcript::Upkeep;
 
 /// Carries a command out, and gives the lines that answer it.
-pub fn step<'a, N: Life, L: Disk, R: Wait>(
+pub fn step<'a, N: Life, L: Disk, P: LifePages<N>, R: Wait>(
     rt: &R,
     alloc: Global,
     life: &mut OwnLife<'a, L, N>,
+    pages: &mut P,
     command: &Command,
     line: u64,
 ) -> Result<Vec<u8>, Status>
-    requires { IsNoStop command.now }
+    requires stop { IsNoStop command.now }
+    requires idle { P.idle pages.old }
+    ensures idle { P.idle pages.new }
     ensures ok { IfOk result (λ lines. Did L.Disk N.opens life.old life.new command.now lines.items) }
     ensures err { IfErr result (Refused L.Disk N.opens life.old life.new command.now line) }
     ensures cause { IfErr result (LifeCause life.old.calls.own life.new.calls.own) }
@@ -37,9 +40,9 @@ pub fn step<'a, N: Life, L: Disk, R: Wait>(
     match command {
         Command::Nothing => Ok(Vec::new(alloc)),
         Command::Begin(name) => begin(rt, alloc, life, name, line),
-        Command::Ask(name, request) => ask(rt, alloc, life, name, request, line),
+        Command::Ask(name, request) => ask(rt, alloc, life, pages, name, request, line),
         Command::Commit(name) => commit(rt, alloc, life, name, line),
-        Command::Abort(name) => abort(rt, alloc, life, name, line),
+        Command::Abort(name) => abort(rt, alloc, life, pages, name, line),
         Command::Checkpoint => checkpoint(rt, alloc, life),
         Command::Stat => stat(rt, alloc, life),
         Command::Fuse { device, calls } => fuse(alloc, life, *device, *calls, line),
@@ -100,14 +103,17 @@ fn begin_open<'a, N: Life, L: Disk, R: Wait>(
     }
 }
 
-fn ask<'a, N: Life, L: Disk, R: Wait>(
+fn ask<'a, N: Life, L: Disk, P: LifePages<N>, R: Wait>(
     rt: &R,
     alloc: Global,
     life: &mut OwnLife<'a, L, N>,
+    pages: &mut P,
     name: &Name,
     request: &Request,
     line: u64,
 ) -> Result<Vec<u8>, Status>
+    requires idle { P.idle pages.old }
+    ensures idle { P.idle pages.new }
     ensures ok { IfOk result (λ lines. Did L.Disk N.opens life.old life.new (commands.Ask name.now request.now) lines.items) }
     ensures err { IfErr result (Refused L.Disk N.opens life.old life.new (commands.Ask name.now request.now) line) }
     ensures cause { IfErr result (LifeCause life.old.calls.own life.new.calls.own) }
@@ -118,7 +124,7 @@ fn ask<'a, N: Life, L: Disk, R: Wait>(
     }
     match life.ended() {
         Some(at) => told(transcript::request_ended(alloc, name, request, at)),
-        None => ask_open(rt, alloc, life, name, request),
+        None => ask_open(rt, alloc, life, pages, name, request),
     }
 }
 
@@ -143,13 +149,16 @@ fn commit<'a, N: Life, L: Disk, R: Wait>(
     }
 }
 
-fn abort<'a, N: Life, L: Disk, R: Wait>(
+fn abort<'a, N: Life, L: Disk, P: LifePages<N>, R: Wait>(
     rt: &R,
     alloc: Global,
     life: &mut OwnLife<'a, L, N>,
+    pages: &mut P,
     name: &Name,
     line: u64,
 ) -> Result<Vec<u8>, Status>
+    requires idle { P.idle pages.old }
+    ensures idle { P.idle pages.new }
     ensures ok { IfOk result (λ lines. Did L.Disk N.opens life.old life.new (commands.Abort name.now) lines.items) }
     ensures err { IfErr result (Refused L.Disk N.opens life.old life.new (commands.Abort name.now) line) }
     ensures cause { IfErr result (LifeCause life.old.calls.own life.new.calls.own) }
@@ -160,7 +169,7 @@ fn abort<'a, N: Life, L: Disk, R: Wait>(
     }
     match life.ended() {
         Some(at) => told(transcript::abort_ended(alloc, name, at)),
-        None => abort_open(rt, alloc, life, name),
+        None => abort_open(rt, alloc, life, pages, name),
     }
 }
 

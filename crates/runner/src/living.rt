@@ -18,7 +18,7 @@ use crate::turns::{Passed, turn_inside};
 use line_reader::Input;
 use media::{Disk, Sink, Source, Vault, write_all};
 use operators::Operators;
-use own_life::{OwnLife, open_life};
+use own_life::{LifePages, OwnLife, open_life};
 use page_ops::{Ground, Life, Tokens, Unnamed};
 use std::alloc::Global;
 use std::marker::Brand;
@@ -114,7 +114,7 @@ fn run_on<'a, N: Life, S: Source, K: Sink, V: Vault, L: Disk, R: Wait>(
     ensures cause { LivedCause L.Disk (L.own opened.log.log.device) (S.faults source.old) (S.faults source.new) (K.faults sink.old) (K.faults sink.new) result }
 {
     match open_life(alloc, operators, ground, tokens, opened.into_log()) {
-        Ok(life) => run_life(rt, alloc, input, source, sink, vault, life),
+        Ok((life, pages)) => run_life(rt, alloc, input, source, sink, vault, life, pages),
         Err(disk) => Lived::Ends {
             status: Status::Memory,
             disk,
@@ -123,7 +123,7 @@ fn run_on<'a, N: Life, S: Source, K: Sink, V: Vault, L: Disk, R: Wait>(
 }
 
 /// A life, from its opening to its stop or the end of the run.
-fn run_life<'a, N: Life, S: Source, K: Sink, V: Vault, L: Disk, R: Wait>(
+fn run_life<'a, N: Life, S: Source, K: Sink, V: Vault, L: Disk, P: LifePages<N>, R: Wait>(
     rt: &R,
     alloc: Global,
     input: &mut Input,
@@ -131,16 +131,20 @@ fn run_life<'a, N: Life, S: Source, K: Sink, V: Vault, L: Disk, R: Wait>(
     sink: &mut K,
     vault: &mut V,
     life: OwnLife<'a, L, N>,
+    pages: P,
 ) -> Lived<L>
+    requires idle { P.idle pages }
     ensures turns { (v : View L.tells) (start : Start) (first : V) (left told : Option (List ℕ)) (turns : List Turn)
         → Between (IsWhole v) start (Beside V.Vault first vault.old (Within (seen L.Disk v) N.opens life)) left told input.old turns (S.left source.old) (K.told sink.old)
         → LivedTo L.tells (seen L.Disk v) V.Vault start first vault.new left told input.new (S.left source.new) (K.told sink.new) result }
     ensures later { (S.faults source.old ≤ S.faults source.new) × (K.faults sink.old ≤ K.faults sink.new) }
     ensures cause { LivedCause L.Disk life.calls.own (S.faults source.old) (S.faults source.new) (K.faults sink.old) (K.faults sink.new) result }
 {
-    let mut life = life;
+    let (mut life, mut pages) = (life, pages);
     for _ in 0..u64::MAX {
-        match turn_inside::<N, S, K, V, L, R>(rt, alloc, input, source, sink, &mut life) {
+        match turn_inside::<N, S, K, V, L, P, R>(
+            rt, alloc, input, source, sink, &mut life, &mut pages,
+        ) {
             Passed::Goes => {}
             Passed::Stops { keep, lines } => {
                 return end_life(sink, vault, life.into_device(), keep, lines);

@@ -18,7 +18,7 @@ use crate::status::Status;
 use log_blocks::{never_bad, one_log, open_log};
 use log_manager::LogManager;
 use media::Disk;
-use opening::{Found, WhyNot, found, read_log};
+use opening::{Found, WhyNot, count_found, read_log};
 use std::alloc::Global;
 use std::slice;
 use store_model::Fault;
@@ -115,7 +115,7 @@ pub fn open<L: Disk>(alloc: Global, disk: L) -> Result<(Opened<L>, Found), NotOp
     one_log();
     never_bad();
     match read_log(alloc, disk) {
-        Ok(log) => match found(alloc, &log) {
+        Ok(log) => match count_found(alloc, &log) {
             Ok(found) => Ok((Opened::new(log), found)),
             Err(_) => Err(NotOpened {
                 disk: Opened::new(log).into_device(),

@@ -15,7 +15,7 @@ use crate::outside;
 use crate::status::Status;
 use line_reader::{Input, Next, NotRead, is_built};
 use media::{Disk, Sink, Source, Vault, write_all};
-use own_life::OwnLife;
+use own_life::{LifePages, OwnLife};
 use page_ops::Life;
 use script::{Command, command_of};
 use std::alloc::Global;
@@ -75,14 +75,17 @@ pub fn turn_outside<S: Source, K: Sink, V: Vault, L: Disk>(
 }
 
 /// One line within a life. The end of the input ends the run. A stop is left to the caller, who has the life.
-pub fn turn_inside<'a, N: Life, S: Source, K: Sink, V: Vault, L: Disk, R: Wait>(
+pub fn turn_inside<'a, N: Life, S: Source, K: Sink, V: Vault, L: Disk, P: LifePages<N>, R: Wait>(
     rt: &R,
     alloc: Global,
     input: &mut Input,
     source: &mut S,
     sink: &mut K,
     life: &mut OwnLife<'a, L, N>,
+    pages: &mut P,
 ) -> Passed
+    requires idle { P.idle pages.old }
+    ensures idle { P.idle pages.new }
     ensures turns { (v : View L.tells) (start : Start) (first vault : V) (left told : Option (List ℕ)) (turns : List Turn)
         → Between (IsWhole v) start (Beside V.Vault first vault (Within (seen L.Disk v) N.opens life.old)) left told input.old turns (S.left source.old) (K.told sink.old)
         → PassedTo L.tells (seen L.Disk v) V.Vault start (Within (seen L.Disk v) N.opens life.new) (IsDiskOf L.Disk N.opens life.new) first vault left told input.new turns (S.left source.new) (K.told sink.new) result }
@@ -103,7 +106,7 @@ pub fn turn_inside<'a, N: Life, S: Source, K: Sink, V: Vault, L: Disk, R: Wait>(
                 status: Status::Memory,
             },
         },
-        _ => match life::step(rt, alloc, life, &command, line) {
+        _ => match life::step(rt, alloc, life, pages, &command, line) {
             Ok(lines) => match write_all(sink, &lines) {
                 Ok(()) => Passed::Goes,
                 Err(_) => Passed::Ends {
