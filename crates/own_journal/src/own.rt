@@ -55,7 +55,7 @@ impl<'a, L: Disk, N: Life> OwnJournal<'a, L, N> {
     /// The LSN up to which the log was durable as the life ended, if it has ended; the pass then sees the whole history. It
     /// learns of no end: where the thread knew of one, whoever has all parts of the ledger of the log disk's faults has counted one.
     pub fn end_seen(&mut self, pass: &mut Pass<Entry, N>) -> Option<Lsn>
-        ensures same { self.new ≡ self.old }
+        ensures same { (self.new.journal ≡ self.old.journal) × (self.new.counts ≡ self.old.counts) }
         ensures seen { Looks N.opens N.entries N.session_entries (told self.old.counts self.old.journal.calls) pass.old (told self.new.counts self.new.journal.calls) pass.new }
         ensures whole { pass.new.log ≡ self.old.journal.history }
         ensures end { result ≡ self.old.journal.ended }
@@ -65,12 +65,15 @@ impl<'a, L: Disk, N: Life> OwnJournal<'a, L, N> {
     {
         let OwnJournal { journal, counts } = self;
         journal.see(&mut Rights::none(), pass, counts);
-        let end = journal.end();
-        if end.is_none() {
-            let _ = journal.ended(counts);
+        let _known = counts.ended();
+        match journal.end() {
+            Some(at) => Some(at),
+            None => {
+                // Nothing is learnt, and no fault was counted.
+                let _none = journal.ended(counts);
+                None
+            }
         }
-        let _ = counts.ended();
-        end
     }
 
     /// The log disk, as it is: the life has stopped. As `Journal::into_device`.

@@ -1,5 +1,14 @@
 use Rattle.journal.proofs.Calls.{knows_untouched, learnt_same}
+use Rattle.own_journal.proofs.Telling.{calm_told, enters_same}
+use Rattle.page_ops.specs.Claims.{no_claims}
+use Rattle.std.specs.Prelude.{[]}
 use Rattle.own_journal.proofs.own.OwnJournalEntering.pages.Goals as goal
 
 pub invariant_of-self : goal.invariant_of-self
 invariant_of-self g c = record { knows = knows_untouched c.args.self.now.counts c.pages.new.counts c.args.self.now.journal c.pages.new.self c.args.self.now.knows c.pages.ensures.disk (learnt_same _ _ _ c.pages.ensures.counts) }
+
+pub returns-clause-seen : goal.returns-clause-seen
+returns-clause-seen g c = enters_same g.N.Life.opens g.N.Life.entries g.N.Life.session_entries c.args.self.now.counts c.pages.new.counts c.args.self.now.journal c.pages.new.self c.args.pass.now c.pages.new.pass no_claims no_claims [] c.pages.ensures.counts c.pages.ensures.disk c.pages.ensures.seen
+
+pub returns-clause-calm : goal.returns-clause-calm
+returns-clause-calm g c = calm_told c.args.self.now.counts c.pages.new.counts c.args.self.now.journal.calls c.pages.new.self.calls c.pages.ensures.counts
