@@ -23,9 +23,9 @@ use Rattle.life_laws.proofs.Leaving.{either_false, log_of_append}
 use Rattle.log_laws.proofs.Central.{eqb_self}
 use Rattle.page_ops.specs.Causes.{FailsToBring, IsUntold, MeetsNoEnd}
 use Rattle.page_ops.specs.Claims.{SessionAgrees, session_alone}
-use Rattle.page_ops.specs.Desks.{Desk}
+use Rattle.page_ops.specs.Desks.{Desk, KeepsFaults}
 use Rattle.page_ops.specs.Names.{LedgerName}
-use Rattle.page_ops.specs.Seeing.{Account, Enters}
+use Rattle.page_ops.specs.Seeing.{Account, Enters, Keeps}
 use Rattle.page_ops.proofs.Gaining.{gains_of}
 use Rattle.command_laws.specs.Alone.{IsAlone}
 use Rattle.command_laws.specs.Commands.{Amid, Among, IsUpkeep, TakesBack, end_record}
@@ -190,6 +190,12 @@ module _ (opens : List Record → Type 0) (ledger sessions log_faults made : Led
 
     pub abort_durable_for : (old : ℕ) → old ≤ s1.seen.durable → old ≤ now.durable
     abort_durable_for old low = let l = roll.gains.durable in let e = ap (λ (p : PassSeen Entry). p.durable) is in omega (arith, l, e, low)
+
+    pub abort_keeps_for : Keeps a a2
+    abort_keeps_for = roll.gains.keeps
+
+    pub abort_faults_for : KeepsFaults d.faults d'.faults
+    abort_faults_for = roll.faults
 
     pub refused_for : MeetsNoEnd a a1 → (0 < s2.claim.tx → IfErr result (FailsToBring opens log_faults made d.faults d'.faults a1 a2 s3.seen.log)) → IfErr result (FailsToBring opens log_faults made d.faults d'.faults a a2 now.log)
     refused_for calm why = subst (λ (p : PassSeen Entry). IfErr result (FailsToBring opens log_faults made d.faults d'.faults a a2 p.log)) (sym is)

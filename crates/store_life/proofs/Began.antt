@@ -18,9 +18,9 @@ use Rattle.page_ops.specs.Causes.{Ends, EndsBy, FailsToEnter, NoOther}
 use Rattle.page_ops.specs.Claims.{SessionAgrees, no_claims}
 use Rattle.page_ops.specs.Names.{LedgerName}
 use Rattle.page_ops.specs.Outcomes.{IsCrowd, begun}
-use Rattle.page_ops.specs.Seeing.{Account, Counted, Enters, Looks, known}
+use Rattle.page_ops.specs.Seeing.{Account, Counted, Enters, Keeps, Looks, known}
 use Rattle.page_ops.proofs.Composing.{done_meets_none, ends_by_then}
-use Rattle.page_ops.proofs.Gaining.{gains_of}
+use Rattle.page_ops.proofs.Gaining.{gains_of, keeps_then}
 use Rattle.command_laws.specs.Alone.{IsAlone}
 use Rattle.command_laws.proofs.Alone.{entered, still_alone}
 use Rattle.command_laws.proofs.Sessions.{has_begun_none}
@@ -69,6 +69,9 @@ module _ (opens : List Record → Type 0) (ledger sessions : LedgerName) (a a1 :
 
   pub begun_from : (result : Result ℕ Fault) (s : SessionClaim) (h' : List Entry) → HasBegun result s t1.log h' → HasBegun result s t.log h'
   begun_from result s h' = subst (λ (h : List Entry). HasBegun result s h h') new_same
+
+  pub keeps_from : (a2 : Account) → Keeps a1 a2 → Keeps (with_made a a2.made) a2
+  keeps_from a2 k = subst (λ (m : Counted). Keeps (with_made a m) a2) (sym k.made) (keeps_then (with_made a a1.made) a1 a2 looks.keeps k)
 
   module _ (log_faults made : LedgerName) (a2 : Account) (h : List Entry) (made_same : a2.made ≡ a1.made) where
     -- the causes of a begin, behind a new session

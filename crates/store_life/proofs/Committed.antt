@@ -17,9 +17,9 @@ use Rattle.wal_record.proofs.Pushes.{last_begun_push, phase_push}
 use Rattle.life_laws.proofs.Leaving.{log_of_append}
 use Rattle.page_ops.specs.Names.{LedgerName}
 use Rattle.page_ops.specs.Outcomes.{Commits, CommitsOr, MayCommit}
-use Rattle.page_ops.specs.Seeing.{Account, Enters}
+use Rattle.page_ops.specs.Seeing.{Account, Enters, Keeps}
 use Rattle.page_ops.specs.declared.outcome.Committed.{Committed}
-use Rattle.page_ops.proofs.Gaining.{gains_of}
+use Rattle.page_ops.proofs.Gaining.{gains_of, keeps_then}
 use Rattle.command_laws.specs.Alone.{IsAlone}
 use Rattle.command_laws.specs.Commands.{commit_record}
 use Rattle.command_laws.proofs.Alone.{entered, still_alone}
@@ -159,3 +159,18 @@ module _ (opens : List Record → Type 0) (ledger sessions : LedgerName) (a a' :
 
   pub durable_for : (old : ℕ) → old ≤ s.seen.durable → old ≤ now.durable
   durable_for old low = let d = lasts result (entered there_is) in let e = ap (λ (p : PassSeen Entry). p.durable) is in omega (arith, d, e, low)
+
+  may_keep : MayCommit opens ledger sessions s.claim (known_by a s) (known_by a' s') → Keeps a a'
+  may_keep m = elim m.may [
+    | inl e ↦ e.keeps
+    | inr e ↦ e.1.keeps
+  ]
+
+  keeps : (r : Result Committed Fault) → CommitsOr opens ledger sessions s.claim r (known_by a s) (known_by a' s') → Keeps a a'
+  keeps (Ok x) e = keeps_then a e.between.account a' e.commit.keeps e.acked.keeps
+  keeps (Err faults.LogFault) e = may_keep e
+  keeps (Err (faults.Ended at)) e = may_keep e
+  keeps (Err _) e = e.keeps
+
+  pub keeps_for : Keeps a a'
+  keeps_for = keeps result (entered there_is)

@@ -16,7 +16,7 @@ use Rattle.page_ops.specs.Claims.{SessionAgrees, no_claims}
 use Rattle.page_ops.specs.Desks.{Faults}
 use Rattle.page_ops.specs.Gains.{Gains}
 use Rattle.page_ops.specs.Names.{LedgerName}
-use Rattle.page_ops.specs.Seeing.{Account, Enters, Looks, known}
+use Rattle.page_ops.specs.Seeing.{Account, Enters, Keeps, Looks, known}
 use Rattle.page_ops.proofs.Gaining.{gains_of}
 use Rattle.command_laws.specs.Alone.{IsAlone}
 use Rattle.command_laws.proofs.Alone.{entered, still_alone}
@@ -79,6 +79,15 @@ module _ (opens : List Record → Type 0) (ledger sessions : LedgerName) (a a' :
   checkpointed_durable (Err _) g = elim g [
     | inl n ↦ n.durable
     | inr c ↦ c.1.1.durable
+  ]
+
+  pub checkpointed_keeps : (result : Result ℕ Fault) → TakesCheckpoint opens ledger sessions result (known a t no_claims) (known a' t' no_claims) → Keeps a a'
+  checkpointed_keeps (Ok lsn) g = g.1.keeps
+  checkpointed_keeps (Err faults.Memory) g = g.keeps
+  checkpointed_keeps (Err faults.LogFault) g = g.1.1.keeps
+  checkpointed_keeps (Err _) g = elim g [
+    | inl n ↦ n.keeps
+    | inr c ↦ c.1.1.keeps
   ]
 
 -- ---- causes, where a look follows that met no end

@@ -27,3 +27,6 @@ returns-clause-ends g c =
 
 pub returns-clause-crowd : goal.returns-clause-crowd
 returns-clause-crowd g c = subst (λ (p : PassSeen Entry). IfErr c.begin-begun.result (IsCrowd p.log)) (sym c.seen.ensures.seen) c.begin-begun.ensures.crowd
+
+pub returns-clause-keeps : goal.returns-clause-keeps
+returns-clause-keeps g c = c.begin-begun.ensures.entered.keeps

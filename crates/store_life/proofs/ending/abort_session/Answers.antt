@@ -4,6 +4,7 @@ use Rattle.books.specs.Rights.{SessionClaim}
 use Rattle.wal_record.specs.declared.entry.Entry.{Entry}
 use Rattle.engine.specs.Sittings.{Sitting}
 use Rattle.page_ops.specs.Causes.{FailsToBring}
+use Rattle.page_ops.proofs.Gaining.{keeps_then}
 use Rattle.store_life.proofs.Looked.{again_alone, again_durable, again_ends, again_same, then_open, then_refused}
 use Rattle.store_life.proofs.ending.abort_session.Goals as goal
 
@@ -28,3 +29,7 @@ pub returns-clause-refused : goal.returns-clause-refused
 returns-clause-refused g c =
     subst (λ (l : List Entry). IfErr c.undo_session-ended.result (FailsToBring g.N.Life.opens g.N.Life.log_faults g.N.Life.made (g.P.Pages.desk c.args.pages.now).faults (g.P.Pages.desk c.undo_session-ended.new.pages).faults (g.J.Entering.account c.args.journal.now) (g.J.Entering.account c.see_session.new.journal) l)) (sym (again_same g.N.Life.opens g.N.Life.entries g.N.Life.session_entries (g.J.Entering.account c.undo_session-ended.new.journal) (g.J.Entering.account c.see_session.new.journal) c.undo_session-ended.new.pass c.undo_session-ended.new.session c.see_session.new.session c.seen.result c.undo_session-ended.ensures.alone c.undo_session-ended.ensures.seen c.see_session.ensures.seen c.seen.ensures.seen))
     (then_refused g.N.Life.opens g.N.Life.log_faults g.N.Life.made (g.P.Pages.desk c.args.pages.now).faults (g.P.Pages.desk c.undo_session-ended.new.pages).faults (g.J.Entering.account c.args.journal.now) (g.J.Entering.account c.undo_session-ended.new.journal) (g.J.Entering.account c.see_session.new.journal) c.see_session.ensures.calm.end c.undo_session-ended.new.pass.log c.undo_session-ended.result c.undo_session-ended.ensures.refused)
+
+pub returns-clause-keeps : goal.returns-clause-keeps
+returns-clause-keeps g c =
+    keeps_then (g.J.Entering.account c.args.journal.now) (g.J.Entering.account c.undo_session-ended.new.journal) (g.J.Entering.account c.see_session.new.journal) c.undo_session-ended.ensures.keeps c.see_session.ensures.seen.keeps

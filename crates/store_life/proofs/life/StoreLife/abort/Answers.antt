@@ -1,5 +1,7 @@
 use Rattle.std.proofs.Common.{List, subst, sym, ◌∙◌}
 use Rattle.command_laws.specs.Names.{Active, AreNamed}
+use Rattle.page_ops.proofs.Gaining.{keeps_self}
+use Rattle.rollback.proofs.Composing.{faults_self}
 use Rattle.store_life.specs.Turns.{EndsBy}
 use Rattle.store_life.specs.SoFar.{active_by, actives}
 use Rattle.store_life.proofs.Naming.{aborted_named}
@@ -34,3 +36,9 @@ returns-then-is_ok-clause-named g c = λ named. subst (λ (active : List Active)
 pub returns-else-is_ok-clause-named : goal.returns-else-is_ok-clause-named
 returns-else-is_ok-clause-named g c = λ named. subst (λ (active : List Active). AreNamed c.abort_session-ended.new.pass.log active) (sym (left_there c.args.self.now.named.items c.args.name.now c.in-Some.place c.index_mut-named.result.now (sym c.place.ensures ∙ c.in-Some.is) c.index_mut-named.ensures.value c.abort_session-ended.result c.abort_session-ended.new.session (sym c.is_ok.ensures.value ∙ c.if-is_ok.false) c.abort_session-ended.ensures.holder c.abort_session-ended.ensures.stays))
     (aborted_named g.N.Life.opens (g.J.Entering.account c.args.journal.now) c.args.self.now.pass.log (actives c.args.self.now.named.items) c.args.name.now (active_by c.index_mut-named.result.now) (here c.args.self.now.named.items c.args.name.now c.in-Some.place c.index_mut-named.result.now (sym c.place.ensures ∙ c.in-Some.is) c.index_mut-named.ensures.value) named c.abort_session-ended.result c.abort_session-ended.new.pass.log c.abort_session-ended.ensures.aborts)
+
+pub returns-in-None-clause-keeps : goal.returns-in-None-clause-keeps
+returns-in-None-clause-keeps g c = keeps_self (g.J.Entering.account c.args.journal.now)
+
+pub returns-in-None-clause-faults : goal.returns-in-None-clause-faults
+returns-in-None-clause-faults g c = faults_self (g.P.Pages.desk c.args.pages.now).faults

@@ -1,6 +1,8 @@
 use Rattle.std.proofs.Common.{List, subst, sym, ◌∙◌}
 use Rattle.std.specs.Prelude.{IfOk}
 use Rattle.command_laws.specs.Names.{Active, AreNamed}
+use Rattle.page_ops.proofs.Gaining.{keeps_self}
+use Rattle.rollback.proofs.Composing.{faults_self}
 use Rattle.store_life.specs.Turns.{Asks, IsTold}
 use Rattle.store_life.specs.SoFar.{actives}
 use Rattle.store_life.proofs.Naming.{asked_named}
@@ -26,3 +28,9 @@ pub returns-clause-named : goal.returns-clause-named
 returns-clause-named g c = λ named.
     subst (λ (active : List Active). AreNamed c.ask_session.new.pass.log active) (sym (same_actives c.args.self.now.named.items c.in-Some.place c.index_mut-named.result.now (at_place c.args.self.now.named.items c.args.name.now c.in-Some.place c.index_mut-named.result.now (sym c.place.ensures ∙ c.in-Some.is) c.index_mut-named.ensures.value) c.ask_session.new.session c.ask_session.ensures.holder.0 c.ask_session.ensures.holder.1))
     (asked_named g.N.Life.opens c.index_mut-named.result.now.session.claim.session c.index_mut-named.result.now.session.claim.tx c.args.request c.ask_session.result c.args.self.now.pass.log c.ask_session.new.pass.log (actives c.args.self.now.named.items) c.ask_session.ensures.asks named)
+
+pub returns-in-None-clause-keeps : goal.returns-in-None-clause-keeps
+returns-in-None-clause-keeps g c = keeps_self (g.J.Entering.account c.args.journal.now)
+
+pub returns-in-None-clause-faults : goal.returns-in-None-clause-faults
+returns-in-None-clause-faults g c = faults_self (g.P.Pages.desk c.args.pages.now).faults

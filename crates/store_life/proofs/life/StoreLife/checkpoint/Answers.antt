@@ -1,5 +1,5 @@
 use Rattle.store_life.specs.SoFar.{actives}
-use Rattle.store_life.proofs.Looked.{checkpointed, checkpointed_alone, checkpointed_durable}
+use Rattle.store_life.proofs.Looked.{checkpointed, checkpointed_alone, checkpointed_durable, checkpointed_keeps}
 use Rattle.store_life.proofs.Naming.{checkpointed_named}
 use Rattle.store_life.proofs.life.StoreLife.checkpoint.Goals as goal
 
@@ -14,3 +14,6 @@ returns-clause-named g c = λ named. checkpointed_named c.checkpoint.result c.ar
 
 pub returns-clause-durable : goal.returns-clause-durable
 returns-clause-durable g c = checkpointed_durable g.N.Life.opens g.N.Life.entries g.N.Life.session_entries (g.J.Entering.account c.args.journal.now) (g.J.Entering.account c.checkpoint.new.journal) c.args.self.now.pass c.checkpoint.new.pass c.requires.alone c.checkpoint.result c.checkpoint.ensures.entered
+
+pub returns-clause-keeps : goal.returns-clause-keeps
+returns-clause-keeps g c = checkpointed_keeps g.N.Life.opens g.N.Life.entries g.N.Life.session_entries (g.J.Entering.account c.args.journal.now) (g.J.Entering.account c.checkpoint.new.journal) c.args.self.now.pass c.checkpoint.new.pass c.requires.alone c.checkpoint.result c.checkpoint.ensures.entered

@@ -1,5 +1,6 @@
 use Rattle.std.proofs.Common.{List, subst, sym, ◌∙◌}
 use Rattle.command_laws.specs.Names.{Active, AreNamed}
+use Rattle.page_ops.proofs.Gaining.{keeps_self}
 use Rattle.store_life.specs.Turns.{IsCommitted}
 use Rattle.store_life.specs.SoFar.{active_by, actives}
 use Rattle.store_life.proofs.Naming.{committed_named}
@@ -37,3 +38,6 @@ returns-then-is_ok-clause-named g c = λ named. subst (λ (active : List Active)
 pub returns-else-is_ok-clause-named : goal.returns-else-is_ok-clause-named
 returns-else-is_ok-clause-named g c = λ named. subst (λ (active : List Active). AreNamed c.commit_session-committed.new.pass.log active) (sym (left_there c.args.self.now.named.items c.args.name.now c.in-Some.place c.index_mut-named.result.now (sym c.place.ensures ∙ c.in-Some.is) c.index_mut-named.ensures.value c.commit_session-committed.result c.commit_session-committed.new.session (sym c.is_ok.ensures.value ∙ c.if-is_ok.false) c.commit_session-committed.ensures.holder c.commit_session-committed.ensures.stays))
     (committed_named g.N.Life.opens (g.J.Entering.account c.args.journal.now) c.args.self.now.pass.log (actives c.args.self.now.named.items) c.args.name.now (active_by c.index_mut-named.result.now) (here c.args.self.now.named.items c.args.name.now c.in-Some.place c.index_mut-named.result.now (sym c.place.ensures ∙ c.in-Some.is) c.index_mut-named.ensures.value) named c.commit_session-committed.result c.commit_session-committed.new.pass c.commit_session-committed.ensures.commits)
+
+pub returns-in-None-clause-keeps : goal.returns-in-None-clause-keeps
+returns-in-None-clause-keeps g c = keeps_self (g.J.Entering.account c.args.journal.now)

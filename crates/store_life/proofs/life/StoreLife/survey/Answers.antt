@@ -9,3 +9,6 @@ returns-clause-same g c = looked_same g.N.Life.opens g.N.Life.entries g.N.Life.s
 
 pub returns-clause-durable : goal.returns-clause-durable
 returns-clause-durable g c = c.survey.ensures.seen.durable
+
+pub returns-clause-keeps : goal.returns-clause-keeps
+returns-clause-keeps g c = c.survey.ensures.seen.keeps
