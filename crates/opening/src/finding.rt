@@ -18,8 +18,8 @@ pub struct Found {
     pub losers: u64,
 }
 
-/// What an opening with this log has found.
-pub fn found<L: Disk>(alloc: Global, log: &ListedLog<L>) -> Result<Found, Memory>
+/// What an opening that read this log has found.
+pub fn count_found<L: Disk>(alloc: Global, log: &ListedLog<L>) -> Result<Found, Memory>
     ensures { IfOk result (λ f. (opening : List Record) → MayBegin L.tells L.told L.may_leave log.now.log log.now.listing opening
         → (f.commits ≡ checkpoints.commits opening) × (f.losers ≡ length (writes.losers opening))) }
 {

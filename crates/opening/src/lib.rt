@@ -14,7 +14,7 @@
 //!
 //! Of any disk that tells its bytes, also one that stands for no log, `specs/Bytes` says what was seen in them: an open log
 //! has the blocks that they stood for, a log is refused as not formatted only where it is empty, and as bad only at a block
-//! and byte that are at fault. [`found`] counts what an opening has found: commits and losers.
+//! and byte that are at fault. [`count_found`] says what an opening has found: how many commits, and how many losers.
 #![tactic(auto)]
 
 mod beginning;
@@ -22,5 +22,5 @@ mod finding;
 mod reading;
 
 pub use beginning::{Begun, Prepared, prepare, start};
-pub use finding::{Found, found};
+pub use finding::{Found, count_found};
 pub use reading::{NotOpened, WhyNot, read_log};

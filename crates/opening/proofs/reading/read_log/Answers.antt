@@ -1,6 +1,7 @@
 use Rattle.std.proofs.Common.{◌≡◌, ◌≤◌, ◌^◌, ◌+◌, length, sym, ap, ◌∙◌, subst, arith}
 use Rattle.std.specs.Prelude.{Result, IsErrAnd}
 use Rattle.media.specs.Counted.{Blames}
+use Rattle.media.specs.Kept.{Kept}
 use Rattle.media.proofs.Blaming.{then_more}
 use Rattle.store_model.specs.declared.fault.Fault.{Fault}
 use Rattle.log_blocks.specs.Opening.{IsLogFault}
@@ -11,7 +12,10 @@ use Rattle.log_manager.specs.Devices.{DevicesStandFor}
 use Rattle.opening.specs.Begins.{IsForLogFault, IsWhyNot, MayBegin}
 use Rattle.opening.specs.declared.reading.NotOpened.{NotOpened}
 use Rattle.opening.specs.declared.reading.WhyNot.{WhyNot}
+use Rattle.opening.specs.declared.reading.WhyNot.TheVariants as causes
 use Rattle.opening.proofs.Begins.{begins_safe, held, holds_end, last_is, next_is, next_kept, none_there, not_bad, some_there, stands_open, stands_still}
+use Rattle.opening.specs.Bytes.{IsRead, ShowsWhy, StaysSame}
+use Rattle.opening.proofs.Bytes.{is_read, shows_analysed, shows_headers, shows_none, stays_by, stays_open}
 use Rattle.opening.proofs.reading.read_log.Goals as goal
 
 pub returns-in-Err-clause-refused : goal.returns-in-Err-clause-refused
@@ -101,3 +105,52 @@ returns-in-Err-analyse-clause-fuse g c =
     subst (λ (r : NotOpened g.row.L.Denot). Blames g.L.Disk.passes g.L.Disk.refused g.L.Disk.own c.args.disk r.disk (IsForLogFault r.why)) (sym c.not_opened-in-Err-analyse.ensures)
     (then_more g.L.Disk.passes g.L.Disk.refused g.L.Disk.own c.args.disk c.in-Ok.log.device c.analyse.new.log.device ⊥ (IsLogFault c.in-Err-analyse.fault) c.in-Ok.ensures.fuse (λ never. never)
     (subst (λ (r : Result Listing Fault). Blames g.L.Disk.passes g.L.Disk.refused g.L.Disk.own c.in-Ok.log.device c.analyse.new.log.device (IsErrAnd r IsLogFault)) c.in-Err-analyse.is c.analyse.ensures.fuse))
+
+pub returns-in-Ok-analyse-clause-read : goal.returns-in-Ok-analyse-clause-read
+returns-in-Ok-analyse-clause-read g c = λ t.
+    let b = c.in-Ok.ensures.blocks t in
+    subst (λ (m : Managed g.row.L.Denot). IsRead g.L.Disk.told g.L.Disk.may_leave c.args.disk m.log) (sym (c.new.ensures.same.0 ∙ c.start.ensures.same))
+    (is_read g.L.Disk.told g.L.Disk.may_leave c.args.disk c.in-Ok.log (c.in-Ok.ensures.same t) b.0 b.1 c.analyse.new.log (c.analyse.ensures.durable t b.0 b.1))
+
+pub returns-in-Err-clause-shows : goal.returns-in-Err-clause-shows
+returns-in-Err-clause-shows g c = λ t.
+    subst (λ (k : Kept). ShowsWhy k (causes.Fault c.in-Err.refused.fault)) (sym (c.in-Err.ensures.same t)) (shows_headers (g.L.Disk.told c.args.disk) c.in-Err.refused.fault (c.in-Err.ensures.bad t))
+
+pub returns-then-last-eq0-clause-shows : goal.returns-then-last-eq0-clause-shows
+returns-then-last-eq0-clause-shows g c = λ t.
+    let b = c.in-Ok.ensures.blocks t in
+    subst (λ (r : NotOpened g.row.L.Denot). ShowsWhy (g.L.Disk.told r.disk) r.why) (sym c.not_opened.ensures)
+    (shows_none g.L.Disk.told g.L.Disk.may_leave c.args.disk c.in-Ok.log (c.in-Ok.ensures.same t) b.0 b.1 c.durable_lsn-last.result c.durable_lsn-last.ensures.value c.if-last-eq0.true)
+
+pub returns-then-last-gt-MOST-clause-shows : goal.returns-then-last-gt-MOST-clause-shows
+returns-then-last-gt-MOST-clause-shows g c = λ t.
+    subst (λ (r : NotOpened g.row.L.Denot). ShowsWhy (g.L.Disk.told r.disk) r.why) (sym c.not_opened-then-last-gt-MOST.ensures) tt
+
+pub returns-in-Err-analyse-clause-shows : goal.returns-in-Err-analyse-clause-shows
+returns-in-Err-analyse-clause-shows g c = λ t.
+    let b = c.in-Ok.ensures.blocks t in
+    subst (λ (r : NotOpened g.row.L.Denot). ShowsWhy (g.L.Disk.told r.disk) r.why) (sym c.not_opened-in-Err-analyse.ensures)
+    (shows_analysed (g.L.Disk.told c.analyse.new.log.device) b.0 (c.analyse.ensures.durable t b.0 b.1).stands c.in-Err-analyse.fault (c.in-Err-analyse.ensures.bad t b.0 b.1))
+
+pub returns-in-Err-clause-bytes : goal.returns-in-Err-clause-bytes
+returns-in-Err-clause-bytes g c = λ t.
+    stays_by g.L.Disk.told g.L.Disk.may_leave g.L.Disk.moment g.L.Disk.left_since c.args.disk c.in-Err.refused.disk (c.in-Err.ensures.same t)
+    c.in-Err.ensures.any_moment (λ t k le m. g.met.L.Disk.counts_now c.in-Err.refused.disk t k le m)
+
+pub returns-then-last-eq0-clause-bytes : goal.returns-then-last-eq0-clause-bytes
+returns-then-last-eq0-clause-bytes g c = λ t.
+    let b = c.in-Ok.ensures.blocks t in
+    subst (λ (d : g.row.L.Denot). StaysSame g.L.Disk.told g.L.Disk.may_leave c.args.disk d) (sym (ap (λ r. r.disk) c.not_opened.ensures))
+    (stays_open g.L.Disk.told g.L.Disk.may_leave c.args.disk c.in-Ok.log (c.in-Ok.ensures.same t) b.0 b.1 c.in-Ok.log b.1)
+
+pub returns-then-last-gt-MOST-clause-bytes : goal.returns-then-last-gt-MOST-clause-bytes
+returns-then-last-gt-MOST-clause-bytes g c = λ t.
+    let b = c.in-Ok.ensures.blocks t in
+    subst (λ (d : g.row.L.Denot). StaysSame g.L.Disk.told g.L.Disk.may_leave c.args.disk d) (sym (ap (λ r. r.disk) c.not_opened-then-last-gt-MOST.ensures))
+    (stays_open g.L.Disk.told g.L.Disk.may_leave c.args.disk c.in-Ok.log (c.in-Ok.ensures.same t) b.0 b.1 c.in-Ok.log b.1)
+
+pub returns-in-Err-analyse-clause-bytes : goal.returns-in-Err-analyse-clause-bytes
+returns-in-Err-analyse-clause-bytes g c = λ t.
+    let b = c.in-Ok.ensures.blocks t in
+    subst (λ (d : g.row.L.Denot). StaysSame g.L.Disk.told g.L.Disk.may_leave c.args.disk d) (sym (ap (λ r. r.disk) c.not_opened-in-Err-analyse.ensures))
+    (stays_open g.L.Disk.told g.L.Disk.may_leave c.args.disk c.in-Ok.log (c.in-Ok.ensures.same t) b.0 b.1 c.analyse.new.log (c.analyse.ensures.durable t b.0 b.1))
