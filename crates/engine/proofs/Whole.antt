@@ -1,6 +1,6 @@
 -- A request and its lock together: the right behind the lock is to the same session and transaction.
 use Rattle.std.proofs.Common.{◌≡◌, ℕ, ◌+◌, Bool, true, false, List, [], ◌∷◌, length, Option, Some, None, Result, Ok, Err, refl, sym, ap, subst, ◌∙◌, inl, inr}
-use Rattle.std.specs.Prelude.{IfErr, IfSome, IsSome, ◌<◌}
+use Rattle.std.specs.Prelude.{IfErr, IfOk, IfSome, IsSome, ◌<◌}
 use Rattle.books.specs.Rights.{SessionClaim}
 use Rattle.store_model.specs.Range.{Interval, point}
 use Rattle.store_model.specs.declared.fault.Fault.{Fault}
@@ -22,8 +22,8 @@ use Rattle.page_ops.specs.Outcomes.{IsConflict}
 use Rattle.page_ops.specs.Seeing.{Account, Keeps}
 use Rattle.leaf_writes.specs.Changes.{request_of}
 use Rattle.rollback.specs.Rolls.{Standing}
-use Rattle.engine.specs.Answers.{AreLast, Answers, FailsToAsk, Locks, Tells, lock_answer}
-use Rattle.engine.specs.Completes.{Completes, CompletesFor}
+use Rattle.engine.specs.Answers.{AreLast, Answers, FailsToAsk, IsSaidAt, Locks, Tells, lock_answer}
+use Rattle.engine.specs.Completes.{Completes, CompletesFor, IsSaidFor}
 use Rattle.engine.specs.Requests.{IsRefusal, lock_of}
 use Rattle.engine.specs.Saying.{IsSameHolder}
 use Rattle.engine.specs.Sittings.{IsOwned, IsSeated, claim_or_none}
@@ -53,6 +53,9 @@ module _ (s s' : SessionClaim) (session : s'.session ≡ s.session) (tx : s'.tx 
   completes_as : (opens : List Record → Type 0) (ledger sessions : LedgerName) (request : Request) (result : Result Answered Fault) (x y : Standing) → Completes opens ledger sessions s' request result x y → Completes opens ledger sessions s request result x y
   completes_as opens ledger sessions request result x y c = record { behind = c.behind; last = c.last; gains = c.gains; kept_up = c.kept_up; by = last_as request result true c.last c.by; faults = c.faults }
 
+  said_as : (opens : List Record → Type 0) (request : Request) (h : List Entry) (a : Answered) → IsSaidAt opens s' request h a → IsSaidAt opens s request h a
+  said_as opens request h a t = record { before = t.before; last = t.last; is = t.is; tells = tells_as request a.reply t.last t.tells; place = t.place; reply = t.reply; room = t.room }
+
 -- ---- behind its lock
 
 module _ (opens : List Record → Type 0) (ledger sessions : LedgerName) (s s' : SessionClaim) (request : Request) (pos : ℕ) (right : Option SessionClaim) (there : IsSome right) (is : claim_or_none right ≡ s') (behind : s' ≡ record { session = s.session; entries = s.entries + length (lock_answer s.tx (lock_of request) (Ok pos)); tx = s.tx }) where
@@ -64,6 +67,10 @@ module _ (opens : List Record → Type 0) (ledger sessions : LedgerName) (s s' :
 
   tx_is : s'.tx ≡ s.tx
   tx_is = ap (λ (x : SessionClaim). x.tx) behind
+
+  pub said_all : (result : Result Answered Fault) (h : List Entry) → IfOk result (IsSaidFor opens right request h) → IfOk result (IsSaidAt opens s request h)
+  said_all (Ok a) h said = said_as s s' session_is tx_is opens request h a (subst (λ (o : Option SessionClaim). IsSaidFor opens o request h a) right_is said)
+  said_all (Err f) h said = tt
 
   module _ (result : Result Answered Fault) (x y z : Standing) (locks : Locks opens ledger sessions s.tx (lock_of request) (Ok pos) x y) (completes : CompletesFor opens ledger sessions right request result y z) where
     pub answers_all : Answers opens ledger sessions s request result x z

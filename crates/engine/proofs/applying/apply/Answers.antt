@@ -9,7 +9,7 @@ use Rattle.engine.specs.Requests.{IsRefusal, lock_of}
 use Rattle.engine.specs.Sittings.{Sitting}
 use Rattle.page_ops.specs.Causes.{OrConflict}
 use Rattle.engine.proofs.Declined.{declined_may, gives_by}
-use Rattle.engine.proofs.Whole.{answers_all, answers_refused, ask_fails_then, lock_lacks_none, never_conflicts, point_locks, seated_then}
+use Rattle.engine.proofs.Whole.{answers_all, answers_refused, ask_fails_then, lock_lacks_none, never_conflicts, point_locks, said_all, seated_then}
 use Rattle.engine.proofs.applying.apply.Goals as goal
 
 pub returns-in-Ok-clause-answers : goal.returns-in-Ok-clause-answers
@@ -18,6 +18,10 @@ returns-in-Ok-clause-answers g c =
     let locks = point_locks g.N.Life.opens g.N.Life.entries g.N.Life.session_entries c.args.session.now.claim.tx (Ok c.in-Ok.field-0) c.args.key.now (lock_of (requests.Apply c.args.operator c.args.key.now c.args.argument)) c.point.result (standing (g.P.Pages.desk c.args.pages.now) (g.J.Entering.account c.args.journal.now) c.args.session.now.seen) (standing (g.P.Pages.desk c.lock_for.new.pages) (g.J.Entering.account c.lock_for.new.journal) c.lock_for.new.session.seen) refl c.point.ensures c.in-Ok.ensures.locks in
     let completes = subst (λ (p : PassSeen Entry). CompletesFor g.N.Life.opens g.N.Life.entries g.N.Life.session_entries c.session.inside.right (requests.Apply c.args.operator c.args.key.now c.args.argument) c.apply_locked.result (standing (g.P.Pages.desk c.lock_for.new.pages) (g.J.Entering.account c.lock_for.new.journal) p) (standing (g.P.Pages.desk c.apply_locked.new.pages) (g.J.Entering.account c.apply_locked.new.journal) c.apply_locked.new.pass)) (ap (λ (x : Sitting). x.seen) c.session.view_is) c.apply_locked.ensures.answers in
     answers_all g.N.Life.opens g.N.Life.entries g.N.Life.session_entries c.args.session.now.claim c.lock_for.new.session.claim (requests.Apply c.args.operator c.args.key.now c.args.argument) c.in-Ok.field-0 c.session.inside.right c.session.invariant.there (ap (λ (x : Sitting). x.claim) c.session.view_is) c.in-Ok.ensures.right c.apply_locked.result (standing (g.P.Pages.desk c.args.pages.now) (g.J.Entering.account c.args.journal.now) c.args.session.now.seen) (standing (g.P.Pages.desk c.lock_for.new.pages) (g.J.Entering.account c.lock_for.new.journal) c.lock_for.new.session.seen) (standing (g.P.Pages.desk c.apply_locked.new.pages) (g.J.Entering.account c.apply_locked.new.journal) c.apply_locked.new.pass) locks completes
+
+pub returns-in-Ok-clause-said : goal.returns-in-Ok-clause-said
+returns-in-Ok-clause-said g c =
+    said_all g.N.Life.opens g.N.Life.entries g.N.Life.session_entries c.args.session.now.claim c.lock_for.new.session.claim (requests.Apply c.args.operator c.args.key.now c.args.argument) c.in-Ok.field-0 c.session.inside.right c.session.invariant.there (ap (λ (x : Sitting). x.claim) c.session.view_is) c.in-Ok.ensures.right c.apply_locked.result c.apply_locked.new.pass.log c.apply_locked.ensures.said
 
 pub returns-in-Ok-clause-refused : goal.returns-in-Ok-clause-refused
 returns-in-Ok-clause-refused g c =

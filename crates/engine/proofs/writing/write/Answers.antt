@@ -7,7 +7,7 @@ use Rattle.engine.specs.Requests.{IsRefusal}
 use Rattle.engine.specs.Sittings.{Sitting}
 use Rattle.leaf_writes.specs.Changes.{request_of}
 use Rattle.page_ops.specs.Causes.{OrFull}
-use Rattle.engine.proofs.Whole.{answers_all, answers_refused, ask_fails_then, full_may, lock_lacks_none, never_conflicts, seated_then, write_locks}
+use Rattle.engine.proofs.Whole.{answers_all, answers_refused, ask_fails_then, full_may, lock_lacks_none, never_conflicts, said_all, seated_then, write_locks}
 use Rattle.engine.proofs.writing.write.Goals as goal
 
 pub returns-in-Ok-clause-answers : goal.returns-in-Ok-clause-answers
@@ -16,6 +16,10 @@ returns-in-Ok-clause-answers g c =
     let locks = write_locks g.N.Life.opens g.N.Life.entries g.N.Life.session_entries c.args.session.now.claim.tx (Ok c.in-Ok.field-0) c.args.key.now c.args.new c.point.result (standing (g.P.Pages.desk c.args.pages.now) (g.J.Entering.account c.args.journal.now) c.args.session.now.seen) (standing (g.P.Pages.desk c.lock_for.new.pages) (g.J.Entering.account c.lock_for.new.journal) c.lock_for.new.session.seen) c.point.ensures c.in-Ok.ensures.locks in
     let completes = subst (λ (p : PassSeen Entry). CompletesFor g.N.Life.opens g.N.Life.entries g.N.Life.session_entries c.session.inside.right (request_of c.args.key.now c.args.new) c.write_locked.result (standing (g.P.Pages.desk c.lock_for.new.pages) (g.J.Entering.account c.lock_for.new.journal) p) (standing (g.P.Pages.desk c.write_locked.new.pages) (g.J.Entering.account c.write_locked.new.journal) c.write_locked.new.pass)) (ap (λ (x : Sitting). x.seen) c.session.view_is) c.write_locked.ensures.answers in
     answers_all g.N.Life.opens g.N.Life.entries g.N.Life.session_entries c.args.session.now.claim c.lock_for.new.session.claim (request_of c.args.key.now c.args.new) c.in-Ok.field-0 c.session.inside.right c.session.invariant.there (ap (λ (x : Sitting). x.claim) c.session.view_is) c.in-Ok.ensures.right c.write_locked.result (standing (g.P.Pages.desk c.args.pages.now) (g.J.Entering.account c.args.journal.now) c.args.session.now.seen) (standing (g.P.Pages.desk c.lock_for.new.pages) (g.J.Entering.account c.lock_for.new.journal) c.lock_for.new.session.seen) (standing (g.P.Pages.desk c.write_locked.new.pages) (g.J.Entering.account c.write_locked.new.journal) c.write_locked.new.pass) locks completes
+
+pub returns-in-Ok-clause-said : goal.returns-in-Ok-clause-said
+returns-in-Ok-clause-said g c =
+    said_all g.N.Life.opens g.N.Life.entries g.N.Life.session_entries c.args.session.now.claim c.lock_for.new.session.claim (request_of c.args.key.now c.args.new) c.in-Ok.field-0 c.session.inside.right c.session.invariant.there (ap (λ (x : Sitting). x.claim) c.session.view_is) c.in-Ok.ensures.right c.write_locked.result c.write_locked.new.pass.log c.write_locked.ensures.said
 
 pub returns-in-Ok-clause-refused : goal.returns-in-Ok-clause-refused
 returns-in-Ok-clause-refused g c =
