@@ -1,15 +1,21 @@
 -- A life as contracts see it, and what its calls make of it.
-use Rattle.std.specs.Prelude.{◌≡◌, ◌⊎◌, ◌≤◌, ℕ, List, [], ◌∷◌, ◌++◌, Option, Some, None, Result, Ok, Err}
+use Rattle.std.specs.Prelude.{◌≡◌, ◌⊎◌, ◌==◌, ◌≤◌, ℕ, List, [], ◌∷◌, ◌++◌, length, Option, Some, None, Result, Ok, Err}
+use Rattle.std.specs.List.{find}
+use Rattle.std.specs.Option.{option_map}
 use Rattle.media.specs.Cause.{Rose}
 use Rattle.store_model.specs.declared.fault.Fault.{Fault}
 use Rattle.store_model.specs.declared.fault.Fault.TheVariants as faults
+use Rattle.wal_record.specs.Checkpoints.{commits}
+use Rattle.wal_record.specs.History.{life_log}
 use Rattle.wal_record.specs.declared.entry.Entry.{Entry}
+use Rattle.wal_record.specs.declared.entry.Entry.TheVariants.{Rec}
 use Rattle.wal_record.specs.declared.record.Record.{Record}
 use Rattle.page_ops.specs.Causes.{IsUntold}
 use Rattle.page_ops.specs.Seeing.{Calls}
+use Rattle.page_ops.specs.declared.outcome.Committed.{Committed}
 use Rattle.journal.specs.Stops.{IsDurableUpto}
-use Rattle.command_laws.specs.Commands.{Begins}
-use Rattle.command_laws.specs.Names.{Active, without}
+use Rattle.command_laws.specs.Commands.{Begins, Commits, commit_record}
+use Rattle.command_laws.specs.Names.{Active}
 
 -- its history, the active transactions in the order of their beginning, the LSN up to which the log was durable as the life
 -- ended, if it has, and what the log disk tells of its calls
@@ -18,6 +24,10 @@ pub record LifeState : Type 0 where
   pub active : List Active
   pub ended : Option ℕ
   pub calls : Calls
+
+-- the name of the first active transaction with this number
+abbrev pub name_by : ℕ → List Active → Option (List ℕ)
+name_by tx active = option_map (λ (a : Active). a.name) (find (λ (a : Active). a.tx == tx) active)
 
 -- ---- calls of the log disk
 
@@ -33,7 +43,7 @@ pub record CallsGoOn (failed : Type 0) (old new : Calls) : Type 0 where
 
 -- it goes on, and no device call failed
 pub record GoesOn (old new : LifeState) : Type 0 where
-  pub open : new.ended ≡ None
+  pub ended : new.ended ≡ None
   pub calls : CallsGoOn ⊥ old.calls new.calls
 
 -- A call of the log disk failed, which has ended the life. The opening log and each acknowledged commit are durable.
@@ -46,9 +56,9 @@ pub record BreaksOff (opens : List Record → Type 0) (old new : LifeState) : Ty
 -- Want of memory, which is also told where a count of the life is used up; a fault of the log disk; and a block of the log that
 -- can't be read, which comes only where no log is known with which the life may have begun.
 abbrev pub Fails : (List Record → Type 0) → LifeState → LifeState → Fault → Type 0
-Fails opens old new faults.Memory = CallsGoOn ⊥ old.calls new.calls
+Fails opens old new faults.Memory = GoesOn old new
 Fails opens old new faults.LogFault = BreaksOff opens old new
-Fails opens old new (faults.LogBad block byte) = CallsGoOn ⊥ old.calls new.calls × IsUntold opens
+Fails opens old new (faults.LogBad block byte) = GoesOn old new × IsUntold opens
 Fails opens old new fault = ⊥
 
 -- the same of a request, which may be refused by its answer
@@ -61,19 +71,24 @@ FailsToAnswer may opens old new fault = Fails opens old new fault
 -- of a begin: so many names are active that no more may be, or memory is wanted
 abbrev pub FailsToBegin : LifeState → LifeState → Fault → Type 0
 FailsToBegin old new faults.TooManyActive = GoesOn old new
-FailsToBegin old new faults.Memory = CallsGoOn ⊥ old.calls new.calls
+FailsToBegin old new faults.Memory = GoesOn old new
 FailsToBegin old new fault = ⊥
 
 -- of one that only looks
 abbrev pub FailsToLook : LifeState → LifeState → Fault → Type 0
-FailsToLook old new faults.Memory = CallsGoOn ⊥ old.calls new.calls
+FailsToLook old new faults.Memory = GoesOn old new
 FailsToLook old new fault = ⊥
 
 -- of one that makes the log durable
 abbrev pub FailsToFlush : (List Record → Type 0) → LifeState → LifeState → Fault → Type 0
-FailsToFlush opens old new faults.Memory = CallsGoOn ⊥ old.calls new.calls
+FailsToFlush opens old new faults.Memory = GoesOn old new
 FailsToFlush opens old new faults.LogFault = BreaksOff opens old new
 FailsToFlush opens old new fault = ⊥
+
+-- of a commit, which wants no memory
+abbrev pub FailsToCommit : (List Record → Type 0) → LifeState → LifeState → Fault → Type 0
+FailsToCommit opens old new faults.LogFault = BreaksOff opens old new
+FailsToCommit opens old new fault = ⊥
 
 -- ---- what a call enters
 
@@ -84,7 +99,18 @@ BeginsAs name (Ok tx) old new =
     × (new.active ≡ old.active ++ record { name = name; session = session; tx = tx } ∷ [])
 BeginsAs name (Err fault) old new = (new.history ≡ old.history) × (new.active ≡ old.active)
 
--- a name whose transaction is over isn't active
-abbrev pub left_by : {T : Type 0} → Result T Fault → List Active → List ℕ → List Active
-left_by (Ok x) active name = without active name
-left_by (Err fault) active name = active
+-- the Commit was entered and acknowledged
+pub record IsDone (opens : List Record → Type 0) (session tx : ℕ) (answer : Committed) (h h' : List Entry) : Type 0 where
+  pub own : List Entry
+  pub made : Commits session tx own
+  pub added : h' ≡ h ++ own
+  pub place : answer.pos ≡ length h'
+  pub number : (opening : List Record) → opens opening → answer.number ≡ commits (life_log opening h')
+
+-- nothing was entered, or the Commit alone, which isn't acknowledged
+abbrev pub MayBeDone : ℕ → List Entry → List Entry → Type 0
+MayBeDone tx h h' = (h' ≡ h) ⊎ ((lsn : ℕ) × (prev : ℕ) × (h' ≡ h ++ Rec lsn (commit_record tx prev) ∷ []))
+
+abbrev pub IsCommitted : (List Record → Type 0) → ℕ → ℕ → Result Committed Fault → List Entry → List Entry → Type 0
+IsCommitted opens session tx (Ok answer) h h' = IsDone opens session tx answer h h'
+IsCommitted opens session tx (Err fault) h h' = MayBeDone tx h h'
