@@ -1,8 +1,11 @@
 //! The journal of one thread.
-ghost use Rattle.std.specs.Prelude.{◌≡◌, ◌≤◌, ◌-◌, ◌^◌, ℕ, List, min, IfSome};
+ghost use Rattle.std.specs.Prelude.{◌≡◌, ◌≤◌, ◌-◌, ◌^◌, ℕ, List, Some, min, IfNone, IfSome};
 ghost use mathlib.Core.List.{IsPrefix};
 ghost use Rattle.journal.specs.State.{ArmsDisk, KnowsEnd, calls_of};
 ghost use Rattle.journal.specs.Stops.{IsDurableUpto, Leaves};
+ghost use Rattle.life_history.specs.Kept.{HasCause};
+ghost use Rattle.own_journal.specs.Told.{told};
+ghost use Rattle.page_ops.specs.Seeing.{HasTotals, Looks};
 ghost use Rattle.wal_record.specs.declared.record.Record.{Record};
 
 use crate::asking;
@@ -49,12 +52,34 @@ impl<'a, L: Disk, N: Life> OwnJournal<'a, L, N> {
         self.journal.end()
     }
 
+    /// The LSN up to which the log was durable as the life ended, if it has ended; the pass then sees the whole history. It
+    /// learns of no end: where the thread knew of one, whoever has all parts of the ledger of the log disk's faults has counted one.
+    pub fn end_seen(&mut self, pass: &mut Pass<Entry, N>) -> Option<Lsn>
+        ensures same { self.new ≡ self.old }
+        ensures seen { Looks N.opens N.entries N.session_entries (told self.old.counts self.old.journal.calls) pass.old (told self.new.counts self.new.journal.calls) pass.new }
+        ensures whole { pass.new.log ≡ self.old.journal.history }
+        ensures end { result ≡ self.old.journal.ended }
+        ensures durable { (opening : List Record) → N.opens opening → IfSome result (IsDurableUpto opening pass.new.log) }
+        ensures none { IfNone result (self.old.counts.log_faults.amount ≡ 0) }
+        ensures some { IfSome self.old.counts.ended (λ at. HasCause N.log_faults self.old.counts.log_faults) }
+    {
+        let OwnJournal { journal, counts } = self;
+        journal.see(&mut Rights::none(), pass, counts);
+        let end = journal.end();
+        if end.is_none() {
+            let _ = journal.ended(counts);
+        }
+        let _ = counts.ended();
+        end
+    }
+
     /// The log disk, as it is: the life has stopped. As `Journal::into_device`.
     pub fn into_device(self, pass: &mut Pass<Entry, N>) -> L
         ensures left { Leaves N.opens L.told L.may_leave self.entry.journal.history pass.new.durable result }
         ensures pass { pass.new.log ≡ self.entry.journal.history }
         ensures begins { IsPrefix pass.old.log pass.new.log }
         ensures before { pass.old.durable ≤ pass.new.durable }
+        ensures totals { HasTotals N.entries N.session_entries self.entry.counts pass.new.log }
         ensures calls { calls_of L.passes L.refused L.own result ≡ self.entry.journal.calls }
     {
         let OwnJournal {
@@ -66,7 +91,7 @@ impl<'a, L: Disk, N: Life> OwnJournal<'a, L, N> {
 }
 
 impl<'a, L: Disk, N: Life> Entering<N> for OwnJournal<'a, L, N> {
-    ghost account = { λ j. j.counts };
+    ghost account = { λ j. told j.counts j.journal.calls };
 
     fn ground(&self) -> &Ground<N> {
         self.journal.ground()
