@@ -6,7 +6,9 @@ ghost use Rattle.engine.specs.Applies.{GivesNone};
 ghost use Rattle.engine.specs.Requests.{IsRefusal, lock_of};
 ghost use Rattle.engine.specs.Writes.{LacksRoom};
 ghost use Rattle.page_ops.specs.Causes.{MeetsNoEnd};
+ghost use Rattle.page_ops.specs.Desks.{KeepsFaults};
 ghost use Rattle.page_ops.specs.Outcomes.{IsConflict};
+ghost use Rattle.page_ops.specs.Seeing.{Keeps};
 ghost use Rattle.rollback.specs.Rolls.{standing};
 ghost use Rattle.store_life.specs.Turns.{Asks, IsTold};
 
@@ -41,6 +43,8 @@ fn ask<N: Life, J: Journaling<N>, P: Pages<N, J>, R: Wait>(
     ensures gives_none { IfErr result (GivesNone N.opens request session.new.seen.log) }
     ensures none { (P.desk pages.new).out ≡ 0 }
     ensures reserved { (P.desk pages.new).reserves ≡ false }
+    ensures keeps { Keeps (J.account journal.old) (J.account journal.new) }
+    ensures faults { KeepsFaults (P.desk pages.old).faults (P.desk pages.new).faults }
     ensures open { OnOk result (MeetsNoEnd (J.account journal.old) (J.account journal.new)) }
     ensures refused { IfErr result (FailsToAsk (IsRefusal request) N.opens N.log_faults N.made
         (P.desk pages.old).faults (P.desk pages.new).faults (J.account journal.old) (J.account journal.new) session.new.seen.log) }
@@ -85,6 +89,8 @@ pub(crate) fn ask_session<N: Life, J: Journaling<N>, P: Pages<N, J>, R: Wait>(
     ensures gives_none { IfErr result (GivesNone N.opens request pass.new.log) }
     ensures none { (P.desk pages.new).out ≡ 0 }
     ensures reserved { (P.desk pages.new).reserves ≡ false }
+    ensures keeps { Keeps (J.account journal.old) (J.account journal.new) }
+    ensures faults { KeepsFaults (P.desk pages.old).faults (P.desk pages.new).faults }
     ensures open { OnOk result (MeetsNoEnd (J.account journal.old) (J.account journal.new)) }
     ensures refused { IfErr result (FailsToAsk (IsRefusal request) N.opens N.log_faults N.made
         (P.desk pages.old).faults (P.desk pages.new).faults (J.account journal.old) (J.account journal.new) pass.new.log) }

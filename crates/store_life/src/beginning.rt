@@ -4,6 +4,7 @@ ghost use Rattle.command_laws.specs.Alone.{IsAlone};
 ghost use Rattle.page_ops.specs.Causes.{Ends, FailsToEnter, OrTooMany};
 ghost use Rattle.page_ops.specs.Claims.{SessionAgrees};
 ghost use Rattle.page_ops.specs.Outcomes.{IsCrowd};
+ghost use Rattle.page_ops.specs.Seeing.{Keeps};
 ghost use Rattle.store_life.specs.Turns.{HasBegun, IsBegun};
 
 use engine::{Session, begin, new_session};
@@ -28,6 +29,7 @@ pub(crate) fn begin_session<N: Life, J: Journaling<N>, R: Wait>(
     ensures durable { pass.old.durable ≤ pass.new.durable }
     ensures crowd { crowded ≡ false → IfErr result (IsCrowd pass.new.log) }
     ensures few { OnOk result (crowded ≡ false) }
+    ensures keeps { Keeps (record (J.account journal.old) { made = (J.account journal.new).made }) (J.account journal.new) }
     ensures refused { IfErr result (FailsToEnter OrTooMany) }
     ensures ends { Ends N.opens N.log_faults N.made (record (J.account journal.old) { made = (J.account journal.new).made }) (J.account journal.new) pass.new.log result }
 {
@@ -61,6 +63,7 @@ fn begin_in<N: Life, J: Journaling<N>, R: Wait>(
     ensures begun { HasBegun result session.new.claim pass.old.log pass.new.log }
     ensures durable { pass.old.durable ≤ pass.new.durable }
     ensures crowd { IfErr result (IsCrowd pass.new.log) }
+    ensures keeps { Keeps (J.account journal.old) (J.account journal.new) }
     ensures refused { IfErr result (FailsToEnter OrTooMany) }
     ensures ends { Ends N.opens N.log_faults N.made (J.account journal.old) (J.account journal.new) pass.new.log result }
     ensures made { (J.account journal.new).made ≡ (J.account journal.old).made }

@@ -2,6 +2,8 @@
 ghost use Rattle.std.specs.Prelude.{◌≡◌, ◌<◌, ◌≤◌, IfErr, IfOk, OnErr, OnOk, false};
 ghost use Rattle.command_laws.specs.Alone.{IsAlone};
 ghost use Rattle.page_ops.specs.Causes.{Ends, FailsToBring, FailsToFlush, MeetsNoEnd};
+ghost use Rattle.page_ops.specs.Desks.{KeepsFaults};
+ghost use Rattle.page_ops.specs.Seeing.{Keeps};
 ghost use Rattle.store_life.specs.Turns.{EndsBy, IsCommitted, UndoesBy};
 
 use engine::{Session, abort, commit, see_session};
@@ -26,6 +28,7 @@ pub(crate) fn commit_session<N: Life, J: Journaling<N>, R: Wait>(
     ensures durable { pass.old.durable ≤ pass.new.durable }
     ensures stays { OnErr result (session.new.claim.tx ≡ session.old.claim.tx) }
     ensures holder { session.new.claim.session ≡ session.old.claim.session }
+    ensures keeps { Keeps (J.account journal.old) (J.account journal.new) }
     ensures refused { IfErr result FailsToFlush }
     ensures ends { Ends N.opens N.log_faults N.made (J.account journal.old) (J.account journal.new) pass.new.log result }
 {
@@ -55,6 +58,8 @@ pub(crate) fn abort_session<N: Life, J: Journaling<N>, P: Pages<N, J>, R: Wait>(
     ensures holder { session.new.claim.session ≡ session.old.claim.session }
     ensures none { (P.desk pages.new).out ≡ 0 }
     ensures reserved { (P.desk pages.new).reserves ≡ false }
+    ensures keeps { Keeps (J.account journal.old) (J.account journal.new) }
+    ensures faults { KeepsFaults (P.desk pages.old).faults (P.desk pages.new).faults }
     ensures open { OnOk result (MeetsNoEnd (J.account journal.old) (J.account journal.new)) }
     ensures refused { IfErr result (FailsToBring N.opens N.log_faults N.made (P.desk pages.old).faults (P.desk pages.new).faults (J.account journal.old) (J.account journal.new) pass.new.log) }
 {
@@ -86,6 +91,8 @@ fn undo_session<N: Life, J: Journaling<N>, P: Pages<N, J>, R: Wait>(
     ensures holder { session.new.claim.session ≡ session.old.claim.session }
     ensures none { (P.desk pages.new).out ≡ 0 }
     ensures reserved { (P.desk pages.new).reserves ≡ false }
+    ensures keeps { Keeps (J.account journal.old) (J.account journal.new) }
+    ensures faults { KeepsFaults (P.desk pages.old).faults (P.desk pages.new).faults }
     ensures open { OnOk result (MeetsNoEnd (J.account journal.old) (J.account journal.new)) }
     ensures refused { IfErr result (FailsToBring N.opens N.log_faults N.made (P.desk pages.old).faults (P.desk pages.new).faults (J.account journal.old) (J.account journal.new) pass.new.log) }
 {

@@ -20,6 +20,9 @@
 //!    where 64 transactions are live. A command of a name that isn't active is refused as `NotActive`, and all is as before.
 //! 4. Each other refusal has its cause, said of what was known before the call. No page is held behind a call, and no frame
 //!    reserved.
+//! 5. What the journal's object tells of the log disk goes on through each call (`Keeps` of `page_ops`): its parts stay, its
+//!    counts of faults don't fall, and a known end stays. Where the log disk tells of its calls, a counted fault was a call that
+//!    failed by itself or was refused by a fuse. Only a begin makes a session.
 #![tactic(auto)]
 
 mod asking;

@@ -8,8 +8,9 @@ ghost use Rattle.engine.specs.Writes.{LacksRoom};
 ghost use Rattle.log_laws.specs.Right.{IsRight};
 ghost use Rattle.maintenance.specs.Checkpoints.{FailsToCheckpoint};
 ghost use Rattle.page_ops.specs.Causes.{Ends, FailsToBring, FailsToEnter, FailsToFlush, MeetsNoEnd, NoOther, OrTooMany};
+ghost use Rattle.page_ops.specs.Desks.{KeepsFaults};
 ghost use Rattle.page_ops.specs.Outcomes.{IsConflict, IsCrowd, IsSurvey};
-ghost use Rattle.page_ops.specs.Seeing.{Looks};
+ghost use Rattle.page_ops.specs.Seeing.{Keeps, Looks};
 ghost use Rattle.script.specs.Word.{same_text};
 ghost use Rattle.store_model.specs.declared.fault.Fault.TheVariants as faults;
 ghost use Rattle.wal_record.specs.declared.entry.Entry.{Entry};
@@ -56,6 +57,7 @@ impl<N: Life> StoreLife<N> {
         requires { (J.account journal.old).entries.parts ≡ N.entries.parts }
         ensures runs { Runs N.opens N.entries (J.account journal.new) result }
         ensures seen { Looks N.opens N.entries N.session_entries (J.account journal.old) pass (J.account journal.new) result.pass }
+        ensures keeps { Keeps (J.account journal.old) (J.account journal.new) }
         ensures none { result.named.items ≡ [] }
         ensures fresh { (J.account journal.old).entries.amount ≡ 0 → HasNames result }
     {
@@ -113,6 +115,7 @@ impl<N: Life> StoreLife<N> {
         ensures durable { self.old.pass.durable ≤ self.new.pass.durable }
         ensures crowd { length self.old.named.items < MOST_ACTIVE → IfErr result (IsCrowd self.new.pass.log) }
         ensures few { OnOk result (length self.old.named.items < MOST_ACTIVE) }
+        ensures keeps { Keeps (record (J.account journal.old) { made = (J.account journal.new).made }) (J.account journal.new) }
         ensures refused { IfErr result (FailsToEnter OrTooMany) }
         ensures ends { Ends N.opens N.log_faults N.made (record (J.account journal.old) { made = (J.account journal.new).made }) (J.account journal.new) self.new.pass.log result }
     {
@@ -160,6 +163,8 @@ impl<N: Life> StoreLife<N> {
         ensures gives_none { IfErr result (GivesNone N.opens request self.new.pass.log) }
         ensures none { (P.desk pages.new).out ≡ 0 }
         ensures reserved { (P.desk pages.new).reserves ≡ false }
+        ensures keeps { Keeps (J.account journal.old) (J.account journal.new) }
+        ensures faults { KeepsFaults (P.desk pages.old).faults (P.desk pages.new).faults }
         ensures open { OnOk result (MeetsNoEnd (J.account journal.old) (J.account journal.new)) }
         ensures refused { (a : Active) → active_of (actives self.old.named.items) name.now ≡ Some a → IfErr result (FailsToAsk (IsRefusal request) N.opens N.log_faults N.made
             (P.desk pages.old).faults (P.desk pages.new).faults (J.account journal.old) (J.account journal.new) self.new.pass.log) }
@@ -197,6 +202,7 @@ impl<N: Life> StoreLife<N> {
         ensures names { actives self.new.named.items ≡ left_by result (actives self.old.named.items) name.now }
         ensures named { HasNames self.old → HasNames self.new }
         ensures durable { self.old.pass.durable ≤ self.new.pass.durable }
+        ensures keeps { Keeps (J.account journal.old) (J.account journal.new) }
         ensures refused { (a : Active) → active_of (actives self.old.named.items) name.now ≡ Some a → IfErr result FailsToFlush }
         ensures ends { (a : Active) → active_of (actives self.old.named.items) name.now ≡ Some a → Ends N.opens N.log_faults N.made (J.account journal.old) (J.account journal.new) self.new.pass.log result }
     {
@@ -234,6 +240,8 @@ impl<N: Life> StoreLife<N> {
         ensures durable { self.old.pass.durable ≤ self.new.pass.durable }
         ensures none { (P.desk pages.new).out ≡ 0 }
         ensures reserved { (P.desk pages.new).reserves ≡ false }
+        ensures keeps { Keeps (J.account journal.old) (J.account journal.new) }
+        ensures faults { KeepsFaults (P.desk pages.old).faults (P.desk pages.new).faults }
         ensures open { OnOk result (MeetsNoEnd (J.account journal.old) (J.account journal.new)) }
         ensures refused { (a : Active) → active_of (actives self.old.named.items) name.now ≡ Some a → IfErr result (FailsToBring N.opens N.log_faults N.made
             (P.desk pages.old).faults (P.desk pages.new).faults (J.account journal.old) (J.account journal.new) self.new.pass.log) }
@@ -271,6 +279,7 @@ impl<N: Life> StoreLife<N> {
         ensures named { HasNames self.old → HasNames self.new }
         ensures durable { self.old.pass.durable ≤ self.new.pass.durable }
         ensures flushed { IfOk result (λ lsn. (opening : List Record) → N.opens opening → lsn ≤ self.new.pass.durable) }
+        ensures keeps { Keeps (J.account journal.old) (J.account journal.new) }
         ensures refused { IfErr result FailsToCheckpoint }
         ensures ends { Ends N.opens N.log_faults N.made (J.account journal.old) (J.account journal.new) self.new.pass.log result }
     {
@@ -290,6 +299,7 @@ impl<N: Life> StoreLife<N> {
         ensures names { self.new.named ≡ self.old.named }
         ensures durable { self.old.pass.durable ≤ self.new.pass.durable }
         ensures survey { IfOk result (IsSurvey N.opens self.new.pass) }
+        ensures keeps { Keeps (J.account journal.old) (J.account journal.new) }
         ensures refused { IfErr result (FailsToEnter NoOther) }
         ensures ends { Ends N.opens N.log_faults N.made (J.account journal.old) (J.account journal.new) self.new.pass.log result }
     {
