@@ -1,0 +1,252 @@
+//! A life that one thread owns.
+ghost use Rattle.std.specs.Prelude.{◌≡◌, ◌<◌, ◌-◌, ◌^◌, ℕ, None, Some, List, ◌++◌, Err, IfErr, IfOk, IfSome, OnOk, false, true, length, min};
+ghost use Rattle.std.specs.Option.{option_map};
+ghost use Rattle.command_laws.specs.Names.{Active, active_of, is_active};
+ghost use Rattle.engine.specs.Applies.{GivesNone};
+ghost use Rattle.engine.specs.Requests.{IsRefusal, lock_of};
+ghost use Rattle.engine.specs.Writes.{LacksRoom};
+ghost use Rattle.journal.specs.State.{ArmsDisk, calls_of};
+ghost use Rattle.journal.specs.Stops.{IsDurableUpto, Leaves};
+ghost use Rattle.log_laws.specs.Right.{IsRight};
+ghost use Rattle.page_ops.specs.Outcomes.{IsConflict, IsSurvey};
+ghost use Rattle.store_model.specs.declared.fault.Fault.TheVariants as faults;
+ghost use Rattle.store_model.specs.declared.limits.TheConstants.{MOST_ACTIVE};
+ghost use Rattle.wal_record.specs.declared.entry.Entry.{Entry};
+ghost use Rattle.wal_record.specs.declared.record.Record.{Record};
+ghost use Rattle.store_life.specs.SoFar.{left_by};
+ghost use Rattle.store_life.specs.Turns.{Asks, EndsBy, IsCheckpointed, IsTold};
+ghost use Rattle.own_life.specs.Kept.{without_crowd, without_vault};
+ghost use Rattle.own_life.specs.State.{BeginsAs, Fails, FailsToAnswer, FailsToBegin, FailsToCommit, FailsToFlush, FailsToLook, GoesOn, IsCommitted, name_by};
+
+use crate::pages::LifePages;
+use engine::Answered;
+use media::Disk;
+use own_journal::OwnJournal;
+use page_ops::{Committed, Life, Survey};
+use script::Name;
+use std::alloc::Global;
+use std::marker::Model;
+use std::sync::Wait;
+use store_life::StoreLife;
+use store_model::{Fault, Lsn, MOST_ACTIVE, Pos, Request, TxId};
+
+/// A life with its journal and its named transactions. Contracts see it as its history, its active names, its end, and what the
+/// log disk tells of its calls. Its pages are lent to each call that wants them.
+#[derive(Drop)]
+pub struct OwnLife<'a, L: Disk, N: Life> {
+    pub(crate) journal: OwnJournal<'a, L, N>,
+    pub(crate) life: StoreLife<N>,
+}
+
+impl<'a, L: Disk, N: Life> Model for OwnLife<'a, L, N> {
+    ghost use Rattle.own_journal.specs.Told.{told};
+    ghost use Rattle.store_life.specs.SoFar.{actives};
+    ghost use Rattle.own_life.specs.Kept.{IsKept};
+    ghost use Rattle.own_life.specs.State.{LifeState};
+
+    ghost Value = { LifeState };
+
+    ghost view = { λ l. record { history = l.life.pass.log; active = actives l.life.named.items; ended = l.journal.counts.ended; calls = l.journal.journal.calls } };
+
+    ghost invariant = { λ l. IsKept N.opens N.entries N.log_faults (told l.journal.counts l.journal.journal.calls) l.journal.journal.history l.life };
+}
+
+impl<'a, L: Disk, N: Life> OwnLife<'a, L, N> {
+    /// Whether a transaction of this name is active.
+    pub fn is_active(&self, name: &Name) -> bool
+        ensures { result ≡ is_active self.now.active name.now }
+    {
+        self.life.is_active(name)
+    }
+
+    /// The name of an active transaction, the first one with this number.
+    pub fn name_of(&self, tx: TxId) -> Option<&Name>
+        ensures { option_map (λ name. name.now) result ≡ name_by tx self.now.active }
+    {
+        self.life
+            .named
+            .iter()
+            .find(|named| named.session.transaction() == tx)
+            .map(|named| &named.name)
+    }
+
+    /// The LSN up to which the log was durable as the life ended, if it has ended.
+    pub fn ended(&self) -> Option<Lsn>
+        ensures end { result ≡ self.now.ended }
+        ensures durable { (opening : List Record) → N.opens opening → IfSome result (IsDurableUpto opening self.now.history) }
+    {
+        let _ = self.journal.end();
+        self.journal.counts.ended()
+    }
+
+    /// The history so far is legal, its committed transactions are serial, and a stop leaves the first of them. So it was at each
+    /// entry before.
+    pub fn look(&self)
+        ensures right { (opening : List Record) → N.opens opening → IsRight opening self.now.history }
+        ensures before { (opening : List Record) (first rest : List Entry) → N.opens opening → self.now.history ≡ first ++ rest → IsRight opening first }
+    {
+        self.life.look(&self.journal);
+    }
+
+    /// Begins a transaction of a name that isn't active. `TooManyActive` exactly where 64 names are active. After a refusal
+    /// nothing was entered.
+    pub fn begin<R: Wait>(&mut self, rt: &R, alloc: Global, name: Name) -> Result<TxId, Fault>
+        requires open { self.old.ended ≡ None }
+        requires free { is_active self.old.active name ≡ false }
+        ensures begins { BeginsAs name result self.old self.new }
+        ensures few { OnOk result (length self.old.active < MOST_ACTIVE) }
+        ensures crowd { result ≡ Err faults.TooManyActive → length self.old.active ≡ MOST_ACTIVE }
+        ensures many { length self.old.active ≡ MOST_ACTIVE → result ≡ Err faults.TooManyActive }
+        ensures goes { OnOk result (GoesOn self.old self.new) }
+        ensures refused { IfErr result (FailsToBegin self.old self.new) }
+    {
+        if self.life.named.len() >= MOST_ACTIVE as usize {
+            return Err(Fault::TooManyActive);
+        }
+        let OwnLife { journal, life } = self;
+        let begun = life.begin(rt, alloc, journal, name);
+        let _ = journal.end_seen(&mut life.pass);
+        uncrowded(begun)
+    }
+
+    /// Asks for the active transaction of this name.
+    pub fn ask<P: LifePages<N>, R: Wait>(
+        &mut self,
+        rt: &R,
+        alloc: Global,
+        pages: &mut P,
+        name: &Name,
+        request: Request,
+    ) -> Result<Answered, Fault>
+        requires open { self.old.ended ≡ None }
+        requires active { is_active self.old.active name.now ≡ true }
+        requires idle { P.idle pages.old }
+        ensures idle { P.idle pages.new }
+        ensures asks { (a : Active) → active_of self.old.active name.now ≡ Some a → Asks N.opens a.session a.tx request result self.old.history self.new.history }
+        ensures told { (a : Active) → active_of self.old.active name.now ≡ Some a → IfOk result (IsTold N.opens a.session a.tx request self.new.history) }
+        ensures names { self.new.active ≡ self.old.active }
+        ensures conflict { IfErr result (IsConflict N.opens self.new.history (lock_of request)) }
+        ensures full { IfErr result (LacksRoom N.opens self.new.history) }
+        ensures gives_none { IfErr result (GivesNone N.opens request self.new.history) }
+        ensures goes { OnOk result (GoesOn self.old self.new) }
+        ensures refused { IfErr result (FailsToAnswer (IsRefusal request) N.opens self.old self.new) }
+    {
+        let OwnLife { journal, life } = self;
+        let answered = pages.ask(rt, alloc, journal, life, name, request);
+        let _ = journal.end_seen(&mut life.pass);
+        unvaulted(answered)
+    }
+
+    /// Commits the active transaction of this name, which is active no more. It takes no memory. Where the log fails the name
+    /// stays active; at most its Commit was entered then, unacknowledged.
+    pub fn commit<R: Wait>(&mut self, rt: &R, name: &Name) -> Result<Committed, Fault>
+        requires open { self.old.ended ≡ None }
+        requires active { is_active self.old.active name.now ≡ true }
+        ensures commits { (a : Active) → active_of self.old.active name.now ≡ Some a → IsCommitted N.opens a.session a.tx result self.old.history self.new.history }
+        ensures names { self.new.active ≡ left_by result self.old.active name.now }
+        ensures goes { OnOk result (GoesOn self.old self.new) }
+        ensures refused { IfErr result (FailsToCommit N.opens self.old self.new) }
+    {
+        let OwnLife { journal, life } = self;
+        let committed = life.commit(rt, journal, name);
+        let _ = journal.end_seen(&mut life.pass);
+        committed
+    }
+
+    /// Undoes the active transaction of this name and ends it: it is active no more. After a refusal what was undone stays so,
+    /// the transaction has no End yet, and the name stays active.
+    pub fn abort<P: LifePages<N>, R: Wait>(
+        &mut self,
+        rt: &R,
+        alloc: Global,
+        pages: &mut P,
+        name: &Name,
+    ) -> Result<Pos, Fault>
+        requires open { self.old.ended ≡ None }
+        requires active { is_active self.old.active name.now ≡ true }
+        requires idle { P.idle pages.old }
+        ensures idle { P.idle pages.new }
+        ensures aborts { (a : Active) → active_of self.old.active name.now ≡ Some a → EndsBy N.opens a.tx result self.old.history self.new.history }
+        ensures names { self.new.active ≡ left_by result self.old.active name.now }
+        ensures goes { OnOk result (GoesOn self.old self.new) }
+        ensures refused { IfErr result (Fails N.opens self.old self.new) }
+    {
+        let OwnLife { journal, life } = self;
+        let ended = pages.abort(rt, alloc, journal, life, name);
+        let _ = journal.end_seen(&mut life.pass);
+        unvaulted(ended)
+    }
+
+    /// Takes a Checkpoint: enters it, and makes the log durable up to it. Gives its LSN.
+    pub fn checkpoint<R: Wait>(&mut self, rt: &R, alloc: Global) -> Result<Lsn, Fault>
+        requires open { self.old.ended ≡ None }
+        ensures entered { IsCheckpointed result self.old.history self.new.history }
+        ensures names { self.new.active ≡ self.old.active }
+        ensures goes { OnOk result (GoesOn self.old self.new) }
+        ensures refused { IfErr result (FailsToFlush N.opens self.old self.new) }
+    {
+        let OwnLife { journal, life } = self;
+        let taken = life.checkpoint(rt, alloc, journal);
+        let _ = journal.end_seen(&mut life.pass);
+        taken
+    }
+
+    /// What the journal knows of the log and of the life. Nothing is entered.
+    pub fn survey<R: Wait>(&mut self, rt: &R, alloc: Global) -> Result<Survey, Fault>
+        requires open { self.old.ended ≡ None }
+        ensures same { (self.new.history ≡ self.old.history) × (self.new.active ≡ self.old.active) }
+        ensures survey { IfOk result (λ x. (durable : ℕ) × IsSurvey N.opens (record { log = self.new.history; durable = durable }) x) }
+        ensures goes { OnOk result (GoesOn self.old self.new) }
+        ensures refused { IfErr result (FailsToLook self.old self.new) }
+    {
+        let OwnLife { journal, life } = self;
+        let known = life.survey(rt, alloc, journal);
+        let _ = journal.end_seen(&mut life.pass);
+        known
+    }
+
+    /// Arms the log disk's fuse, which lets n more calls pass, or renews it.
+    pub fn fuse(&mut self, n: Option<u64>)
+        ensures same { (self.new.history ≡ self.old.history) × (self.new.active ≡ self.old.active) × (self.new.ended ≡ self.old.ended) }
+        ensures calls { ArmsDisk L.fuses n self.old.calls self.new.calls }
+    {
+        self.journal.fuse(n);
+    }
+
+    /// How many calls the log disk's fuse has refused.
+    pub fn refused(&self) -> u64
+        ensures { result ≡ min self.now.calls.refused (2 ^ 64 - 1) }
+    {
+        self.journal.refused()
+    }
+
+    /// The life has stopped: its log disk, as it is. What it keeps, and what it keeps after a crash that comes now, stands for a
+    /// log that a stop may leave of the life.
+    pub fn into_device(self) -> L
+        ensures left { (least : ℕ) × Leaves N.opens L.told L.may_leave self.history least result }
+        ensures calls { calls_of L.passes L.refused L.own result ≡ self.calls }
+    {
+        let OwnLife { journal, mut life } = self;
+        journal.into_device(&mut life.pass)
+    }
+}
+
+/// No vault is read.
+fn unvaulted<T>(answer: Result<T, Fault>) -> Result<T, Fault>
+    ensures { result ≡ without_vault answer }
+{
+    match answer {
+        Err(Fault::VaultBad { .. }) => Err(Fault::Memory),
+        other => other,
+    }
+}
+
+/// Fewer names are active than may be.
+fn uncrowded<T>(answer: Result<T, Fault>) -> Result<T, Fault>
+    ensures { result ≡ without_crowd answer }
+{
+    match answer {
+        Err(Fault::TooManyActive) => Err(Fault::Memory),
+        other => other,
+    }
+}
