@@ -5,6 +5,7 @@ use Rattle.log_blocks.specs.LogState.{LogState, AreNumbered, IsDurable, durable_
 use Rattle.log_blocks.specs.Opening.{IsBadAt, TellsFault, places}
 use Rattle.log_blocks.specs.declared.header.Place.{Place}
 use Rattle.log_manager.specs.Devices.{DevicesStandFor, HoldEnd, IsEnough}
+use Rattle.opening.specs.Begins.{IsKept}
 use Rattle.log_manager.specs.Managed.{IsNoBadLog}
 use Rattle.log_manager.specs.Records.{AreRecordsOf, IsLogOf}
 use Rattle.log_manager.proofs.Finding.{next_of_all}
@@ -22,9 +23,13 @@ use Rattle.wal_record.specs.declared.record.Record.{Record}
 
 -- where the disk stands for a log, no block of it is bad
 pub not_bad : {D : Type 0} → ((bs : List Block) (block byte : ℕ) (k : Kept) → StandsFor bs k → IsBadAt block byte k → ⊥) → (told : D → Kept) (may_leave : D → Kept → Type 0) (disk : D) (opening : List Record)
-    → DevicesStandFor told may_leave disk opening → (fault : Fault) → TellsFault (told disk) fault → IsNoBadLog fault
-not_bad never told may_leave disk opening stands (faults.LogBad block byte) bad = never stands.log_disk.bs block byte (told disk) stands.log_disk.stands bad
+    → IsKept told disk opening → (fault : Fault) → TellsFault (told disk) fault → IsNoBadLog fault
+not_bad never told may_leave disk opening stands (faults.LogBad block byte) bad = never stands.stands.bs block byte (told disk) stands.stands.stands bad
 not_bad never told may_leave disk opening stands fault bad = tt
+
+-- a disk that stands for a log keeps it
+pub kept_of : {D : Type 0} (told : D → Kept) (may_leave : D → Kept → Type 0) (disk : D) (opening : List Record) → DevicesStandFor told may_leave disk opening → IsKept told disk opening
+kept_of told may_leave disk opening s = record { sound = s.sound; stands = record { bs = s.log_disk.bs; stands = s.log_disk.stands; records = s.log_disk.records } }
 
 -- a disk that tells the same, and may leave no more, stands for the logs for which it stood
 pub stands_still : {D : Type 0} (told : D → Kept) (may_leave : D → Kept → Type 0) (moment : D → ℕ) (left_since : D → ℕ → Kept → Type 0) (old new : D) (opening : List Record) → told new ≡ told old
@@ -43,10 +48,10 @@ stands_still told may_leave moment left_since old new opening same crash counts 
 pub next_kept : {D : Type 0} (old new : LogState D) → new ≡ record old { device = new.device; ended = new.ended } → new.next ≡ old.next
 next_kept old new same = ap (λ (l : LogState _). l.next) same
 
-module _ {D : Type 0} (told : D → Kept) (may_leave : D → Kept → Type 0) (disk : D) (log : LogState D) (opening : List Record) (stands : DevicesStandFor told may_leave disk opening) (bs : List Block) (d : IsDurable told may_leave log bs)
+module _ {D : Type 0} (told : D → Kept) (may_leave : D → Kept → Type 0) (disk : D) (log : LogState D) (opening : List Record) (stands : IsKept told disk opening) (bs : List Block) (d : IsDurable told may_leave log bs)
     (same : told log.device ≡ told disk) (one : (bs cs : List Block) (k : Kept) → StandsFor bs k → StandsFor cs k → bs ≡ cs) where
   pub held : HoldEnd opening bs
-  held = subst (HoldEnd opening) (one stands.log_disk.bs bs (told disk) stands.log_disk.stands (subst (StandsFor bs) same d.stands)) stands.log_disk.records
+  held = subst (HoldEnd opening) (one stands.stands.bs bs (told disk) stands.stands.stands (subst (StandsFor bs) same d.stands)) stands.stands.records
 
   -- so does the disk of an open log that still has the blocks
   pub stands_open : (now : LogState D) → IsDurable told may_leave now bs → DevicesStandFor told may_leave now.device opening

@@ -3,6 +3,7 @@ use Rattle.std.specs.Prelude.{◌≡◌, ◌≢◌, ◌≤◌, ◌^◌, ℕ, Lis
 use Rattle.log_blocks.specs.Opening.{IsLogFault, RoseFor}
 use Rattle.log_index.specs.GoingOn.{may_go_on}
 use Rattle.log_index.specs.declared.listing.Listing.{Listing}
+use Rattle.log_manager.specs.Devices.{StandsForLog}
 use Rattle.log_manager.specs.Managed.{IsNoBadLog, Managed}
 use Rattle.listed_log.specs.Listed.{IsLogWith}
 use Rattle.media.specs.Kept.{Kept}
@@ -13,6 +14,11 @@ use Rattle.wal_record.specs.Sound.{IsSound}
 use Rattle.wal_record.specs.declared.record.Record.{Record}
 use Rattle.opening.specs.declared.reading.WhyNot.{WhyNot}
 use Rattle.opening.specs.declared.reading.WhyNot.TheVariants as causes
+
+-- The bytes that the disk tells stand for this sound log. What a crash would leave of it now isn't asked: an opening syncs it.
+pub record IsKept {D : Type 0} (told : D → Kept) (disk : D) (opening : List Record) : Type 0 where
+  pub sound : IsSound opening
+  pub stands : StandsForLog opening (told disk)
 
 -- A life may begin with this log: the blocks have it, all of it durable, the listing is its own, and knows the last record of
 -- each transaction that may go on. Only of a disk that tells what it keeps is such a log known.

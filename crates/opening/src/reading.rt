@@ -3,7 +3,7 @@ ghost use Rattle.std.specs.Prelude.{◌≡◌, ◌≤◌, List, None, IfOk, IfEr
 ghost use Rattle.media.specs.Counted.{Blames};
 ghost use Rattle.log_manager.specs.Devices.{DevicesStandFor};
 ghost use Rattle.wal_record.specs.declared.record.Record.{Record};
-ghost use Rattle.opening.specs.Begins.{IsForLogFault, IsWhyNot, MayBegin, RoseForWhy};
+ghost use Rattle.opening.specs.Begins.{IsForLogFault, IsKept, IsWhyNot, MayBegin, RoseForWhy};
 ghost use Rattle.opening.specs.Bytes.{IsRead, ShowsWhy, StaysSame};
 
 use listed_log::ListedLog;
@@ -36,10 +36,10 @@ pub struct NotOpened<L> {
 /// The log of a disk with its listing. It reads the headers of the blocks, and the payload from the last Checkpoint on. No
 /// byte changes.
 pub fn read_log<L: Disk>(alloc: Global, disk: L) -> Result<ListedLog<L>, NotOpened<L>>
-    // With each log for which the disk stands a life may begin.
-    ensures begins { IfOk result (λ log. L.tells → (opening : List Record) → DevicesStandFor L.told L.may_leave disk opening → MayBegin L.tells L.told L.may_leave log.log log.listing opening) }
+    // With each log for which the disk's bytes stand a life may begin.
+    ensures begins { IfOk result (λ log. L.tells → (opening : List Record) → IsKept L.told disk opening → MayBegin L.tells L.told L.may_leave log.log log.listing opening) }
     ensures goes { IfOk result (λ log. log.log.log.ended ≡ None) }
-    ensures refused { IfErr result (λ r. L.tells → (opening : List Record) → DevicesStandFor L.told L.may_leave disk opening → IsWhyNot opening r.why) }
+    ensures refused { IfErr result (λ r. L.tells → (opening : List Record) → IsKept L.told disk opening → IsWhyNot opening r.why) }
     // The disk that is given back stands for the logs for which it stood.
     ensures kept { IfErr result (λ r. L.tells → (opening : List Record) → DevicesStandFor L.told L.may_leave disk opening → DevicesStandFor L.told L.may_leave r.disk opening) }
     // Of any disk, whatever it stood for: an open log has the blocks that were read,

@@ -13,7 +13,7 @@ use Rattle.opening.specs.Begins.{IsForLogFault, IsWhyNot, MayBegin}
 use Rattle.opening.specs.declared.reading.NotOpened.{NotOpened}
 use Rattle.opening.specs.declared.reading.WhyNot.{WhyNot}
 use Rattle.opening.specs.declared.reading.WhyNot.TheVariants as causes
-use Rattle.opening.proofs.Begins.{begins_safe, held, holds_end, last_is, next_is, next_kept, none_there, not_bad, some_there, stands_open, stands_still}
+use Rattle.opening.proofs.Begins.{begins_safe, held, holds_end, kept_of, last_is, next_is, next_kept, none_there, not_bad, some_there, stands_open, stands_still}
 use Rattle.opening.specs.Bytes.{IsRead, ShowsWhy, StaysSame}
 use Rattle.opening.proofs.Bytes.{is_read, shows_analysed, shows_headers, shows_none, stays_by, stays_open}
 use Rattle.opening.proofs.reading.read_log.Goals as goal
@@ -76,21 +76,21 @@ returns-then-last-eq0-clause-kept g c = λ t opening stands.
     let log = c.in-Ok.log in
     let b = c.in-Ok.ensures.blocks t in
     subst (λ (d : g.row.L.Denot). DevicesStandFor g.L.Disk.told g.L.Disk.may_leave d opening) (sym (ap (λ r. r.disk) c.not_opened.ensures))
-    (stands_open g.L.Disk.told g.L.Disk.may_leave c.args.disk log opening stands b.0 b.1 (c.in-Ok.ensures.same t) c.one_log.ensures log b.1)
+    (stands_open g.L.Disk.told g.L.Disk.may_leave c.args.disk log opening (kept_of g.L.Disk.told g.L.Disk.may_leave c.args.disk opening stands) b.0 b.1 (c.in-Ok.ensures.same t) c.one_log.ensures log b.1)
 
 pub returns-then-last-gt-MOST-clause-kept : goal.returns-then-last-gt-MOST-clause-kept
 returns-then-last-gt-MOST-clause-kept g c = λ t opening stands.
     let log = c.in-Ok.log in
     let b = c.in-Ok.ensures.blocks t in
     subst (λ (d : g.row.L.Denot). DevicesStandFor g.L.Disk.told g.L.Disk.may_leave d opening) (sym (ap (λ r. r.disk) c.not_opened-then-last-gt-MOST.ensures))
-    (stands_open g.L.Disk.told g.L.Disk.may_leave c.args.disk log opening stands b.0 b.1 (c.in-Ok.ensures.same t) c.one_log.ensures log b.1)
+    (stands_open g.L.Disk.told g.L.Disk.may_leave c.args.disk log opening (kept_of g.L.Disk.told g.L.Disk.may_leave c.args.disk opening stands) b.0 b.1 (c.in-Ok.ensures.same t) c.one_log.ensures log b.1)
 
 pub returns-in-Err-analyse-clause-kept : goal.returns-in-Err-analyse-clause-kept
 returns-in-Err-analyse-clause-kept g c = λ t opening stands.
     let log = c.in-Ok.log in
     let b = c.in-Ok.ensures.blocks t in
     subst (λ (d : g.row.L.Denot). DevicesStandFor g.L.Disk.told g.L.Disk.may_leave d opening) (sym (ap (λ r. r.disk) c.not_opened-in-Err-analyse.ensures))
-    (stands_open g.L.Disk.told g.L.Disk.may_leave c.args.disk log opening stands b.0 b.1 (c.in-Ok.ensures.same t) c.one_log.ensures c.analyse.new.log (c.analyse.ensures.durable t b.0 b.1))
+    (stands_open g.L.Disk.told g.L.Disk.may_leave c.args.disk log opening (kept_of g.L.Disk.told g.L.Disk.may_leave c.args.disk opening stands) b.0 b.1 (c.in-Ok.ensures.same t) c.one_log.ensures c.analyse.new.log (c.analyse.ensures.durable t b.0 b.1))
 
 pub returns-then-last-eq0-clause-fuse : goal.returns-then-last-eq0-clause-fuse
 returns-then-last-eq0-clause-fuse g c =
