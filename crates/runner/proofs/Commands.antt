@@ -13,6 +13,7 @@ use Rattle.store_model.specs.declared.reply.Outcome.TheVariants as outcomes
 use Rattle.store_model.specs.declared.request.Request.{Request}
 use Rattle.wal_record.specs.Checkpoints.{commits}
 use Rattle.wal_record.specs.History.{life_log}
+use Rattle.wal_record.specs.declared.record.Checkpoint.{Checkpoint}
 use Rattle.wal_record.specs.declared.record.Record.{Record}
 use Rattle.wal_record.specs.declared.record.Record.TheVariants as kinds
 use Rattle.wal_record.specs.declared.entry.Entry.{Entry}
@@ -121,7 +122,7 @@ module _ {D : Type 0} (L : Ghosts D) (opens : List Record → Type 0) (x : LifeS
   -- ---- a turn with these entries, behind which the life is so
 
   module _ (y : LifeState) (es : List Entry) (grew : y.history ≡ x.history ++ es) (right : (opening : List Record) → opens opening → IsRight opening y.history) where
-    here : Life
+    abbrev here : Life
     here = record { opening = h.here.opening; history = h.here.history ++ es }
 
     history_is : here.history ≡ y.history
@@ -223,7 +224,7 @@ module _ {D : Type 0} (L : Ghosts D) (opens : List Record → Type 0) (x : LifeS
           lawful = may_begin name free;
           row = (goes_on none, enters_own L.tells s (commands.Begin name) own tt (session, tx, subst (λ (l : List Entry). Begins l session tx own) (sym seen) begins), tt);
         };
-        holds = next y own grew right (stage_step s t) refl refl ((λ i. h.active i ++ began name (begins.1 i)) ∙ sym active) (goes_on none ∙ sym goes.open) refl refl (armed_next L.fuses ⊥ x.calls y.calls s.armed.log goes.calls h.fused);
+        holds = next y own grew right (stage_step s t) refl refl ((λ i. h.active i ++ began name (begins.1 i)) ∙ sym active) (goes_on none ∙ sym goes.ended) refl refl (armed_next L.fuses ⊥ x.calls y.calls s.armed.log goes.calls h.fused);
         lines = text;
       }
 
@@ -234,7 +235,7 @@ module _ {D : Type 0} (L : Ghosts D) (opens : List Record → Type 0) (x : LifeS
     turn = turn (commands.Begin name) [] TooMany;
     is = refl;
     fits = record { goes = h.goes; lawful = may_begin name free; row = (name, refl, goes_on none, ap (λ (a : List Active). length a) h.active ∙ many, refl) };
-    holds = still y same active (goes_on none ∙ sym goes.open) (armed_next L.fuses ⊥ x.calls y.calls s.armed.log goes.calls h.fused);
+    holds = still y same active (goes_on none ∙ sym goes.ended) (armed_next L.fuses ⊥ x.calls y.calls s.armed.log goes.calls h.fused);
     lines = text;
   }
     where
@@ -274,7 +275,7 @@ module _ {D : Type 0} (L : Ghosts D) (opens : List Record → Type 0) (x : LifeS
       Had own es = WroteInRoom L.tells s.life (commands.Ask name request) own es
 
       ask_row : (own es : List Entry) (outcome : Outcome) → Answers a.session a.tx request (lock_of request) outcome own → Among Was own es → Had own es → MayEnter L.tells s (commands.Ask name request) es
-      ask_row own es outcome are among room = record { own = own; is = (a, act_here, outcome, are); among = among_map Was (IsBeside L.tells s (commands.Ask name request)) to_beside own es among; room = room }
+      ask_row own es outcome are among room = record { own = own; is = (a, act_here, (outcome, are)); among = among_map Was (IsBeside L.tells s (commands.Ask name request)) to_beside own es among; room = room }
 
       module _ (y : LifeState) (es : List Entry) (grew : y.history ≡ x.history ++ es) (right : (opening : List Record) → opens opening → IsRight opening y.history) where
         module _ (none : x.ended ≡ None) (own : List Entry) (outcome : Outcome) (are : Answers a.session a.tx request (lock_of request) outcome own) (among : Among Was own es) (room : Had own es) where
@@ -288,7 +289,7 @@ module _ {D : Type 0} (L : Ghosts D) (opens : List Record → Type 0) (x : LifeS
                 turn = t;
                 is = refl;
                 fits = ask_fits;
-                holds = next y es grew right (stage_step s t) refl refl (h.active ∙ sym active) (goes_on none ∙ sym goes.open) refl refl (armed_next L.fuses ⊥ x.calls y.calls s.armed.log goes.calls h.fused);
+                holds = next y es grew right (stage_step s t) refl refl (h.active ∙ sym active) (goes_on none ∙ sym goes.ended) refl refl (armed_next L.fuses ⊥ x.calls y.calls s.armed.log goes.calls h.fused);
                 lines = text ∙ sym (answer_own (WasInWay opens x.history (lock_of request)) a.tx (lock_of request) s.active name request own es among);
               }
 
@@ -328,7 +329,7 @@ module _ {D : Type 0} (L : Ghosts D) (opens : List Record → Type 0) (x : LifeS
               turn = t;
               is = refl;
               fits = commit_fits;
-              holds = next y es grew right (stage_step s t) refl refl (ap (λ (l : List Active). without l name) h.active ∙ sym active) (goes_on none ∙ sym goes.open) refl refl (armed_next L.fuses ⊥ x.calls y.calls s.armed.log goes.calls h.fused);
+              holds = next y es grew right (stage_step s t) refl refl (ap (λ (l : List Active). without l name) h.active ∙ sym active) (goes_on none ∙ sym goes.ended) refl refl (armed_next L.fuses ⊥ x.calls y.calls s.armed.log goes.calls h.fused);
               lines = text;
             }
 
@@ -352,7 +353,7 @@ module _ {D : Type 0} (L : Ghosts D) (opens : List Record → Type 0) (x : LifeS
               turn = t;
               is = refl;
               fits = record { goes = h.goes; lawful = lawful_name; row = (goes_on none, enters_among L.tells s (commands.Abort name) own es tt (a, act_here, told) among, tt) };
-              holds = next y es grew right (stage_step s t) refl refl (ap (λ (l : List Active). without l name) h.active ∙ sym active) (goes_on none ∙ sym goes.open) refl refl (armed_next L.fuses ⊥ x.calls y.calls s.armed.log goes.calls h.fused);
+              holds = next y es grew right (stage_step s t) refl refl (ap (λ (l : List Active). without l name) h.active ∙ sym active) (goes_on none ∙ sym goes.ended) refl refl (armed_next L.fuses ⊥ x.calls y.calls s.armed.log goes.calls h.fused);
               lines = text;
             }
 
@@ -386,7 +387,7 @@ module _ {D : Type 0} (L : Ghosts D) (opens : List Record → Type 0) (x : LifeS
 
   -- ---- checkpoints
 
-  module _ (none : x.ended ≡ None) (lsn : ℕ) (k : _) where
+  module _ (none : x.ended ≡ None) (lsn : ℕ) (k : Checkpoint) where
     abbrev taken : List Entry
     taken = Rec lsn (kinds.Checkpoint k) ∷ []
 
@@ -403,7 +404,7 @@ module _ {D : Type 0} (L : Ghosts D) (opens : List Record → Type 0) (x : LifeS
           turn = t;
           is = refl;
           fits = record { goes = h.goes; lawful = may_look; row = (goes_on none, checkpoint_enters, tt) };
-          holds = next y taken grew right (stage_step s t) refl refl (h.active ∙ sym active) (goes_on none ∙ sym goes.open) refl refl (armed_next L.fuses ⊥ x.calls y.calls s.armed.log goes.calls h.fused);
+          holds = next y taken grew right (stage_step s t) refl refl (h.active ∙ sym active) (goes_on none ∙ sym goes.ended) refl refl (armed_next L.fuses ⊥ x.calls y.calls s.armed.log goes.calls h.fused);
           lines = text;
         }
 
@@ -414,6 +415,6 @@ module _ {D : Type 0} (L : Ghosts D) (opens : List Record → Type 0) (x : LifeS
     turn = done commands.Stat [] (Counted stat);
     is = refl;
     fits = record { goes = h.goes; lawful = may_look; row = (goes_on none, enters_own L.tells s commands.Stat [] tt refl, (stat, refl, counts)) };
-    holds = record { past = h.past; here = h.here; life = h.life; active = h.active ∙ sym active; ended = goes_on none ∙ sym goes.open; goes = h.goes; fused = armed_next L.fuses ⊥ x.calls y.calls s.armed.log goes.calls h.fused; history = h.history ∙ sym same; begins = h.begins; right = h.right };
+    holds = record { past = h.past; here = h.here; life = h.life; active = h.active ∙ sym active; ended = goes_on none ∙ sym goes.ended; goes = h.goes; fused = armed_next L.fuses ⊥ x.calls y.calls s.armed.log goes.calls h.fused; history = h.history ∙ sym same; begins = h.begins; right = h.right };
     lines = text;
   }

@@ -1,5 +1,5 @@
 -- What a command enters: its own entries, and others beside them.
-use Rattle.std.proofs.Common.{◌≡◌, ◌∷◌, ◌++◌, ℕ, List, [], Option, Some, None, Bool, refl, sym, ap, subst, ◌∙◌, append-nil}
+use Rattle.std.proofs.Common.{◌≡◌, ◌∷◌, ◌++◌, ℕ, List, [], Option, Some, None, Bool, inl, inr, refl, sym, ap, subst, ◌∙◌}
 use Rattle.std.specs.Prelude.{unwrap_or}
 use Rattle.std.specs.List.{All}
 use Rattle.std.proofs.lemmas.List.Elements.{All-cons, All-head, All-nil, All-tail}
@@ -49,9 +49,9 @@ IsNoRequest (commands.Ask name request) = ⊥
 IsNoRequest _ = Unit {0}
 
 room_free : (tells : Type 0) (life : Option Life) (c : Command) (own es : List Entry) → IsNoRequest c → WroteInRoom tells life c own es
-room_free tells None c own es no = tt
-room_free tells (Some l) (commands.Ask name request) own es no = absurd no
-room_free tells (Some l) _ own es no = tt
+room_free tells None c own es free = tt
+room_free tells (Some l) (commands.Ask name request) own es free = absurd free
+room_free tells (Some l) _ own es free = tt
 
 -- a request that was declined
 pub room_declined : (tells : Type 0) (life : Option Life) (name : List ℕ) (request asked : Request) (session tx : ℕ) (why : _) (es : List Entry) → WroteInRoom tells life (commands.Ask name request) (Declined session tx asked why ∷ []) es
@@ -64,10 +64,10 @@ room_refused tells (Some l) name request tx holder range mode es = λ t before i
 
 -- the own entries alone
 pub enters_own : (tells : Type 0) (s : Stage) (c : Command) (own : List Entry) → IsNoRequest c → IsOwn tells s c own → MayEnter tells s c own
-enters_own tells s c own no is = record { own = own; is = is; among = among_own (IsBeside tells s c) own; room = room_free tells s.life c own own no }
+enters_own tells s c own free is = record { own = own; is = is; among = among_own (IsBeside tells s c) own; room = room_free tells s.life c own own free }
 
 pub enters_among : (tells : Type 0) (s : Stage) (c : Command) (own es : List Entry) → IsNoRequest c → IsOwn tells s c own → Among (IsBeside tells s c) own es → MayEnter tells s c es
-enters_among tells s c own es no is among = record { own = own; is = is; among = among; room = room_free tells s.life c own es no }
+enters_among tells s c own es free is among = record { own = own; is = is; among = among; room = room_free tells s.life c own es free }
 
 -- ---- beside a request
 
@@ -135,7 +135,7 @@ undoes untold tx (e ∷ es) all =
     elim (All-head (IsOfAbort ⊥ tx) e es all) [
       | inl taken ↦ record {
           undos = e ∷ more.undos;
-          each = All-cons (TakesBack untold tx) e more.undos (takes_back_map ⊥ untold (λ no. absurd no) tx e taken) more.each;
+          each = All-cons (TakesBack untold tx) e more.undos (takes_back_map ⊥ untold (λ never. absurd never) tx e taken) more.each;
           among = ([], All-nil IsUpkeep, es ++ Rec 0 (end_record tx 0) ∷ [], refl, more.among);
         }
       | inr keeps ↦ record { undos = more.undos; each = more.each; among = among_undo tx e more.undos (es ++ Rec 0 (end_record tx 0) ∷ []) keeps more.among }

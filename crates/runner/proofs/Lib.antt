@@ -1,7 +1,7 @@
 pub mod Causes
 pub mod Commands
 pub mod Entered
-pub mod Failing
+pub mod Faults
 pub mod Fused
 pub mod Gates
 pub mod Known

@@ -109,10 +109,6 @@ module _ {D : Type 0} (L : Ghosts D) where
       let here : IsLeftBy l l.opening = ([], left, sym (append-nil l.opening)) in
       keeps_only L (LeftBy l) disk (l.opening, here, record { sound = d.sound; bs = d.log_disk.bs; stands = d.log_disk.stands; records = d.log_disk.records }) d.log_disk.only
 
-  -- the lives with one more
-  pub right_more : (past : List Life) (l : Life) → All IsRightLife past → IsRightLife l → All IsRightLife (past ++ l ∷ [])
-  right_more past l h r = All-append IsRightLife past (l ∷ []) h (All-cons IsRightLife l [] r (All-nil IsRightLife))
-
   module _ (T : Type 0) (opens : List Record → Type 0) (x : LifeState) (s : Stage) (h : Within L opens x s) where
     -- of any disk nothing is known within a life
     pub known_in : (disk : D) → Known T L (bytes_after s.life s.bytes) disk

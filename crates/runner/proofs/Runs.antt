@@ -68,7 +68,7 @@ cut_cut s c es = refl
 
 -- a turn of a life opens none, and doesn't stop the machine
 life_still : (s : Stage) (l : Life) (t : Turn) → s.life ≡ Some l → IsOfLife t.command → ((stage_step s t).cycled ≡ s.cycled) × (bytes_after (stage_step s t).life (stage_step s t).bytes ≡ bytes_after s.life s.bytes)
-life_still s l t open kind = by t.command t.entries t.found t.end kind
+life_still s l t living kind = by t.command t.entries t.found t.end kind
   where
     by : (c : Command) (es : List Entry) (found : List Record) (end : End) → IsOfLife c → ((stage_after s c es found end).cycled ≡ s.cycled) × (bytes_after (stage_after s c es found end).life (stage_after s c es found end).bytes ≡ bytes_after s.life s.bytes)
     by (commands.Begin name) es found Done k = (refl, longer_bytes s.life es s.bytes)

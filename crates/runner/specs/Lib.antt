@@ -13,5 +13,5 @@ pub mod Vault
 pub mod Usage
 pub mod Clause
 pub mod Promises
-pub mod Failing
+pub mod Faults
 pub mod NextCall

@@ -1,5 +1,5 @@
 -- What the state of a run says of the turns so far, and what a command adds.
-use Rattle.std.specs.Prelude.{◌≡◌, ◌<◌, ℕ, List, [], Option, Some, None, Bool, false}
+use Rattle.std.specs.Prelude.{◌≡◌, ◌<◌, ◌≤◌, ℕ, List, [], Option, Some, None, Bool, false}
 use Rattle.std.specs.List.{All}
 use Rattle.media.specs.declared.disk.Disk.{Ghosts}
 use Rattle.log_index.specs.declared.listing.Listing.{Listing}

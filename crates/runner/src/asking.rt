@@ -3,7 +3,7 @@ ghost use Rattle.std.specs.Prelude.{◌≡◌, ◌≤◌, ℕ, None, true, IfErr
 ghost use Rattle.command_laws.specs.Names.{is_active};
 ghost use Rattle.script.specs.declared.command.Command.TheVariants as commands;
 ghost use Rattle.runner.specs.Causes.{LifeCause};
-ghost use Rattle.runner.specs.Failing.{FailsAs, IsRefusedLine};
+ghost use Rattle.runner.specs.Faults.{FailsAs, IsRefusedLine};
 ghost use Rattle.runner.specs.Promises.{Did, Refused};
 
 use crate::failing::{MOST, fail, told};

@@ -1,7 +1,7 @@
 //! Calls of a life that fail.
 ghost use Rattle.std.specs.Prelude.{◌≡◌, ◌<◌, Ok, IfErr, IfOk};
 ghost use Rattle.store_model.specs.declared.fault.Fault.TheVariants as faults;
-ghost use Rattle.runner.specs.Failing.{FailsAs};
+ghost use Rattle.runner.specs.Faults.{FailsAs};
 ghost use Rattle.runner.specs.declared.status.Status.{Status};
 
 use crate::status::Status;

@@ -2,7 +2,7 @@
 ghost use Rattle.std.specs.Prelude.{◌≡◌, ◌≤◌, ℕ, None, IfErr, IfOk};
 ghost use Rattle.script.specs.declared.command.Command.TheVariants as commands;
 ghost use Rattle.runner.specs.Causes.{LifeCause};
-ghost use Rattle.runner.specs.Failing.{counts_of};
+ghost use Rattle.runner.specs.Faults.{counts_of};
 ghost use Rattle.runner.specs.Promises.{Did, Refused};
 
 use crate::failing::{MOST, fail, told};
