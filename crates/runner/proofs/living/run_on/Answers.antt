@@ -2,7 +2,7 @@ use Rattle.std.proofs.Common.{sym, subst}
 use Rattle.log_manager.specs.Managed.{Managed}
 use Rattle.runner.specs.Clause.{Between}
 use Rattle.runner.specs.LogDisk.{IsWhole, seen}
-use Rattle.runner.specs.Machine.{In}
+
 use Rattle.runner.specs.Vault.{Beside}
 use Rattle.runner.specs.Standing.{Standing, standing_with}
 use Rattle.runner.proofs.living.run_on.Goals as goal

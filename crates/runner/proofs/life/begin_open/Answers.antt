@@ -1,0 +1,27 @@
+use Rattle.std.proofs.Common.{rules, ◌≡◌, ◌≤◌, ◌<◌, ◌^◌, ℕ, None, true, false, IfErr, IfOk, ◌+◌, ◌-◌, ◌*◌, length, ◌/◌, ◌%◌, Bool, nat_eq, nat_lt, List, [], ◌∷◌, ◌++◌, slice_index_or, slice_set, bit_and, bit_or, Fits, w8, w32, w64, Bor, MutBor}
+use Rattle.command_laws.specs.Names.{is_active}
+use Rattle.script.specs.declared.command.Command.TheVariants as commands
+use Rattle.runner.specs.Causes.{LifeCause}
+use Rattle.runner.specs.Promises.{Did, Refused}
+use Rattle.runner.specs.Rows.{IsNoStop}
+use Rattle.runner.proofs.life.begin_open.Goals as goal
+
+-- src/life.rt:91:24
+pub returns-in-Err-clause-err : goal.returns-in-Err-clause-err
+returns-in-Err-clause-err g c = ?
+
+-- src/life.rt:95:24
+pub returns-in-Err-told-clause-err : goal.returns-in-Err-told-clause-err
+returns-in-Err-told-clause-err g c = ?
+
+-- src/life.rt:88:1
+pub returns-in-Ok-begun-clause-ok : goal.returns-in-Ok-begun-clause-ok
+returns-in-Ok-begun-clause-ok g c = ?
+
+-- src/life.rt:88:1
+pub returns-in-Err-TooManyActive-clause-ok : goal.returns-in-Err-TooManyActive-clause-ok
+returns-in-Err-TooManyActive-clause-ok g c = ?
+
+-- src/life.rt:76:1
+pub returns : goal.returns
+returns g c = ?
