@@ -8,8 +8,8 @@
 //! and whether its segment is unrestored. Such questions take no memory, and cost at most the logarithm of what is listed.
 //!
 //! Its account is the thread's counts with what the log disk tells of its calls (`specs/Told`). So whoever knows it by the traits
-//! alone knows of the disk that without a fuse no call is refused, and that each counted fault was a call that the disk failed by
-//! itself or that its fuse refused.
+//! alone knows of the disk that without a fuse no call is refused, and that where a fault was counted the disk failed a call by
+//! itself or its fuse refused one.
 //!
 //! Where a thread's counts know of an end, it is the journal's (`knows`, which holds of each [`OwnJournal`]). So the LSN of an
 //! answer `Ended` is what [`OwnJournal::end`] tells. [`OwnJournal::end_seen`] tells it beside the whole history.

@@ -41,7 +41,7 @@ pub record CallsGoOn (failed : Type 0) (old new : Calls) : Type 0 where
 
 -- ---- how a call leaves the life
 
--- it goes on, and no device call failed
+-- it goes on; that no call of the log disk failed isn't said
 pub record GoesOn (old new : LifeState) : Type 0 where
   pub ended : new.ended ≡ None
   pub calls : CallsGoOn ⊥ old.calls new.calls

@@ -11,8 +11,8 @@
 //! disk tells of its calls. What is promised:
 //!
 //! 1. Each call adds to the history its command's own entries, and beside them what may stand there, as `store_life` has it.
-//! 2. A life ends where a call of the log disk failed, and there alone: then that disk failed by itself, or an armed fuse
-//!    refused a call; the opening log and each acknowledged commit are durable. After any other answer or refusal it goes on.
+//! 2. A life ends only where a call answers `LogFault`: then the log disk failed by itself, or an armed fuse refused a call;
+//!    the opening log and each acknowledged commit are durable. After any other answer or refusal it goes on.
 //! 3. At each moment the history is legal and serial, and a stop leaves the first of its transactions ([`OwnLife::look`]); what
 //!    the log disk keeps as it is handed back, and whatever a crash leaves of it then, stands for such a log.
 //!

@@ -180,7 +180,7 @@ impl<'a, L: Disk, N: Life> OwnLife<'a, L, N> {
         unvaulted(ended)
     }
 
-    /// Takes a Checkpoint: enters it, and makes the log durable up to it. Gives its LSN.
+    /// Takes a Checkpoint, and gives its LSN. It flushes the log up to it; no clause here says how much is then durable.
     pub fn checkpoint<R: Wait>(&mut self, rt: &R, alloc: Global) -> Result<Lsn, Fault>
         requires open { self.old.ended ≡ None }
         ensures entered { IsCheckpointed result self.old.history self.new.history }

@@ -16,7 +16,7 @@ use wal_record::Entry;
 /// So many neighbouring pages are a segment.
 const SEGMENT: u32 = 16;
 
-/// A supply of pages that are rebuilt from nothing by what the log keeps. No vault is read.
+/// A supply of pages that are rebuilt by what the log keeps, from the image that is handed in or from nothing. No vault is read.
 #[derive(Drop)]
 pub struct LogAlone<'a> {
     pub(crate) operators: &'a Operators,

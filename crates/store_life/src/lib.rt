@@ -21,8 +21,8 @@
 //! 4. Each other refusal has its cause, said of what was known before the call. No page is held behind a call, and no frame
 //!    reserved.
 //! 5. What the journal's object tells of the log disk goes on through each call (`Keeps` of `page_ops`): its parts stay, its
-//!    counts of faults don't fall, and a known end stays. Where the log disk tells of its calls, a counted fault was a call that
-//!    failed by itself or was refused by a fuse. Only a begin makes a session.
+//!    counts of faults don't fall, and a known end stays. Where the log disk tells of its calls, and a fault of it was counted, it
+//!    failed a call by itself or a fuse refused one. Only a begin makes a session.
 #![tactic(auto)]
 
 mod asking;
