@@ -2,9 +2,17 @@
 use Rattle.std.specs.Prelude.{ℕ, List, [], ◌∷◌, Option, Some, None, Bool, true, false, ◌==◌, ◌||◌, ◌&&◌, if◌then◌else◌, codes}
 use Rattle.script.specs.Word.{word, behind, same_text}
 
+-- a word about the store, and one about a transaction
+abbrev pub is_store_word : List ℕ → Bool
+is_store_word text = same_text text (codes "format") || same_text text (codes "open") || same_text text (codes "checkpoint") || same_text text (codes "stat") || same_text text (codes "stop")
+
+abbrev pub is_transaction_word : List ℕ → Bool
+is_transaction_word text =
+    same_text text (codes "begin") || same_text text (codes "get") || same_text text (codes "put") || same_text text (codes "del")
+    || same_text text (codes "scan") || same_text text (codes "op") || same_text text (codes "commit") || same_text text (codes "abort")
+
 abbrev pub is_built_word : List ℕ → Bool
-is_built_word text =
-    same_text text (codes "format") || same_text text (codes "open") || same_text text (codes "begin") || same_text text (codes "get") || same_text text (codes "put") || same_text text (codes "commit") || same_text text (codes "stop")
+is_built_word text = is_store_word text || is_transaction_word text
 
 -- a word to which the second one belongs: the device of a fuse
 abbrev pub has_fuse : List ℕ → Bool

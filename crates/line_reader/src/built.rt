@@ -1,7 +1,7 @@
 //! Which lines ask for what is built.
 ghost use Rattle.std.specs.Prelude.{◌≡◌, Option, List, ℕ};
 ghost use Rattle.std.specs.Option.{option_copied};
-ghost use Rattle.line_reader.specs.Built.{is_built, is_built_word, has_fuse, is_built_device};
+ghost use Rattle.line_reader.specs.Built.{is_built, is_built_word, is_store_word, is_transaction_word, has_fuse, is_built_device};
 
 use script::cut;
 
@@ -23,13 +23,32 @@ pub fn is_built(line: &[u8]) -> bool
 fn is_built_word(word: &[u8]) -> bool
     ensures { result ≡ is_built_word word.now }
 {
+    is_store_word(word) || is_transaction_word(word)
+}
+
+/// Whether it asks for something of the store.
+fn is_store_word(word: &[u8]) -> bool
+    ensures { result ≡ is_store_word word.now }
+{
     word == b"format".as_slice()
         || word == b"open".as_slice()
-        || word == b"begin".as_slice()
+        || word == b"checkpoint".as_slice()
+        || word == b"stat".as_slice()
+        || word == b"stop".as_slice()
+}
+
+/// Whether it asks for something of a transaction.
+fn is_transaction_word(word: &[u8]) -> bool
+    ensures { result ≡ is_transaction_word word.now }
+{
+    word == b"begin".as_slice()
         || word == b"get".as_slice()
         || word == b"put".as_slice()
+        || word == b"del".as_slice()
+        || word == b"scan".as_slice()
+        || word == b"op".as_slice()
         || word == b"commit".as_slice()
-        || word == b"stop".as_slice()
+        || word == b"abort".as_slice()
 }
 
 /// Whether the second word belongs to it: the device of a fuse.
