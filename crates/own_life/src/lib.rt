@@ -2,10 +2,10 @@
 //!
 //! [`open_life`] makes of a log that was read, and of what names a life, an [`OwnLife`] and its pages ([`LogPages`]): the journal
 //! and the pool of a store (`plain_store`), and its named transactions (`store_life`). Pages have no device here: they come by
-//! repair from the log as they are first wanted, and stay in frames. They are lent to each call that wants them, as any
-//! [`LifePages`] may be. Each command of the life is a call: [`OwnLife::begin`], [`OwnLife::ask`], [`OwnLife::commit`],
-//! [`OwnLife::abort`], [`OwnLife::checkpoint`] and [`OwnLife::survey`]. They are for a life that goes on; whether it has ended,
-//! and with which LSN, [`OwnLife::ended`] tells at any moment. [`OwnLife::into_device`] stops it.
+//! repair from the log as they are first wanted, and stay in frames. They are lent to each call that wants them, in a type of the
+//! caller's own that is a [`LifePages`]. Each command of the life is a call: [`OwnLife::begin`], [`OwnLife::ask`],
+//! [`OwnLife::commit`], [`OwnLife::abort`], [`OwnLife::checkpoint`] and [`OwnLife::survey`]. They are for a life that goes on;
+//! whether it has ended, and with which LSN, [`OwnLife::ended`] tells at any moment. [`OwnLife::into_device`] stops it.
 //!
 //! The model (`specs/State`) is the history, the active names, the LSN with which the life ended, if it has, and what the log
 //! disk tells of its calls. What is promised:

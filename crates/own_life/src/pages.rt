@@ -79,19 +79,17 @@ pub trait LifePages<N: Life>: Drop {
         ensures refused { IfErr result (FailsToBring N.opens N.log_faults N.made no_faults no_faults (J.account journal.old) (J.account journal.new) life.new.pass.log) };
 }
 
-/// The pages of a life without a data device: in frames, and rebuilt from the log.
+/// The pages of a life without a data device: in frames, and rebuilt from the log. Whoever lends them to a life keeps them in a
+/// type of its own that is a [`LifePages`] by these calls.
 #[derive(Drop)]
 pub struct LogPages<'a, N: Life> {
     pub(crate) pool: PlainPool<OwnImages<'a, BlankPages, N>, LogAlone<'a>, N>,
     pub(crate) operators: &'a Operators,
 }
 
-impl<'a, N: Life> LifePages<N> for LogPages<'a, N> {
-    ghost use Rattle.std.specs.Prelude.{◌≡◌, false};
-
-    ghost idle = { λ p. (p.pool.out ≡ 0) × (p.pool.reserves ≡ false) };
-
-    fn ask<J: Journaling<N>, R: Wait>(
+impl<'a, N: Life> LogPages<'a, N> {
+    /// As `StoreLife::ask`, of an active transaction.
+    pub fn ask<J: Journaling<N>, R: Wait>(
         &mut self,
         rt: &R,
         alloc: Global,
@@ -99,19 +97,48 @@ impl<'a, N: Life> LifePages<N> for LogPages<'a, N> {
         life: &mut StoreLife<N>,
         name: &Name,
         request: Request,
-    ) -> Result<Answered, Fault> {
+    ) -> Result<Answered, Fault>
+        requires idle { (self.old.pool.out ≡ 0) × (self.old.pool.reserves ≡ false) }
+        requires runs { Runs N.opens N.entries (J.account journal.old) life.old }
+        requires active { is_active (actives life.old.named.items) name.now ≡ true }
+        ensures idle { (self.new.pool.out ≡ 0) × (self.new.pool.reserves ≡ false) }
+        ensures runs { Runs N.opens N.entries (J.account journal.new) life.new }
+        ensures asks { (a : Active) → active_of (actives life.old.named.items) name.now ≡ Some a → Asks N.opens a.session a.tx request result life.old.pass.log life.new.pass.log }
+        ensures told { (a : Active) → active_of (actives life.old.named.items) name.now ≡ Some a → IfOk result (IsTold N.opens a.session a.tx request life.new.pass.log) }
+        ensures names { actives life.new.named.items ≡ actives life.old.named.items }
+        ensures named { HasNames life.old → HasNames life.new }
+        ensures conflict { IfErr result (IsConflict N.opens life.new.pass.log (lock_of request)) }
+        ensures full { IfErr result (LacksRoom N.opens life.new.pass.log) }
+        ensures gives_none { IfErr result (GivesNone N.opens request life.new.pass.log) }
+        ensures keeps { Keeps (J.account journal.old) (J.account journal.new) }
+        ensures open { OnOk result (MeetsNoEnd (J.account journal.old) (J.account journal.new)) }
+        ensures refused { IfErr result (FailsToAsk (IsRefusal request) N.opens N.log_faults N.made no_faults no_faults (J.account journal.old) (J.account journal.new) life.new.pass.log) }
+    {
         let pool = &mut self.pool;
         life.ask(rt, alloc, pool, journal, self.operators, name, request)
     }
 
-    fn abort<J: Journaling<N>, R: Wait>(
+    /// As `StoreLife::abort`, of an active transaction.
+    pub fn abort<J: Journaling<N>, R: Wait>(
         &mut self,
         rt: &R,
         alloc: Global,
         journal: &mut J,
         life: &mut StoreLife<N>,
         name: &Name,
-    ) -> Result<Pos, Fault> {
+    ) -> Result<Pos, Fault>
+        requires idle { (self.old.pool.out ≡ 0) × (self.old.pool.reserves ≡ false) }
+        requires runs { Runs N.opens N.entries (J.account journal.old) life.old }
+        requires active { is_active (actives life.old.named.items) name.now ≡ true }
+        ensures idle { (self.new.pool.out ≡ 0) × (self.new.pool.reserves ≡ false) }
+        ensures runs { Runs N.opens N.entries (J.account journal.new) life.new }
+        ensures aborts { (a : Active) → active_of (actives life.old.named.items) name.now ≡ Some a → EndsBy N.opens a.tx result life.old.pass.log life.new.pass.log }
+        ensures names { actives life.new.named.items ≡ left_by result (actives life.old.named.items) name.now }
+        ensures named { HasNames life.old → HasNames life.new }
+        ensures keeps { Keeps (J.account journal.old) (J.account journal.new) }
+        ensures open { OnOk result (MeetsNoEnd (J.account journal.old) (J.account journal.new)) }
+        ensures refused { IfErr result (FailsToBring N.opens N.log_faults N.made no_faults no_faults (J.account journal.old) (J.account journal.new) life.new.pass.log) }
+    {
         life.abort(rt, alloc, &mut self.pool, journal, name)
     }
 }
