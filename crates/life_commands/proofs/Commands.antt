@@ -1,0 +1,415 @@
+-- What each command of a life adds, over any stage.
+use Rattle.std.proofs.Common.{◌≡◌, ℕ, ◌<◌, Bool, true, false, List, [], ◌∷◌, ◌++◌, Option, Some, None, refl, sym, ap, subst, ◌∙◌, arith, inl, inr, length}
+use Rattle.std.specs.Prelude.{codes}
+use Rattle.std.specs.List.{All}
+use Rattle.std.specs.Fmt.{decimal}
+use Rattle.media.specs.declared.disk.Disk.{Ghosts}
+use Rattle.store_model.specs.declared.limits.TheConstants.{MOST_ACTIVE}
+use Rattle.store_model.specs.declared.reply.Outcome.{Outcome}
+use Rattle.store_model.specs.declared.reply.Outcome.TheVariants as outcomes
+use Rattle.store_model.specs.declared.request.Request.{Request}
+use Rattle.wal_record.specs.Checkpoints.{commits}
+use Rattle.wal_record.specs.History.{life_log}
+use Rattle.wal_record.specs.declared.record.Checkpoint.{Checkpoint}
+use Rattle.wal_record.specs.declared.record.Record.{Record}
+use Rattle.wal_record.specs.declared.record.Record.TheVariants as kinds
+use Rattle.wal_record.specs.declared.entry.Entry.{Entry}
+use Rattle.wal_record.specs.declared.entry.Entry.TheVariants.{Rec, Declined, Acked}
+use Rattle.log_laws.specs.Right.{IsRight}
+use Rattle.journal.specs.Stops.{IsDurableUpto}
+use Rattle.page_ops.specs.Causes.{IsUntold}
+use Rattle.page_ops.specs.Seeing.{Calls}
+use Rattle.command_laws.specs.Commands.{Among, Answers, Aborts, Begins, Commits, IsBesideRequest, IsUpkeep, commit_record, end_record}
+use Rattle.command_laws.specs.Names.{Active, active_of, began, is_active, without}
+use Rattle.engine.specs.Beside.{IsInWay}
+use Rattle.engine.specs.Requests.{lock_of}
+use Rattle.store_life.specs.Turns.{IsOfAbort, WasInWay}
+use Rattle.own_life.specs.State.{BreaksOff, CallsGoOn, GoesOn, LifeState}
+use Rattle.script.specs.declared.command.Command.{Command}
+use Rattle.script.specs.declared.command.Command.TheVariants as commands
+use Rattle.script.specs.declared.command.Device.TheVariants.{Log}
+use Rattle.transcript.specs.Lines.{ended_line, failed_line, refused_line, stat_line, upkeep_line}
+use Rattle.transcript.specs.declared.upkeep.Stat.{Stat}
+use Rattle.transcript.specs.declared.upkeep.Upkeep.TheVariants as upkeeps
+use Rattle.life_commands.specs.Figures.{IsStat}
+use Rattle.life_commands.specs.LogDisk.{Keeps, Leaves}
+use Rattle.life_commands.specs.Living.{Adds, IsArmed, IsDiskOf, Within}
+use Rattle.life_commands.specs.Refusals.{CutAt, IsNotBuilt, RefusesAt}
+use Rattle.life_commands.specs.Rows.{Calls as CallsDevice, FitsAt, IsBeside, IsCutOff, IsEnd, IsInWayOf, IsOfLife, MayEnter, WroteInRoom, is_lawful, no_life}
+use Rattle.life_commands.specs.Text.{answer_lines, head}
+use Rattle.life_commands.specs.Turns.{turn, Turn, Life, Fuses, with_entries, Stage, Done, TooMany, LogFault, Ended, Cut, Numbered, Counted, history_of, lives, lives_of, last_after, IsRightLife, done, failed_stage, stage_step, longer, log_of_life}
+use Rattle.life_commands.specs.declared.status.Status.TheVariants as statuses
+use Rattle.life_commands.proofs.Entered.{all_taken, among_last, among_map, beside_map, answer_own, enters_among, enters_own, room_declined, undoes}
+use Rattle.life_commands.proofs.Lives.{life_keeps, right_more}
+
+-- ---- the fuse
+
+pub armed_next : (fuses F : Type 0) (x y : Calls) (armed : Bool) → CallsGoOn F x y → IsArmed fuses x armed → IsArmed fuses y armed
+armed_next fuses F x y armed c a = record { fuse = a.fuse; renewed = λ e. (c.unarmed (a.renewed e)).0 }
+
+-- only an armed fuse refuses a call
+armed_by : (fuses F : Type 0) (x y : Calls) (armed : Bool) → CallsGoOn F x y → IsArmed fuses x armed → x.refused < y.refused → armed ≡ true
+armed_by fuses F x y true c a more = refl
+armed_by fuses F x y false c a more = absurd (let same = (c.unarmed (a.renewed refl)).1 in omega (arith, more, same))
+
+-- what a failed command leaves, whichever it was
+failed_is : (s : Stage) (c : Command) (es : List Entry) (at : Option ℕ) → IsOfLife c → CallsDevice c Log → failed_stage s c es at ≡ record (with_entries s es) { ended = at }
+failed_is s (commands.Ask name request) es at kind calls = refl
+failed_is s (commands.Commit name) es at kind calls = refl
+failed_is s (commands.Abort name) es at kind calls = refl
+failed_is s commands.Checkpoint es at kind calls = refl
+failed_is s (commands.Begin name) es at kind calls = absurd calls
+failed_is s commands.Stat es at kind calls = absurd calls
+failed_is s _ es at kind calls = absurd kind
+
+module _ {D : Type 0} (L : Ghosts D) (opens : List Record → Type 0) (x : LifeState) (s : Stage) (h : Within L opens x s) where
+  abbrev In : LifeState → Stage → Type 0
+  In y s' = Within L opens y s'
+
+  pub living : no_life s.life ≡ false
+  living = ap no_life h.life
+
+  named : (name : List ℕ) → is_active s.active name ≡ is_active x.active name
+  named name = ap (λ (a : List Active). is_active a name) h.active
+
+  pub goes_on : x.ended ≡ None → s.ended ≡ None
+  goes_on none = h.ended ∙ none
+
+  -- ---- which commands are lawful
+
+  pub begun_twice : (name : List ℕ) → is_active x.active name ≡ true → is_lawful s (commands.Begin name) ≡ false
+  begun_twice name e = rw (living, named name ∙ e) refl
+
+  pub may_begin : (name : List ℕ) → is_active x.active name ≡ false → is_lawful s (commands.Begin name) ≡ true
+  may_begin name e = rw (living, named name ∙ e) refl
+
+  pub is_named : (name : List ℕ) (b : Bool) → is_active x.active name ≡ b → is_active s.active name ≡ b
+  is_named name b e = named name ∙ e
+
+  pub may_look : is_lawful s commands.Stat ≡ true
+  may_look = rw living refl
+
+  -- ---- lines that add nothing
+
+  pub did_nothing : (out : List ℕ) → out ≡ [] → Adds L.tells (In x) s commands.Nothing out
+  did_nothing out is = record { turn = turn commands.Nothing [] Done; is = refl; fits = record { goes = h.goes; lawful = refl; row = (tt, enters_own L.tells s commands.Nothing [] tt refl, tt) }; holds = h; lines = is }
+
+  -- the life has ended
+  pub did_end : (c : Command) (n : ℕ) (out : List ℕ) → x.ended ≡ Some n → is_lawful s c ≡ true → IsOfLife c → out ≡ ended_line (head c) n → Adds L.tells (In x) s c out
+  did_end c n out ended lawful kind is = record { turn = turn c [] (Ended n); is = refl; fits = record { goes = h.goes; lawful = lawful; row = (h.ended ∙ ended, kind, refl) }; holds = h; lines = is }
+
+  -- ---- the disk that the life hands out
+
+  module _ (disk : D) (of : IsDiskOf L opens x disk) where
+    pub leaves_here : Leaves L disk s
+    leaves_here t = subst (λ (o : Option Life). Keeps L (last_after o s.last) disk) (sym h.life) (life_keeps L opens x h.here disk (h.begins t) h.history of)
+
+    -- a line that isn't lawful
+    pub unlawful : (c : Command) (line : ℕ) → is_lawful s c ≡ false → RefusesAt L disk s c line (statuses.Script line)
+    unlawful c line is = (refl, is, leaves_here)
+
+    pub no_memory : (c : Command) (line : ℕ) → RefusesAt L disk s c line statuses.Memory
+    no_memory c line = inl leaves_here
+
+    pub not_built : (c : Command) (line : ℕ) → is_lawful s c ≡ true → IsNotBuilt c → RefusesAt L disk s c line (statuses.NotBuilt line)
+    not_built c line lawful not = (refl, lawful, not, leaves_here)
+
+  -- ---- a turn with these entries, behind which the life is so
+
+  module _ (y : LifeState) (es : List Entry) (grew : y.history ≡ x.history ++ es) (right : (opening : List Record) → opens opening → IsRight opening y.history) where
+    abbrev here : Life
+    here = record { opening = h.here.opening; history = h.here.history ++ es }
+
+    history_is : here.history ≡ y.history
+    history_is = ap (λ (l : List Entry). l ++ es) h.history ∙ sym grew
+
+    longer_is : longer s.life es ≡ Some here
+    longer_is = ap (λ (o : Option Life). longer o es) h.life
+
+    here_right : L.tells → IsRightLife here
+    here_right t = subst (IsRight h.here.opening) (sym history_is) (right h.here.opening (h.begins t))
+
+    next : (s' : Stage) → s'.past ≡ s.past → s'.life ≡ longer s.life es → s'.active ≡ y.active → s'.ended ≡ y.ended → s'.cut ≡ s.cut → s'.armed ≡ s.armed → IsArmed L.fuses y.calls s.armed.log → In y s'
+    next s' past life active ended cut armed fused = record {
+      past = λ t. subst (All IsRightLife) (sym past) (h.past t);
+      here = here;
+      life = life ∙ longer_is;
+      active = active;
+      ended = ended;
+      goes = cut ∙ h.goes;
+      fused = subst (λ (f : Fuses). IsArmed L.fuses y.calls f.log) (sym armed) fused;
+      history = history_is;
+      begins = h.begins;
+      right = here_right;
+    }
+
+    -- what holds then wherever the run ends
+    all_right : (s' : Stage) → s'.past ≡ s.past → s'.life ≡ longer s.life es → L.tells → All IsRightLife (lives s')
+    all_right s' past life t = subst (λ (o : Option Life). All IsRightLife (lives_of o s'.past)) (sym (life ∙ longer_is)) (right_more L s'.past here (subst (All IsRightLife) (sym past) (h.past t)) (here_right t))
+
+    all_left : (s' : Stage) (disk : D) → IsDiskOf L opens y disk → s'.life ≡ longer s.life es → Leaves L disk s'
+    all_left s' disk of life t = subst (λ (o : Option Life). Keeps L (last_after o s'.last) disk) (sym (life ∙ longer_is)) (life_keeps L opens y here disk (h.begins t) history_is of)
+
+    -- ---- a command that is done
+
+    module _ (c : Command) (kind : IsOfLife c) (t : Turn) (is : t.command ≡ c) (fits : FitsAt L.tells s t) (past : (stage_step s t).past ≡ s.past) (life : (stage_step s t).life ≡ longer s.life es) where
+      -- its lines want memory
+      pub lacks_lines : (disk : D) → IsDiskOf L opens y disk → (line : ℕ) → RefusesAt L disk s c line statuses.Memory
+      lacks_lines disk of line = inr (record { here = h.here; life = h.life; kind = kind; turn = t; is = is; fits = fits; right = all_right (stage_step s t) past life; leaves = all_left (stage_step s t) disk of life })
+
+    -- ---- a command that was cut off
+
+    module _ (c : Command) (kind : IsOfLife c) (calls : CallsDevice c Log) (lawful : is_lawful s c ≡ true) (off : IsCutOff L.tells s c es) where
+      cut_fits : FitsAt L.tells s (turn c es Cut)
+      cut_fits = record { goes = h.goes; lawful = lawful; row = (inl kind, off) }
+
+      cut_past : (stage_step s (turn c es Cut)).past ≡ s.past
+      cut_past = ap (λ (z : Stage). z.past) (failed_is s c es None kind calls)
+
+      cut_life : (stage_step s (turn c es Cut)).life ≡ longer s.life es
+      cut_life = ap (λ (z : Stage). z.life) (failed_is s c es None kind calls)
+
+      cut_at : (disk : D) → IsDiskOf L opens y disk → CutAt L disk s c
+      cut_at disk of = record { entries = es; fits = cut_fits; right = all_right (stage_step s (turn c es Cut)) cut_past cut_life; leaves = all_left (stage_step s (turn c es Cut)) disk of cut_life }
+
+      pub cut_memory : (disk : D) → IsDiskOf L opens y disk → (line : ℕ) → RefusesAt L disk s c line statuses.Memory
+      cut_memory disk of line = lacks_lines c kind (turn c es Cut) refl cut_fits cut_past cut_life disk of line
+
+      pub cut_fault : (disk : D) → IsDiskOf L opens y disk → (line : ℕ) → RefusesAt L disk s c line statuses.LogFault
+      cut_fault disk of line = cut_at disk of
+
+      pub cut_bad : (disk : D) → IsDiskOf L opens y disk → (line block byte : ℕ) → IsUntold opens → RefusesAt L disk s c line (statuses.BlockBad block byte)
+      cut_bad disk of line block byte untold = (cut_at disk of, λ t. untold h.here.opening (h.begins t))
+
+      -- a fuse refused a call
+      pub did_fail : BreaksOff opens x y → y.active ≡ x.active → x.calls.refused < y.calls.refused → (out : List ℕ) → out ≡ failed_line (head c) Log → Adds L.tells (In y) s c out
+      did_fail b active refused out text =
+          let at = failed_is s c es (Some b.at) kind calls in
+          let t : Turn = turn c es (LogFault b.at) in
+          record {
+            turn = t;
+            is = refl;
+            fits = record {
+              goes = h.goes;
+              lawful = lawful;
+              row = (
+                armed_by L.fuses (Unit {0}) x.calls y.calls s.armed.log b.calls h.fused refused,
+                calls,
+                off,
+                λ u. subst (λ (z : Stage). IsEnd z.life z.ended) (sym at) (subst (λ (o : Option Life). IsEnd o (Some b.at)) (sym longer_is) (subst (λ (l : List Entry). IsDurableUpto h.here.opening l b.at) (sym history_is) (b.durable h.here.opening (h.begins u)))),
+              );
+            };
+            holds = next (stage_step s t) (ap (λ (z : Stage). z.past) at) (ap (λ (z : Stage). z.life) at) (ap (λ (z : Stage). z.active) at ∙ h.active ∙ sym active) (ap (λ (z : Stage). z.ended) at ∙ sym b.ended) (ap (λ (z : Stage). z.cut) at) (ap (λ (z : Stage). z.armed) at)
+                (armed_next L.fuses (Unit {0}) x.calls y.calls s.armed.log b.calls h.fused);
+            lines = text;
+          }
+
+  -- ---- begin
+
+  pub did_begin : (none : x.ended ≡ None) (y : LifeState) (name : List ℕ) (tx session : ℕ) (own : List Entry) → Begins x.history session tx own → y.history ≡ x.history ++ own → y.active ≡ x.active ++ record { name = name; session = session; tx = tx } ∷ [] → GoesOn x y
+      → length x.active < MOST_ACTIVE → is_active x.active name ≡ false → ((opening : List Record) → opens opening → IsRight opening y.history) → (out : List ℕ) → out ≡ name ++ codes " begin\n" → Adds L.tells (In y) s (commands.Begin name) out
+  did_begin none y name tx session own begins grew active goes few free right out text =
+      let t : Turn = turn (commands.Begin name) own Done in
+      let seen : history_of s.life ≡ x.history = ap history_of h.life ∙ h.history in
+      record {
+        turn = t;
+        is = refl;
+        fits = record {
+          goes = h.goes;
+          lawful = may_begin name free;
+          row = ((goes_on none, subst (λ (l : List Active). length l < MOST_ACTIVE) (sym h.active) few), enters_own L.tells s (commands.Begin name) own tt (session, tx, subst (λ (l : List Entry). Begins l session tx own) (sym seen) begins), tt);
+        };
+        holds = next y own grew right (stage_step s t) refl refl ((λ i. h.active i ++ began name (begins.1 i)) ∙ sym active) (goes_on none ∙ sym goes.ended) refl refl (armed_next L.fuses ⊥ x.calls y.calls s.armed.log goes.calls h.fused);
+        lines = text;
+      }
+
+  -- so many names are active that no more may be
+  pub did_crowd : (none : x.ended ≡ None) (y : LifeState) (name : List ℕ) → y.history ≡ x.history → y.active ≡ x.active → GoesOn x y → length x.active ≡ MOST_ACTIVE → is_active x.active name ≡ false
+      → (out : List ℕ) → out ≡ refused_line (head (commands.Begin name)) → Adds L.tells (In y) s (commands.Begin name) out
+  did_crowd none y name same active goes many free out text = record {
+    turn = turn (commands.Begin name) [] TooMany;
+    is = refl;
+    fits = record { goes = h.goes; lawful = may_begin name free; row = (name, refl, goes_on none, ap (λ (a : List Active). length a) h.active ∙ many, refl) };
+    holds = still y same active (goes_on none ∙ sym goes.ended) (armed_next L.fuses ⊥ x.calls y.calls s.armed.log goes.calls h.fused);
+    lines = text;
+  }
+    where
+      still : (y : LifeState) → y.history ≡ x.history → y.active ≡ x.active → s.ended ≡ y.ended → IsArmed L.fuses y.calls s.armed.log → In y s
+      still y same active ended fused = record { past = h.past; here = h.here; life = h.life; active = h.active ∙ sym active; ended = ended; goes = h.goes; fused = fused; history = h.history ∙ sym same; begins = h.begins; right = h.right }
+
+  -- the same life, of which a disk is handed out
+  pub as_before : (y : LifeState) (disk : D) → y.history ≡ x.history → IsDiskOf L opens y disk → (c : Command) (line : ℕ) → RefusesAt L disk s c line statuses.Memory
+  as_before y disk same of c line = inl (λ t. subst (λ (o : Option Life). Keeps L (last_after o s.last) disk) (sym h.life) (life_keeps L opens y h.here disk (h.begins t) (h.history ∙ sym same) of))
+
+  -- ---- requests
+
+  module _ (name : List ℕ) (a : Active) (act : active_of x.active name ≡ Some a) where
+    act_here : active_of s.active name ≡ Some a
+    act_here = ap (λ (l : List Active). active_of l name) h.active ∙ act
+
+    lawful_name : is_active s.active name ≡ true
+    lawful_name = rw act_here refl
+
+    module _ (request : Request) where
+      abbrev Was : Entry → Type 0
+      Was e = IsBesideRequest (WasInWay opens x.history (lock_of request)) a.tx (lock_of request) e
+
+      abbrev Now : Entry → Type 0
+      Now e = IsBesideRequest (IsInWayOf L.tells s.life (lock_of request)) a.tx (lock_of request) e
+
+      in_way : (t : ℕ) → WasInWay opens x.history (lock_of request) t → IsInWayOf L.tells s.life (lock_of request) t
+      in_way t was = subst (λ (o : Option Life). IsInWayOf L.tells o (lock_of request) t) (sym h.life) (λ u. subst (λ (l : List Entry). IsInWay h.here.opening l (lock_of request) t) (sym h.history) (was h.here.opening (h.begins u)))
+
+      now_beside : (e : Entry) → Was e → Now e
+      now_beside e was = beside_map (WasInWay opens x.history (lock_of request)) (IsInWayOf L.tells s.life (lock_of request)) in_way a.tx (lock_of request) e was
+
+      to_beside : (e : Entry) → Was e → IsBeside L.tells s (commands.Ask name request) e
+      to_beside e was = (a, act_here, now_beside e was)
+
+      abbrev Had : List Entry → List Entry → Type 0
+      Had own es = WroteInRoom L.tells s.life (commands.Ask name request) own es
+
+      ask_row : (own es : List Entry) (outcome : Outcome) → Answers a.session a.tx request (lock_of request) outcome own → Among Was own es → Had own es → MayEnter L.tells s (commands.Ask name request) es
+      ask_row own es outcome are among room = record { own = own; is = (a, act_here, (outcome, are)); among = among_map Was (IsBeside L.tells s (commands.Ask name request)) to_beside own es among; room = room }
+
+      module _ (y : LifeState) (es : List Entry) (grew : y.history ≡ x.history ++ es) (right : (opening : List Record) → opens opening → IsRight opening y.history) where
+        module _ (none : x.ended ≡ None) (own : List Entry) (outcome : Outcome) (are : Answers a.session a.tx request (lock_of request) outcome own) (among : Among Was own es) (room : Had own es) where
+          ask_fits : FitsAt L.tells s (turn (commands.Ask name request) es Done)
+          ask_fits = record { goes = h.goes; lawful = lawful_name; row = (goes_on none, ask_row own es outcome are among room, tt) }
+
+          pub did_answer : GoesOn x y → y.active ≡ x.active → (out : List ℕ) → out ≡ answer_lines s.active name request own → Adds L.tells (In y) s (commands.Ask name request) out
+          did_answer goes active out text =
+              let t : Turn = turn (commands.Ask name request) es Done in
+              record {
+                turn = t;
+                is = refl;
+                fits = ask_fits;
+                holds = next y es grew right (stage_step s t) refl refl (h.active ∙ sym active) (goes_on none ∙ sym goes.ended) refl refl (armed_next L.fuses ⊥ x.calls y.calls s.armed.log goes.calls h.fused);
+                lines = text ∙ sym (answer_own (WasInWay opens x.history (lock_of request)) a.tx (lock_of request) s.active name request own es among);
+              }
+
+          pub answer_lacks : (disk : D) → IsDiskOf L opens y disk → (line : ℕ) → RefusesAt L disk s (commands.Ask name request) line statuses.Memory
+          answer_lacks disk of line = lacks_lines y es grew right (commands.Ask name request) tt (turn (commands.Ask name request) es Done) refl ask_fits refl refl disk of line
+
+        -- nothing of its own was entered
+        pub ask_cut : x.ended ≡ None → All Was es → IsCutOff L.tells s (commands.Ask name request) es
+        ask_cut none all =
+            let last : Entry = Declined a.session a.tx request outcomes.OpRefused in
+            record {
+              goes = goes_on none;
+              rest = last ∷ [];
+              enters = ask_row (last ∷ []) (es ++ last ∷ []) outcomes.OpRefused refl (among_last Was es last all) (room_declined L.tells s.life name request request a.session a.tx outcomes.OpRefused (es ++ last ∷ []));
+              part = λ e. absurd cc;
+            }
+
+    -- ---- commit
+
+    module _ (y : LifeState) (es : List Entry) (grew : y.history ≡ x.history ++ es) (right : (opening : List Record) → opens opening → IsRight opening y.history) (none : x.ended ≡ None) where
+      module _ (made : Commits a.session a.tx es) (number : ℕ) (counted : (opening : List Record) → opens opening → number ≡ commits (life_log opening y.history)) where
+        commit_fits : FitsAt L.tells s (done (commands.Commit name) es (Numbered number))
+        commit_fits = record {
+          goes = h.goes;
+          lawful = lawful_name;
+          row = (
+            goes_on none,
+            enters_own L.tells s (commands.Commit name) es tt (a, act_here, made),
+            (number, refl, λ t. counted h.here.opening (h.begins t) ∙ ap (λ (l : List Entry). commits (life_log h.here.opening l)) (sym (history_is y es grew right)) ∙ ap (λ (o : Option Life). commits (log_of_life o)) (sym (longer_is y es grew right))),
+          );
+        }
+
+        pub did_commit : GoesOn x y → y.active ≡ without x.active name → (out : List ℕ) → out ≡ name ++ codes " commit " ++ decimal number ++ codes "\n" → Adds L.tells (In y) s (commands.Commit name) out
+        did_commit goes active out text =
+            let t : Turn = done (commands.Commit name) es (Numbered number) in
+            record {
+              turn = t;
+              is = refl;
+              fits = commit_fits;
+              holds = next y es grew right (stage_step s t) refl refl (ap (λ (l : List Active). without l name) h.active ∙ sym active) (goes_on none ∙ sym goes.ended) refl refl (armed_next L.fuses ⊥ x.calls y.calls s.armed.log goes.calls h.fused);
+              lines = text;
+            }
+
+        pub commit_lacks : (disk : D) → IsDiskOf L opens y disk → (line : ℕ) → RefusesAt L disk s (commands.Commit name) line statuses.Memory
+        commit_lacks disk of line = lacks_lines y es grew right (commands.Commit name) tt (done (commands.Commit name) es (Numbered number)) refl commit_fits refl refl disk of line
+
+      -- ---- abort
+
+      module _ (own : List Entry) (aborts : Aborts (IsUntold opens) a.tx own) (among : Among IsUpkeep own es) where
+        pub did_abort : GoesOn x y → y.active ≡ without x.active name → (out : List ℕ) → out ≡ name ++ codes " abort\n" → Adds L.tells (In y) s (commands.Abort name) out
+        did_abort goes active out text =
+            let t : Turn = turn (commands.Abort name) es Done in
+            let told : Aborts (L.tells → ⊥) a.tx own = record {
+              undos = aborts.undos;
+              each = all_taken (IsUntold opens) (L.tells → ⊥) (λ untold u. untold h.here.opening (h.begins u)) a.tx aborts.undos aborts.each;
+              lsn = aborts.lsn;
+              prev = aborts.prev;
+              is = aborts.is;
+            } in
+            record {
+              turn = t;
+              is = refl;
+              fits = record { goes = h.goes; lawful = lawful_name; row = (goes_on none, enters_among L.tells s (commands.Abort name) own es tt (a, act_here, told) among, tt) };
+              holds = next y es grew right (stage_step s t) refl refl (ap (λ (l : List Active). without l name) h.active ∙ sym active) (goes_on none ∙ sym goes.ended) refl refl (armed_next L.fuses ⊥ x.calls y.calls s.armed.log goes.calls h.fused);
+              lines = text;
+            }
+
+      pub abort_cut : All (IsOfAbort ⊥ a.tx) es → IsCutOff L.tells s (commands.Abort name) es
+      abort_cut all =
+          let u = undoes (L.tells → ⊥) a.tx es all in
+          let last : Entry = Rec 0 (end_record a.tx 0) in
+          record {
+            goes = goes_on none;
+            rest = last ∷ [];
+            enters = enters_among L.tells s (commands.Abort name) (u.undos ++ last ∷ []) (es ++ last ∷ []) tt (a, act_here, record { undos = u.undos; each = u.each; lsn = 0; prev = 0; is = refl }) u.among;
+            part = λ e. absurd cc;
+          }
+
+    -- a commit of which nothing was entered, or its Commit alone
+    pub commit_none : x.ended ≡ None → IsCutOff L.tells s (commands.Commit name) []
+    commit_none none = record {
+      goes = goes_on none;
+      rest = Rec 0 (commit_record a.tx 0) ∷ Acked a.session a.tx ∷ [];
+      enters = enters_own L.tells s (commands.Commit name) (Rec 0 (commit_record a.tx 0) ∷ Acked a.session a.tx ∷ []) tt (a, act_here, (0, 0, refl));
+      part = λ e. absurd cc;
+    }
+
+    pub commit_half : x.ended ≡ None → (lsn prev : ℕ) → IsCutOff L.tells s (commands.Commit name) (Rec lsn (commit_record a.tx prev) ∷ [])
+    commit_half none lsn prev = record {
+      goes = goes_on none;
+      rest = Acked a.session a.tx ∷ [];
+      enters = enters_own L.tells s (commands.Commit name) (Rec lsn (commit_record a.tx prev) ∷ Acked a.session a.tx ∷ []) tt (a, act_here, (lsn, prev, refl));
+      part = λ e. absurd cc;
+    }
+
+  -- ---- checkpoints
+
+  module _ (none : x.ended ≡ None) (lsn : ℕ) (k : Checkpoint) where
+    abbrev taken : List Entry
+    taken = Rec lsn (kinds.Checkpoint k) ∷ []
+
+    checkpoint_enters : MayEnter L.tells s commands.Checkpoint taken
+    checkpoint_enters = enters_own L.tells s commands.Checkpoint taken tt (lsn, k, refl)
+
+    pub checkpoint_cut : IsCutOff L.tells s commands.Checkpoint taken
+    checkpoint_cut = record { goes = goes_on none; rest = []; enters = checkpoint_enters; part = tt }
+
+    pub did_checkpoint : (y : LifeState) → y.history ≡ x.history ++ taken → ((opening : List Record) → opens opening → IsRight opening y.history) → GoesOn x y → y.active ≡ x.active → (out : List ℕ) → out ≡ upkeep_line upkeeps.Checkpoint → Adds L.tells (In y) s commands.Checkpoint out
+    did_checkpoint y grew right goes active out text =
+        let t : Turn = turn commands.Checkpoint taken Done in
+        record {
+          turn = t;
+          is = refl;
+          fits = record { goes = h.goes; lawful = may_look; row = (goes_on none, checkpoint_enters, tt) };
+          holds = next y taken grew right (stage_step s t) refl refl (h.active ∙ sym active) (goes_on none ∙ sym goes.ended) refl refl (armed_next L.fuses ⊥ x.calls y.calls s.armed.log goes.calls h.fused);
+          lines = text;
+        }
+
+  -- ---- stat
+
+  pub did_stat : (none : x.ended ≡ None) (y : LifeState) → y.history ≡ x.history → y.active ≡ x.active → GoesOn x y → (stat : Stat) → (L.tells → IsStat s.life stat) → (out : List ℕ) → out ≡ stat_line stat → Adds L.tells (In y) s commands.Stat out
+  did_stat none y same active goes stat counts out text = record {
+    turn = done commands.Stat [] (Counted stat);
+    is = refl;
+    fits = record { goes = h.goes; lawful = may_look; row = (goes_on none, enters_own L.tells s commands.Stat [] tt refl, (stat, refl, counts)) };
+    holds = record { past = h.past; here = h.here; life = h.life; active = h.active ∙ sym active; ended = goes_on none ∙ sym goes.ended; goes = h.goes; fused = armed_next L.fuses ⊥ x.calls y.calls s.armed.log goes.calls h.fused; history = h.history ∙ sym same; begins = h.begins; right = h.right };
+    lines = text;
+  }

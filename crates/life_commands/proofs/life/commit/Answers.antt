@@ -1,0 +1,15 @@
+use Rattle.std.proofs.Common.{refl, rules, sym}
+use Rattle.script.specs.declared.command.Command.TheVariants as commands
+use Rattle.life_commands.proofs.Ends.{bad_line, ended_before, lacks_memory, named_is}
+use Rattle.life_commands.proofs.Faults.{by_memory}
+use Rattle.life_commands.proofs.life.commit.Goals as goal
+
+pub returns-then-not-is_active-clause-err : goal.returns-then-not-is_active-clause-err
+returns-then-not-is_active-clause-err g c = bad_line g.L.Disk g.N.Life.opens c.args.life.now (commands.Commit c.args.name.now) c.args.line (named_is g.L.Disk g.N.Life.opens c.args.life.now c.args.name.now _ (search rules))
+
+pub returns-in_err-commit_ended-in-Some-clause-err : goal.returns-in_err-commit_ended-in-Some-clause-err
+returns-in_err-commit_ended-in-Some-clause-err g c = by_memory c.from_residual.result _ c.from_residual.ensures.1 (lacks_memory g.L.Disk g.N.Life.opens c.args.life.now c.args.life.now refl (commands.Commit c.args.name.now) c.args.line)
+
+pub returns-in_ok-commit_ended-in-Some-clause-ok : goal.returns-in_ok-commit_ended-in-Some-clause-ok
+returns-in_ok-commit_ended-in-Some-clause-ok g c = ended_before g.L.Disk g.N.Life.opens c.args.life.now (commands.Commit c.args.name.now) c.in-Some.at c.in_ok-commit_ended-in-Some.field-0.items (sym c.in-Some.ensures.end)
+    (named_is g.L.Disk g.N.Life.opens c.args.life.now c.args.name.now _ (search rules)) tt c.in_ok-commit_ended-in-Some.ensures

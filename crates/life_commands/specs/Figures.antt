@@ -1,0 +1,43 @@
+-- The numbers in a command's line that its entries don't tell.
+use Rattle.std.specs.Prelude.{◌≡◌, ℕ, ◌-◌, List, length, filter, Option, Some, None}
+use Rattle.page_ops.specs.Outcomes.{is_repaired, is_undo, losers_left}
+use Rattle.wal_record.specs.Chains.{pages}
+use Rattle.wal_record.specs.Checkpoints.{commits}
+use Rattle.wal_record.specs.History.{life_log, log_of}
+use Rattle.wal_record.specs.OpenWrites.{losers}
+use Rattle.wal_record.specs.Upkeep.{lost_pages, segments, unrestored}
+use Rattle.wal_record.specs.declared.entry.Entry.{Entry}
+use Rattle.wal_record.specs.declared.record.Record.{Record}
+use Rattle.script.specs.declared.command.Command.{Command}
+use Rattle.script.specs.declared.command.Command.TheVariants as commands
+use Rattle.transcript.specs.declared.upkeep.Stat.{Stat}
+use Rattle.life_commands.specs.Turns.{Counted, Figures, Life, Numbered, Opening, Stage, log_of_life, longer}
+
+-- the segments that had a page when the data device was lost last
+abbrev pub lost_segments : List Record → ℕ
+lost_segments log = length (segments (lost_pages log))
+
+-- what `stat` counts of a life
+abbrev pub stat_of : Life → Stat
+stat_of l =
+    let log = life_log l.opening l.history in
+    record {
+      commits = commits log;
+      losers = length (losers_left l.opening l.history);
+      undone = length (filter is_undo (log_of l.history));
+      repaired = length (filter is_repaired l.history);
+      pages = pages log;
+      lost = lost_segments log;
+      restored = lost_segments log - length (unrestored log);
+    }
+
+abbrev pub IsStat : Option Life → Stat → Type 0
+IsStat None x = ⊥
+IsStat (Some l) x = x ≡ stat_of l
+
+-- The figures of a command that is done. Where the log disk tells nothing they may be any.
+abbrev pub AreFigures : Type 0 → Stage → Command → List Entry → List Record → Figures → Type 0
+AreFigures tells s commands.Open es found figures = (c : ℕ) × (l : ℕ) × (figures ≡ Opening c l) × (tells → (c ≡ commits found) × (l ≡ length (losers found)))
+AreFigures tells s (commands.Commit name) es found figures = (n : ℕ) × (figures ≡ Numbered n) × (tells → n ≡ commits (log_of_life (longer s.life es)))
+AreFigures tells s commands.Stat es found figures = (x : Stat) × (figures ≡ Counted x) × (tells → IsStat s.life x)
+AreFigures tells s _ es found figures = Unit {0}

@@ -1,0 +1,12 @@
+pub mod Bytes
+pub mod Turns
+pub mod Figures
+pub mod Rows
+pub mod Text
+pub mod Status
+pub mod LogDisk
+pub mod Refusals
+pub mod Living
+pub mod Promises
+pub mod Causes
+pub mod Faults

@@ -1,0 +1,55 @@
+-- What the state of a life says of the turns so far, and what a command adds.
+use Rattle.std.specs.Prelude.{◌≡◌, ℕ, List, Option, Some, None, Bool, false}
+use Rattle.std.specs.List.{All}
+use Rattle.media.specs.declared.disk.Disk.{Ghosts}
+use Rattle.wal_record.specs.declared.record.Record.{Record}
+use Rattle.page_ops.specs.Seeing.{Calls}
+use Rattle.journal.specs.State.{calls_of}
+use Rattle.journal.specs.Stops as stops
+use Rattle.own_life.specs.State.{LifeState}
+use Rattle.script.specs.declared.command.Command.{Command}
+use Rattle.life_commands.specs.Bytes.{Known}
+use Rattle.life_commands.specs.LogDisk.{Leaves}
+use Rattle.life_commands.specs.Text.{lines}
+use Rattle.life_commands.specs.Rows.{FitsAt}
+use Rattle.life_commands.specs.Turns.{Turn, Life, Stage, bytes_after, stage_step, IsRightLife, lives}
+
+-- the log disk's fuse, by what a life tells of its calls, is armed only where the turns say so
+pub record IsArmed (fuses : Type 0) (calls : Calls) (armed : Bool) : Type 0 where
+  pub fuse : fuses
+  pub renewed : armed ≡ false → calls.passes ≡ None
+
+-- Within a life that may have begun with such logs: its history is what the turns have entered, and it is right.
+pub record Within {D : Type 0} (L : Ghosts D) (opens : List Record → Type 0) (x : LifeState) (s : Stage) : Type 0 where
+  pub past : L.tells → All IsRightLife s.past
+  pub here : Life
+  pub life : ◌≡◌ {A = Option Life} s.life (Some here)
+  pub active : s.active ≡ x.active
+  pub ended : s.ended ≡ x.ended
+  pub goes : s.cut ≡ false
+  pub fused : IsArmed L.fuses x.calls s.armed.log
+  pub history : here.history ≡ x.history
+  pub begins : L.tells → opens here.opening
+  pub right : L.tells → IsRightLife here
+
+-- The log disk that such a life hands out as it stops. What it keeps, also after a crash, stands for a log that a stop may leave.
+pub record IsDiskOf {D : Type 0} (L : Ghosts D) (opens : List Record → Type 0) (x : LifeState) (disk : D) : Type 0 where
+  pub least : ℕ
+  pub left : stops.Leaves opens L.told L.may_leave x.history least disk
+  pub calls : calls_of L.passes L.refused L.own disk ≡ x.calls
+
+-- each life is right, the disk keeps a log that may be found, and what is known of it is so
+pub record Safe {D : Type 0} (tells : Type 0) (L : Ghosts D) (disk : D) (s : Stage) : Type 0 where
+  pub right : L.tells → All IsRightLife (lives s)
+  pub leaves : Leaves L disk s
+  pub bytes : Known tells L (bytes_after s.life s.bytes) disk
+  pub goes : s.cut ≡ false
+  pub fuse : L.fuses
+
+-- one turn more, which no status cuts off; H says what holds after it
+pub record Adds (tells : Type 0) (H : Stage → Type 0) (s : Stage) (c : Command) (out : List ℕ) : Type 0 where
+  pub turn : Turn
+  pub is : turn.command ≡ c
+  pub fits : FitsAt tells s turn
+  pub holds : H (stage_step s turn)
+  pub lines : out ≡ lines s turn

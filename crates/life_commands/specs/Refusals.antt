@@ -1,0 +1,64 @@
+-- Why a command ends the run, by what the turns before it leave.
+use Rattle.std.specs.Prelude.{◌≡◌, ◌≢◌, ◌⊎◌, ℕ, List, [], Some, true, false}
+use Rattle.std.specs.List.{All}
+use Rattle.media.specs.declared.disk.Disk.{Ghosts}
+use Rattle.wal_record.specs.declared.record.Record.{Record}
+use Rattle.wal_record.specs.declared.entry.Entry.{Entry}
+use Rattle.script.specs.declared.command.Device.TheVariants.{Log}
+use Rattle.script.specs.declared.command.Command.{Command}
+use Rattle.script.specs.declared.command.Command.TheVariants as commands
+use Rattle.life_commands.specs.declared.status.Status.{Status}
+use Rattle.life_commands.specs.declared.status.Status.TheVariants as statuses
+use Rattle.life_commands.specs.LogDisk.{Leaves}
+use Rattle.life_commands.specs.Rows.{FitsAt, IsOfLife, is_lawful}
+use Rattle.life_commands.specs.Turns.{Turn, Stage, Last, MayFind, Cut, Life, stage_step, lives, IsRightLife}
+use Rattle.life_commands.specs.Turns.{turn}
+
+-- what isn't built of a lawful command: the fuse of another device than the log disk
+abbrev pub IsNotBuilt : Command → Type 0
+IsNotBuilt (commands.Fuse device calls) = device ≢ Log
+IsNotBuilt (commands.Renew device) = device ≢ Log
+IsNotBuilt _ = ⊥
+
+abbrev pub IsOpen : Command → Type 0
+IsOpen commands.Open = Unit {0}
+IsOpen _ = ⊥
+
+abbrev pub IsFormat : Command → Type 0
+IsFormat (commands.Format limit) = Unit {0}
+IsFormat _ = ⊥
+
+-- a log that isn't empty may be found
+pub record FindsLog (last : Last) : Type 0 where
+  pub log : List Record
+  pub found : MayFind last log
+  pub some : log ≢ []
+
+-- A command that a status cut off: what it had entered; each life is right with it, and the disk keeps a log that may be found.
+pub record CutAt {D : Type 0} (L : Ghosts D) (disk : D) (s : Stage) (c : Command) : Type 0 where
+  pub entries : List Entry
+  pub fits : FitsAt L.tells s (turn c entries Cut)
+  pub right : L.tells → All IsRightLife (lives (stage_step s (turn c entries Cut)))
+  pub leaves : Leaves L disk (stage_step s (turn c entries Cut))
+
+-- a command of a life whose turn fits, but whose lines want memory
+pub record LacksLines {D : Type 0} (L : Ghosts D) (disk : D) (s : Stage) (c : Command) : Type 0 where
+  pub here : Life
+  pub life : s.life ≡ Some here
+  pub kind : IsOfLife c
+  pub turn : Turn
+  pub is : turn.command ≡ c
+  pub fits : FitsAt L.tells s turn
+  pub right : L.tells → All IsRightLife (lives (stage_step s turn))
+  pub leaves : Leaves L disk (stage_step s turn)
+
+abbrev pub RefusesAt : {D : Type 0} → Ghosts D → D → Stage → Command → ℕ → Status → Type 0
+RefusesAt L disk s c line statuses.Memory = Leaves L disk s ⊎ LacksLines L disk s c
+RefusesAt L disk s c line (statuses.Script n) = (n ≡ line) × (is_lawful s c ≡ false) × Leaves L disk s
+RefusesAt L disk s c line (statuses.NotBuilt n) = (n ≡ line) × (is_lawful s c ≡ true) × IsNotBuilt c × Leaves L disk s
+RefusesAt L disk s c line statuses.LogFault = CutAt L disk s c
+RefusesAt L disk s c line (statuses.BlockBad block byte) = CutAt L disk s c × (L.tells → ⊥)
+RefusesAt L disk s c line (statuses.LogBad block byte) = IsOpen c × (L.tells → ⊥)
+RefusesAt L disk s c line statuses.NotFormatted = IsOpen c × (L.tells → MayFind s.last []) × Leaves L disk s
+RefusesAt L disk s c line statuses.AlreadyFormatted = IsFormat c × (L.tells → FindsLog s.last) × Leaves L disk s
+RefusesAt L disk s c line _ = ⊥

@@ -1,0 +1,28 @@
+//! Calls of a life that fail.
+ghost use Rattle.std.specs.Prelude.{◌≡◌, ◌<◌, IfErr, IfOk};
+ghost use Rattle.store_model.specs.declared.fault.Fault.TheVariants as faults;
+ghost use Rattle.life_commands.specs.Faults.{FailsAs};
+
+use crate::status::Status;
+use store_model::Fault;
+
+/// A fuse refuses far fewer calls.
+pub const MOST: u64 = 1 << 62;
+
+/// A call failed: a line says so, where the log disk's fuse refused it. Of so many calls before, and of so many now.
+pub fn fail(fault: Fault, failed: Vec<u8>, before: u64, now: u64) -> Result<Vec<u8>, Status>
+    ensures ok { IfOk result (λ out. (fault ≡ faults.LogFault) × (out ≡ failed) × (before < now)) }
+    ensures err { IfErr result (FailsAs before now fault) }
+{
+    match fault {
+        Fault::LogFault => {
+            if before < now {
+                Ok(failed)
+            } else {
+                Err(Status::LogFault)
+            }
+        }
+        Fault::LogBad { block, byte } => Err(Status::BlockBad { block, byte }),
+        _ => Err(Status::Memory),
+    }
+}

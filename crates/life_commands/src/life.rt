@@ -1,0 +1,250 @@
+//! Commands of a life.
+ghost use Rattle.std.specs.Prelude.{◌≡◌, ◌≤◌, ◌<◌, ◌^◌, ℕ, None, true, false, IfErr, IfOk};
+ghost use Rattle.command_laws.specs.Names.{is_active};
+ghost use Rattle.script.specs.declared.command.Command.TheVariants as commands;
+ghost use Rattle.store_model.specs.declared.fault.Fault.TheVariants as faults;
+ghost use Rattle.life_commands.specs.Causes.{LifeCause};
+ghost use Rattle.life_commands.specs.Promises.{Did, Refused};
+ghost use Rattle.life_commands.specs.Rows.{IsNoStop};
+ghost use Rattle.life_commands.specs.declared.status.Status.TheVariants as statuses;
+
+use crate::asking::ask_open;
+use crate::ending::{abort_open, commit_open};
+use crate::status::Status;
+use crate::upkeep::{checkpoint_open, stat_open};
+use media::Disk;
+use own_life::{LifePages, OwnLife};
+use page_ops::Life;
+use script::{Command, Device, Name};
+use std::alloc::Global;
+use std::sync::Wait;
+use store_model::{Fault, Request};
+use transcript::Upkeep;
+
+/// Carries a command out, and gives the lines that answer it.
+pub fn step<'a, N: Life, L: Disk, P: LifePages<N>, R: Wait>(
+    rt: &R,
+    alloc: Global,
+    life: &mut OwnLife<'a, L, N>,
+    pages: &mut P,
+    command: &Command,
+    line: u64,
+) -> Result<Vec<u8>, Status>
+    requires stop { IsNoStop command.now }
+    requires idle { P.idle pages.old }
+    ensures idle { P.idle pages.new }
+    ensures ok { IfOk result (λ lines. Did L.Disk N.opens life.old life.new command.now lines.items) }
+    ensures err { IfErr result (Refused L.Disk N.opens life.old life.new command.now line) }
+    ensures cause { IfErr result (LifeCause life.old.calls.own life.new.calls.own) }
+    ensures later { life.old.calls.own ≤ life.new.calls.own }
+{
+    match command {
+        Command::Nothing => Ok(Vec::new(alloc)),
+        Command::Begin(name) => begin(rt, alloc, life, name, line),
+        Command::Ask(name, request) => ask(rt, alloc, life, pages, name, request, line),
+        Command::Commit(name) => commit(rt, alloc, life, name, line),
+        Command::Abort(name) => abort(rt, alloc, life, pages, name, line),
+        Command::Checkpoint => checkpoint(rt, alloc, life),
+        Command::Stat => stat(rt, alloc, life),
+        Command::Fuse { device, calls } => fuse(alloc, life, *device, *calls, line),
+        Command::Renew { device } => renew(alloc, life, *device, line),
+        _ => Err(Status::Script { line }),
+    }
+}
+
+fn begin<'a, N: Life, L: Disk, R: Wait>(
+    rt: &R,
+    alloc: Global,
+    life: &mut OwnLife<'a, L, N>,
+    name: &Name,
+    line: u64,
+) -> Result<Vec<u8>, Status>
+    ensures ok { IfOk result (λ lines. Did L.Disk N.opens life.old life.new (commands.Begin name.now) lines.items) }
+    ensures err { IfErr result (Refused L.Disk N.opens life.old life.new (commands.Begin name.now) line) }
+    ensures cause { IfErr result (LifeCause life.old.calls.own life.new.calls.own) }
+    ensures later { life.old.calls.own ≤ life.new.calls.own }
+{
+    if life.is_active(name) {
+        return Err(Status::Script { line });
+    }
+    match life.ended() {
+        Some(at) => Ok(transcript::begin_ended(alloc, name, at)?),
+        None => begin_open(rt, alloc, life, name),
+    }
+}
+
+/// A begin in a life that goes on, by a name that isn't active.
+fn begin_open<'a, N: Life, L: Disk, R: Wait>(
+    rt: &R,
+    alloc: Global,
+    life: &mut OwnLife<'a, L, N>,
+    name: &Name,
+) -> Result<Vec<u8>, Status>
+    requires free { is_active life.old.active name.now ≡ false }
+    requires goes { life.old.ended ≡ None }
+    ensures ok { IfOk result (λ lines. Did L.Disk N.opens life.old life.new (commands.Begin name.now) lines.items) }
+    ensures err { IfErr result (λ status. (line : ℕ) → Refused L.Disk N.opens life.old life.new (commands.Begin name.now) line status) }
+    ensures cause { IfErr result (LifeCause life.old.calls.own life.new.calls.own) }
+    ensures later { life.old.calls.own ≤ life.new.calls.own }
+{
+    let done = transcript::begin_line(alloc, name)?;
+    let refused = transcript::begin_refused(alloc, name)?;
+    let begun = life.begin(rt, alloc, name.copied());
+    life.look();
+    match begun {
+        Ok(_) => Ok(done),
+        Err(fault) => refuse_begin(fault, refused),
+    }
+}
+
+/// A begin that was refused: a line says so, where no more transactions may be active.
+fn refuse_begin(fault: Fault, refused: Vec<u8>) -> Result<Vec<u8>, Status>
+    ensures ok { IfOk result (λ out. (fault ≡ faults.TooManyActive) × (out ≡ refused)) }
+    ensures err { IfErr result (λ status. status ≡ statuses.Memory) }
+{
+    match fault {
+        Fault::TooManyActive => Ok(refused),
+        _ => Err(Status::Memory),
+    }
+}
+
+fn ask<'a, N: Life, L: Disk, P: LifePages<N>, R: Wait>(
+    rt: &R,
+    alloc: Global,
+    life: &mut OwnLife<'a, L, N>,
+    pages: &mut P,
+    name: &Name,
+    request: &Request,
+    line: u64,
+) -> Result<Vec<u8>, Status>
+    requires idle { P.idle pages.old }
+    ensures idle { P.idle pages.new }
+    ensures ok { IfOk result (λ lines. Did L.Disk N.opens life.old life.new (commands.Ask name.now request.now) lines.items) }
+    ensures err { IfErr result (Refused L.Disk N.opens life.old life.new (commands.Ask name.now request.now) line) }
+    ensures cause { IfErr result (LifeCause life.old.calls.own life.new.calls.own) }
+    ensures later { life.old.calls.own ≤ life.new.calls.own }
+{
+    if !life.is_active(name) {
+        return Err(Status::Script { line });
+    }
+    match life.ended() {
+        Some(at) => Ok(transcript::request_ended(alloc, name, request, at)?),
+        None => ask_open(rt, alloc, life, pages, name, request),
+    }
+}
+
+fn commit<'a, N: Life, L: Disk, R: Wait>(
+    rt: &R,
+    alloc: Global,
+    life: &mut OwnLife<'a, L, N>,
+    name: &Name,
+    line: u64,
+) -> Result<Vec<u8>, Status>
+    ensures ok { IfOk result (λ lines. Did L.Disk N.opens life.old life.new (commands.Commit name.now) lines.items) }
+    ensures err { IfErr result (Refused L.Disk N.opens life.old life.new (commands.Commit name.now) line) }
+    ensures cause { IfErr result (LifeCause life.old.calls.own life.new.calls.own) }
+    ensures later { life.old.calls.own ≤ life.new.calls.own }
+{
+    if !life.is_active(name) {
+        return Err(Status::Script { line });
+    }
+    match life.ended() {
+        Some(at) => Ok(transcript::commit_ended(alloc, name, at)?),
+        None => commit_open(rt, alloc, life, name),
+    }
+}
+
+fn abort<'a, N: Life, L: Disk, P: LifePages<N>, R: Wait>(
+    rt: &R,
+    alloc: Global,
+    life: &mut OwnLife<'a, L, N>,
+    pages: &mut P,
+    name: &Name,
+    line: u64,
+) -> Result<Vec<u8>, Status>
+    requires idle { P.idle pages.old }
+    ensures idle { P.idle pages.new }
+    ensures ok { IfOk result (λ lines. Did L.Disk N.opens life.old life.new (commands.Abort name.now) lines.items) }
+    ensures err { IfErr result (Refused L.Disk N.opens life.old life.new (commands.Abort name.now) line) }
+    ensures cause { IfErr result (LifeCause life.old.calls.own life.new.calls.own) }
+    ensures later { life.old.calls.own ≤ life.new.calls.own }
+{
+    if !life.is_active(name) {
+        return Err(Status::Script { line });
+    }
+    match life.ended() {
+        Some(at) => Ok(transcript::abort_ended(alloc, name, at)?),
+        None => abort_open(rt, alloc, life, pages, name),
+    }
+}
+
+fn checkpoint<'a, N: Life, L: Disk, R: Wait>(
+    rt: &R,
+    alloc: Global,
+    life: &mut OwnLife<'a, L, N>,
+) -> Result<Vec<u8>, Status>
+    ensures ok { IfOk result (λ lines. Did L.Disk N.opens life.old life.new commands.Checkpoint lines.items) }
+    ensures err { IfErr result (λ status. (line : ℕ) → Refused L.Disk N.opens life.old life.new commands.Checkpoint line status) }
+    ensures cause { IfErr result (LifeCause life.old.calls.own life.new.calls.own) }
+    ensures later { life.old.calls.own ≤ life.new.calls.own }
+{
+    match life.ended() {
+        Some(at) => Ok(transcript::upkeep_ended(alloc, Upkeep::Checkpoint, at)?),
+        None => checkpoint_open(rt, alloc, life),
+    }
+}
+
+fn stat<'a, N: Life, L: Disk, R: Wait>(
+    rt: &R,
+    alloc: Global,
+    life: &mut OwnLife<'a, L, N>,
+) -> Result<Vec<u8>, Status>
+    ensures ok { IfOk result (λ lines. Did L.Disk N.opens life.old life.new commands.Stat lines.items) }
+    ensures err { IfErr result (λ status. (line : ℕ) → Refused L.Disk N.opens life.old life.new commands.Stat line status) }
+    ensures cause { IfErr result (LifeCause life.old.calls.own life.new.calls.own) }
+    ensures later { life.old.calls.own ≤ life.new.calls.own }
+{
+    match life.ended() {
+        Some(at) => Ok(transcript::stat_ended(alloc, at)?),
+        None => stat_open(rt, alloc, life),
+    }
+}
+
+fn fuse<'a, N: Life, L: Disk>(
+    alloc: Global,
+    life: &mut OwnLife<'a, L, N>,
+    device: Device,
+    calls: u64,
+    line: u64,
+) -> Result<Vec<u8>, Status>
+    ensures ok { IfOk result (λ lines. Did L.Disk N.opens life.old life.new (commands.Fuse device calls) lines.items) }
+    ensures err { IfErr result (Refused L.Disk N.opens life.old life.new (commands.Fuse device calls) line) }
+    ensures cause { IfErr result (LifeCause life.old.calls.own life.new.calls.own) }
+    ensures later { life.old.calls.own ≤ life.new.calls.own }
+{
+    if device != Device::Log {
+        return Err(Status::NotBuilt { line });
+    }
+    let out = transcript::fuse_line(alloc, calls)?;
+    life.fuse(Some(calls));
+    Ok(out)
+}
+
+fn renew<'a, N: Life, L: Disk>(
+    alloc: Global,
+    life: &mut OwnLife<'a, L, N>,
+    device: Device,
+    line: u64,
+) -> Result<Vec<u8>, Status>
+    ensures ok { IfOk result (λ lines. Did L.Disk N.opens life.old life.new (commands.Renew device) lines.items) }
+    ensures err { IfErr result (Refused L.Disk N.opens life.old life.new (commands.Renew device) line) }
+    ensures cause { IfErr result (LifeCause life.old.calls.own life.new.calls.own) }
+    ensures later { life.old.calls.own ≤ life.new.calls.own }
+{
+    if device != Device::Log {
+        return Err(Status::NotBuilt { line });
+    }
+    let out = transcript::renew_line(alloc)?;
+    life.fuse(None);
+    Ok(out)
+}

@@ -1,0 +1,81 @@
+//! Words without a transaction, in a life that goes on.
+ghost use Rattle.std.specs.Prelude.{◌≡◌, ◌≤◌, ℕ, None, IfErr, IfOk};
+ghost use Rattle.script.specs.declared.command.Command.TheVariants as commands;
+ghost use Rattle.life_commands.specs.Causes.{LifeCause};
+ghost use Rattle.life_commands.specs.Faults.{counts_of};
+ghost use Rattle.life_commands.specs.Promises.{Did, Refused};
+
+use crate::failing::{MOST, fail};
+use crate::status::Status;
+use media::Disk;
+use own_life::OwnLife;
+use page_ops::{Life, Survey};
+use script::Device;
+use std::alloc::Global;
+use std::sync::Wait;
+use transcript::{Stat, Upkeep};
+
+/// So many neighbouring pages are a segment.
+const SEGMENT: u32 = 16;
+
+/// A Checkpoint is taken.
+pub fn checkpoint_open<'a, N: Life, L: Disk, R: Wait>(
+    rt: &R,
+    alloc: Global,
+    life: &mut OwnLife<'a, L, N>,
+) -> Result<Vec<u8>, Status>
+    requires { life.old.ended ≡ None }
+    ensures ok { IfOk result (λ lines. Did L.Disk N.opens life.old life.new commands.Checkpoint lines.items) }
+    ensures err { IfErr result (λ status. (line : ℕ) → Refused L.Disk N.opens life.old life.new commands.Checkpoint line status) }
+    ensures cause { IfErr result (LifeCause life.old.calls.own life.new.calls.own) }
+    ensures later { life.old.calls.own ≤ life.new.calls.own }
+{
+    let before = life.refused();
+    if before >= MOST {
+        return Err(Status::Memory);
+    }
+    let done = transcript::upkeep_line(alloc, Upkeep::Checkpoint)?;
+    let failed = transcript::upkeep_failed(alloc, Upkeep::Checkpoint, Device::Log)?;
+    let taken = life.checkpoint(rt, alloc);
+    life.look();
+    match taken {
+        Ok(_) => Ok(done),
+        Err(fault) => fail(fault, failed, before, life.refused()),
+    }
+}
+
+/// What the life counts.
+pub fn stat_open<'a, N: Life, L: Disk, R: Wait>(
+    rt: &R,
+    alloc: Global,
+    life: &mut OwnLife<'a, L, N>,
+) -> Result<Vec<u8>, Status>
+    requires { life.old.ended ≡ None }
+    ensures ok { IfOk result (λ lines. Did L.Disk N.opens life.old life.new commands.Stat lines.items) }
+    ensures err { IfErr result (λ status. (line : ℕ) → Refused L.Disk N.opens life.old life.new commands.Stat line status) }
+    ensures cause { IfErr result (LifeCause life.old.calls.own life.new.calls.own) }
+    ensures later { life.old.calls.own ≤ life.new.calls.own }
+{
+    let known = life.survey(rt, alloc);
+    life.look();
+    match known {
+        Ok(known) => Ok(transcript::stat_line(alloc, &counts_of(&known))?),
+        Err(_) => Err(Status::Memory),
+    }
+}
+
+/// What a journal tells, as `stat` counts it.
+fn counts_of(known: &Survey) -> Stat
+    ensures { result ≡ counts_of known.now }
+{
+    let lost = u64::from(known.analysis.lost.div_ceil(SEGMENT));
+    Stat {
+        commits: known.analysis.commits,
+        losers: known.losers.len() as u64,
+        undone: known.undone,
+        repaired: known.repaired,
+        pages: known.analysis.heads.len() as u64,
+        lost,
+        restored: lost.saturating_sub(known.analysis.unrestored.len() as u64),
+    }
+}
