@@ -18,6 +18,7 @@ use runner::{Status, run_words};
 use std::alloc::{AllocError, Global};
 use std::fs::{File, TryLockError};
 use std::process::ExitCode;
+use std::sync::Wait;
 use std::{env, fs, io};
 
 /// The words of the call behind the program's name.
@@ -36,15 +37,15 @@ enum Place<'a> {
     Folder(&'a str),
 }
 
-/// Runs what the words behind the place ask for, at the place.
-fn run(rt: &HostRuntime, alloc: Global, words: &[String]) -> Ended {
+/// Runs what the words behind the place ask for, at the place. `wait` is the same runtime, where it may wait.
+fn run<W: Wait>(rt: &HostRuntime, wait: &W, alloc: Global, words: &[String]) -> Ended {
     let [place, rest @ ..] = words else {
         return Ended::Ran(Status::Usage);
     };
     let Some(place) = place_of(rt, place.as_str()) else {
         return Ended::Ran(Status::Usage);
     };
-    run_at(rt, alloc, place, rest)
+    run_at(rt, wait, alloc, place, rest)
 }
 
 /// The place that a word names: memory, or a folder that is there.
@@ -67,32 +68,44 @@ fn is_folder(rt: &HostRuntime, path: &str) -> bool {
 }
 
 /// Runs the script on devices at the place.
-fn run_at(rt: &HostRuntime, alloc: Global, place: Place<'_>, words: &[String]) -> Ended {
+fn run_at<W: Wait>(
+    rt: &HostRuntime,
+    wait: &W,
+    alloc: Global,
+    place: Place<'_>,
+    words: &[String],
+) -> Ended {
     match place {
-        Place::Memory => run_in_memory(rt, alloc, words),
-        Place::Folder(path) => run_in_folder(rt, alloc, path, words),
+        Place::Memory => run_in_memory(rt, wait, alloc, words),
+        Place::Folder(path) => run_in_folder(rt, wait, alloc, path, words),
     }
 }
 
 /// Runs the script on devices in memory, blank at each start.
-fn run_in_memory(rt: &HostRuntime, alloc: Global, words: &[String]) -> Ended {
+fn run_in_memory<W: Wait>(rt: &HostRuntime, wait: &W, alloc: Global, words: &[String]) -> Ended {
     let devices = Devices {
         log: MemDisk::new(alloc),
         pages: MemPages::new(alloc),
         vault: MemVault::new(alloc),
     };
-    run_on(rt, alloc, devices, words)
+    run_on(rt, wait, alloc, devices, words)
 }
 
 /// Runs the script on the devices in the files of a folder, which no other process has meanwhile.
-fn run_in_folder(rt: &HostRuntime, alloc: Global, path: &str, words: &[String]) -> Ended {
+fn run_in_folder<W: Wait>(
+    rt: &HostRuntime,
+    wait: &W,
+    alloc: Global,
+    path: &str,
+    words: &[String],
+) -> Ended {
     let lock = match locked(rt, path) {
         Ok(lock) => lock,
         Err(TryLockError::WouldBlock) => return Ended::InUse,
         Err(TryLockError::Error(_)) => return Ended::Unopened,
     };
     let ended = match opened(rt, alloc, path) {
-        Ok(devices) => run_on(rt, alloc, devices, words),
+        Ok(devices) => run_on(rt, wait, alloc, devices, words),
         Err(_) => Ended::Unopened,
     };
     drop(lock);
@@ -126,20 +139,22 @@ fn opened<'a>(
 }
 
 /// Runs the script on these devices, with the operators of the store.
-fn run_on<L: Disk + Drop, P: PageDevice + Drop, V: Vault + Drop>(
+fn run_on<W: Wait, L: Disk + Drop, P: PageDevice + Drop, V: Vault + Drop>(
     rt: &HostRuntime,
+    wait: &W,
     alloc: Global,
     devices: Devices<L, P, V>,
     words: &[String],
 ) -> Ended {
-    match run_with(rt, alloc, devices, words) {
+    match run_with(rt, wait, alloc, devices, words) {
         Ok(status) => Ended::Ran(status),
         Err(_) => Ended::Ran(Status::Memory),
     }
 }
 
-fn run_with<L: Disk + Drop, P: PageDevice + Drop, V: Vault + Drop>(
+fn run_with<W: Wait, L: Disk + Drop, P: PageDevice + Drop, V: Vault + Drop>(
     rt: &HostRuntime,
+    wait: &W,
     alloc: Global,
     devices: Devices<L, P, V>,
     words: &[String],
@@ -153,7 +168,15 @@ fn run_with<L: Disk + Drop, P: PageDevice + Drop, V: Vault + Drop>(
         writer: rt.stdout(),
         faults: 0,
     };
-    let (status, _devices) = run_words(alloc, words, &mut source, &mut sink, devices, &operators);
+    let (status, _devices) = run_words(
+        wait,
+        alloc,
+        words,
+        &mut source,
+        &mut sink,
+        devices,
+        &operators,
+    );
     Ok(status)
 }
 
@@ -169,7 +192,7 @@ fn without_words(error: &io::Error) -> Ended {
 fn main(rt: HostRuntime) -> ExitCode {
     let alloc = rt.alloc();
     let ended = match words(&rt, alloc) {
-        Ok(words) => run(&rt, alloc, &words),
+        Ok(words) => run(&rt, &rt, alloc, &words),
         Err(error) => without_words(&error),
     };
     if !ended.is_done() {

@@ -4,10 +4,10 @@ use Rattle.std.specs.List.{list_any}
 use Rattle.media.specs.declared.disk.Disk.{Ghosts}
 use Rattle.wal_record.specs.Left.{is_commit_of}
 use Rattle.wal_record.specs.declared.record.Record.{Record}
-use Rattle.runner.specs.LogDisk.{Keeps}
+use Rattle.life_commands.specs.LogDisk.{Keeps}
 use Rattle.runner.specs.NextCall.{HandsOn, HasAcknowledged}
-use Rattle.runner.specs.Turns.{Last, Unsynced, LeftBy, Life, Stage, IsLeftBy, MayFind, MayBeLeft, last_after}
-use Rattle.runner.proofs.Lives.{holds_map}
+use Rattle.life_commands.specs.Turns.{Last, Unsynced, LeftBy, Life, Stage, IsLeftBy, MayFind, MayBeLeft, last_after}
+use Rattle.life_commands.proofs.Lives.{holds_map}
 
 -- what a stop may leave of a life has what it has acknowledged
 has_acknowledged : (l : Life) (log : List Record) → IsLeftBy l log → HasAcknowledged l log

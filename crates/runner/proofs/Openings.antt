@@ -1,49 +1,44 @@
 -- Openings and formats of a disk that keeps a log that may be found.
-use Rattle.std.proofs.Common.{◌≡◌, ◌≢◌, ℕ, zero, suc, ◌+◌, ◌≤◌, true, List, [], ◌∷◌, ◌++◌, Option, refl, sym, ap, subst, ◌∙◌, arith, inl, inr, ⊎_elim, append-nil, length, length-append, take, Result, Ok, Err}
-use Rattle.std.specs.Prelude.{IfOk}
-use Rattle.media.specs.Crash.{NoMore}
-use Rattle.media.specs.Counted.{Blames}
+use Rattle.std.specs.Int.{w32}
+use Rattle.std.proofs.Common.{◌≡◌, ◌≢◌, ℕ, zero, suc, ◌+◌, ◌≤◌, true, List, [], ◌∷◌, ◌++◌, refl, sym, ap, subst, ◌∙◌, arith, inl, inr, ⊎_elim, length, length-append, take}
+use Rattle.media.specs.Crash.{NoMore, Only}
 use Rattle.media.specs.Kept.{Kept}
 use Rattle.media.specs.declared.disk.Disk.{Ghosts}
-use Rattle.log_blocks.specs.Log.{Block, StandsFor, IsRun, open_gate, body, blocks, first_lsn}
+use Rattle.log_blocks.specs.Log.{Block, StandsFor, IsRun, first_lsn}
 use Rattle.log_blocks.specs.LogState.{LogState, IsDurable, durable_lsn}
-use Rattle.log_blocks.specs.Opening.{IsBadAt, IsLogFault, TellsFault, places}
+use Rattle.log_blocks.specs.Opening.{IsBadAt, TellsFault, places}
+use Rattle.log_manager.specs.Payload.{bytes_of}
 use Rattle.log_manager.specs.Managed.{HasMore, RecordsLeft, first_kept}
 use Rattle.log_manager.specs.Records.{AreIn, AreRecordsOf, IsLogOf, StandsForRecords, StandsForMoreRecords}
-use Rattle.log_replay.specs.Answers.{IsBadIn, Opens, IsNotReplayed}
-use Rattle.log_replay.specs.Answers.{IsLogFault as IsReplayFault}
 use Rattle.log_manager.specs.Devices.{HoldEnd}
-use Rattle.log_replay.specs.declared.found.Found.{Found}
-use Rattle.log_replay.specs.declared.found.NotReplayed.{NotReplayed}
-use Rattle.log_replay.specs.declared.found.NotReplayed.TheVariants as whys
+use Rattle.opening.specs.Begins.{IsKept, IsWhyNot, MayBegin}
+use Rattle.opening.specs.Bytes.{IsRead, ShowsWhy, StaysSame}
+use Rattle.opening.specs.declared.reading.WhyNot.{WhyNot}
+use Rattle.opening.specs.declared.reading.WhyNot.TheVariants as causes
 use Rattle.store_model.specs.declared.fault.Fault.{Fault}
 use Rattle.store_model.specs.declared.fault.Fault.TheVariants as faults
-use Rattle.wal_record.specs.Checkpoints.{last_checkpoint}
 use Rattle.wal_record.specs.Rules.{is_limit}
 use Rattle.wal_record.specs.Sound.{IsSound}
+use Rattle.wal_record.specs.Spelling.{spelling, number_bytes}
+use Rattle.wal_record.specs.declared.record.Format.{Format}
 use Rattle.wal_record.specs.declared.record.Record.{Record}
+use Rattle.wal_record.specs.declared.record.Record.TheVariants as kinds
 use Rattle.log_laws.specs.Right.{first_log}
 use Rattle.life_laws.proofs.Leaving.{has_room}
 use Rattle.life_laws.proofs.Start.{calm_start}
-use Rattle.runner.specs.LogDisk.{StandsOn, Keeps, HoldsOne, lsn_from}
-use Rattle.runner.specs.Bytes.{IsFormatted}
+use Rattle.life_commands.specs.Bytes.{Allows, MayMake}
+use Rattle.life_commands.specs.LogDisk.{StandsOn, Keeps, HoldsOne, lsn_from}
 use Rattle.runner.specs.Causes.{Shows}
-use Rattle.runner.specs.Machine.{IsCalm}
-use Rattle.runner.specs.Openings.{IsMade, IsFirst, IsNotMade, IsNotBegun, IsBegun, IsFault, MadeStatus, ReadStatus, ReplayStatus}
-use Rattle.runner.specs.Turns.{Last, Life, LeftBy, IsLeftBy, Unformatted, MayFind, MayBeLeft}
-use Rattle.runner.specs.Standing.{Standing}
-use Rattle.runner.specs.declared.status.Status.{Status}
-use Rattle.runner.specs.declared.status.Status.TheVariants as statuses
-use Rattle.runner.proofs.Lists.{first_kept_is, next_is, next_of}
-use Rattle.runner.proofs.Lives.{calm_keeps, left_too, keeps_map, keeps_same, keeps_only, stands_on}
-
--- the laws on blocks that are used: the kept bytes stand for one list of blocks at most, and where they stand for one, no
--- block is bad
-abbrev pub OneLog : Type 0
-OneLog = (bs cs : List Block) (k : Kept) → StandsFor bs k → StandsFor cs k → bs ≡ cs
-
-abbrev pub NeverBad : Type 0
-NeverBad = (bs : List Block) (block byte : ℕ) (k : Kept) → StandsFor bs k → IsBadAt block byte k → ⊥
+use Rattle.runner.specs.Machine.{Beginning}
+use Rattle.runner.specs.Openings.{CanRefuseOpening, IsMade, IsFirst, IsNotMade, IsNotBegunAt, IsBegun, IsFault, MadeStatus, ReadStatus}
+use Rattle.life_commands.specs.Turns.{Last, Unformatted, MayFind, MayBeLeft}
+use Rattle.life_commands.specs.declared.status.Status.{Status}
+use Rattle.life_commands.specs.declared.status.Status.TheVariants as statuses
+use Rattle.runner.proofs.Gates.{NeverBad, OneLog, bad_formatted, log_formatted}
+use Rattle.runner.proofs.Known.{allows_make}
+use Rattle.runner.proofs.Lists.{first_kept_is, next_is}
+use Rattle.life_commands.proofs.Lives.{left_too, keeps_map, keeps_same, keeps_only}
+use Rattle.runner.proofs.Places.{stands_on}
 
 -- ---- which log is found
 
@@ -72,13 +67,6 @@ some_records : (log : List Record) (b : Block) (bs : List Block) → IsRun (firs
 some_records log b bs run h none =
     let own = h.records.records in
     omega (arith, run.1.count.0, own.3.records.count_is, ap length own.2, length-append own.0 own.1, ap length (sym h.is ∙ none), length-append h.dropped h.kept)
-
--- all records of the log are kept
-all_kept : (log : List Record) (bs : List Block) → AreRecordsOf 0 bs log → HoldEnd log bs → first_lsn bs ≡ 1
-all_kept log bs r h =
-    let a = next_of 0 0 bs log r.records in
-    let b = next_of 0 (last_checkpoint h.dropped) bs h.kept h.records.records in
-    h.first ∙ omega (arith, a, b, ap length h.is, length-append h.dropped h.kept)
 
 -- ---- a format
 
@@ -118,33 +106,16 @@ module _ (one_log : OneLog) {D : Type 0} (L : Ghosts D) (limit : ℕ) (is : is_l
       by zero e = ([], none, stands_on [] k nothing_sound (record { bs = m.stands.bs; stands = m.stands.stands; records = subst (AreRecordsOf 0 m.stands.bs) (ap (λ (n : ℕ). take n (first_log limit)) e) m.stands.records }) m.numbered)
       by (suc n) e = (first_log limit, one, on_first k (take m.whole (first_log limit)) m.stands m.numbered (whole_first m.whole (omega (arith, e))))
 
-  pub is_made : (left : D) → IsFirst L.told L.may_leave limit 1 left → IsMade L limit left last
+  is_made : (left : D) → IsFirst L.told L.may_leave limit 1 left → IsMade L limit left last
   is_made left f = record { none = none_found; keeps = record { now = all_first (L.told left) f.now; crash = λ c may. all_first c (f.crash c may) } }
 
-  pub half_made : (left : D) → IsFirst L.told L.may_leave limit 0 left → Keeps L (Unformatted last limit) left
+  half_made : (left : D) → IsFirst L.told L.may_leave limit 0 left → Keeps L (Unformatted last limit) left
   half_made left f = record {
     now = some_first (MayFind (Unformatted last limit)) (inl none_found) (inr (none_found, refl)) (L.told left) f.now;
     crash = λ c may. some_first (MayBeLeft (Unformatted last limit)) (inl (left_too last [] none_found)) (inr (none_found, refl)) c (f.crash c may);
   }
 
 -- ---- an open gate
-
-bad_formatted : (block byte : ℕ) (k : Kept) → IsBadAt block byte k → IsFormatted k
-bad_formatted block byte k b = by b.before b.bytes
-  where
-    by : (before : List Block) → k.bytes ≡ blocks before ++ open_gate ∷ b.rest → IsFormatted k
-    by [] e = record { long = b.long; rest = b.rest; gate = e }
-    by (x ∷ xs) e = record { long = b.long; rest = (body x ++ blocks xs) ++ open_gate ∷ b.rest; gate = e }
-
-log_formatted : (b : Block) (bs : List Block) (k : Kept) → StandsFor (b ∷ bs) k → IsFormatted k
-log_formatted b bs k s = ⊎_elim
-    (λ short. absurd (let e : b ∷ bs ≡ [] = short.1 in cc))
-    (λ h. record {
-      long = omega (arith, ap length h.bytes, length-append (blocks (b ∷ bs)) (h.gate ∷ h.rest));
-      rest = (body b ++ blocks bs) ++ h.gate ∷ h.rest;
-      gate = h.bytes;
-    })
-    s.bytes
 
 module _ (never_bad : NeverBad) {D : Type 0} (L : Ghosts D) (disk left : D) (same : L.tells → L.told left ≡ L.told disk) (more : NoMore L.may_leave disk left) where
   kept : L.tells → (last : Last) → Keeps L last disk → Keeps L last left
@@ -159,113 +130,119 @@ module _ (never_bad : NeverBad) {D : Type 0} (L : Ghosts D) (disk left : D) (sam
   )
   made_refused limit _ status is bad = subst (λ (x : Status). IsNotMade L limit disk left x × Shows L left x) (sym is) ((λ t last k. kept t last k), tt)
 
-  -- an opening that read no log
-  pub read_refused : (line : ℕ) (fault : Fault) (status : Status) → ReadStatus fault status → (L.tells → TellsFault (L.told disk) fault) → IsNotBegun L line disk left status
-  read_refused line faults.LogFault status is bad = subst (IsNotBegun L line disk left) (sym is) (λ t last k. kept t last k)
-  read_refused line (faults.LogBad block byte) status is bad = subst (IsNotBegun L line disk left) (sym is) (λ t last k. never_bad k.now.2.bs block byte (L.told disk) k.now.2.stands (bad t))
-  read_refused line _ status is bad = subst (IsNotBegun L line disk left) (sym is) (λ t last k. kept t last k)
-
-  -- what it shows
-  pub read_shows : (fault : Fault) (status : Status) → ReadStatus fault status → (L.tells → TellsFault (L.told disk) fault) → Shows L left status
-  read_shows faults.LogFault status is bad = subst (Shows L left) (sym is) tt
-  read_shows (faults.LogBad block byte) status is bad = subst (Shows L left) (sym is) (λ t. inl (subst (IsBadAt block byte) (sym (same t)) (bad t)))
-  read_shows _ status is bad = subst (Shows L left) (sym is) tt
-
-  -- want of memory
-  pub made_no_memory : (limit : ℕ) → IsNotMade L limit disk left statuses.Memory
-  made_no_memory limit = λ t last k. kept t last k
-
--- a format of a disk that has blocks
-module _ (one_log : OneLog) {D : Type 0} (L : Ghosts D) (disk : D) (log : LogState D) (found : L.tells → (bs : List Block) × IsDurable L.told L.may_leave log bs) (same : L.tells → L.told log.device ≡ L.told disk) (more : NoMore L.may_leave disk log.device) (fresh : log.pending ≡ []) where
+-- the log that a format reads
+module _ {D : Type 0} (L : Ghosts D) (disk : D) (log : LogState D) (found : L.tells → (bs : List Block) × IsDurable L.told L.may_leave log bs) (same : L.tells → L.told log.device ≡ L.told disk) where
   no_places : (bs : List Block) → IsDurable L.told L.may_leave log bs → length log.places + length log.pending ≡ 0 → bs ≡ []
   no_places [] d e = refl
   no_places (b ∷ bs) d e = absurd (omega (arith, e, ap length d.places_are))
 
-  some_places : (bs : List Block) → IsDurable L.told L.may_leave log bs → length log.places + length log.pending ≢ 0 → (b : Block) × (rest : List Block) × (bs ≡ b ∷ rest)
-  some_places [] d e = absurd (e (omega (arith, ap length d.places_are, ap length fresh)))
-  some_places (b ∷ bs) d e = (b, bs, refl)
-
-  pub already_made : (limit : ℕ) → length log.places + length log.pending ≢ 0 → IsNotMade L limit disk log.device statuses.AlreadyFormatted × Shows L log.device statuses.AlreadyFormatted
-  already_made limit some = (
-    (λ t last k.
-        let b = found t in
-        let p = some_places b.0 b.1 some in
-        let d : IsDurable L.told L.may_leave log (p.0 ∷ p.1) = subst (IsDurable L.told L.may_leave log) p.2 b.1 in
-        let f = finds one_log L last disk log (p.0 ∷ p.1) k (same t) d in
-        (record { log = f.log; found = f.may; some = some_records f.log p.0 p.1 d.stands.sequence.run f.records }, keeps_same L last disk log.device (same t) more k)),
-    (λ t.
-        let b = found t in
-        let p = some_places b.0 b.1 some in
-        log_formatted p.0 p.1 (L.told log.device) (subst (λ (bs : List Block). StandsFor bs (L.told log.device)) p.2 b.1.stands)),
-  )
-
-  pub none_durable : length log.places + length log.pending ≡ 0 → (t : L.tells) → IsDurable L.told L.may_leave log []
+  none_durable : length log.places + length log.pending ≡ 0 → (t : L.tells) → IsDurable L.told L.may_leave log []
   none_durable none t = let b = found t in subst (IsDurable L.told L.may_leave log) (no_places b.0 b.1 none) b.1
+
+  -- what is known of the disk allows a format
+  pub allows_format : NeverBad → length log.places + length log.pending ≡ 0 → Allows L.tells L disk MayMake
+  allows_format never none = allows_make L.tells L disk never (λ t. let b = found t in (b.0, subst (StandsFor b.0) (same t) b.1.stands)) (λ t. subst (StandsFor []) (same t) (none_durable none t).stands)
 
   -- the manager of an empty log, as it begins
   nothing_stands : AreRecordsOf 0 [] []
   nothing_stands = record { none = λ _. refl; records = refl }
 
-  module _ (start : LogState D) (starts : L.tells → (bs : List Block) (rs : List Record) → IsDurable L.told L.may_leave log bs → AreRecordsOf 0 bs rs → IsLogOf L.told L.may_leave start 0 rs []) (none : length log.places + length log.pending ≡ 0) (limit : ℕ) (is : is_limit limit ≡ true) where
-    begun : (t : L.tells) → IsLogOf L.told L.may_leave start 0 [] []
-    begun t = starts t [] [] (none_durable none t) nothing_stands
+  module _ (one_log : OneLog) (more : NoMore L.may_leave disk log.device) where
+    some_places : (bs : List Block) → log.pending ≡ [] → IsDurable L.told L.may_leave log bs → length log.places + length log.pending ≢ 0 → (b : Block) × (rest : List Block) × (bs ≡ b ∷ rest)
+    some_places [] fresh d e = absurd (e (omega (arith, ap length d.places_are, ap length fresh)))
+    some_places (b ∷ bs) fresh d e = (b, bs, refl)
 
-    pub format_made : (left : D) → (L.tells → IsLogOf L.told L.may_leave start 0 [] [] → IsFirst L.told L.may_leave limit 1 left) → L.tells → (last : Last) → Keeps L last disk → IsMade L limit left last
-    format_made left first t last k = is_made one_log L limit is last disk log k (same t) (none_durable none t) left (first t (begun t))
+    pub already_made : (limit : ℕ) → log.pending ≡ [] → length log.places + length log.pending ≢ 0 → IsNotMade L limit disk log.device statuses.AlreadyFormatted × Shows L log.device statuses.AlreadyFormatted
+    already_made limit fresh some = (
+      (λ t last k.
+          let b = found t in
+          let p = some_places b.0 fresh b.1 some in
+          let d : IsDurable L.told L.may_leave log (p.0 ∷ p.1) = subst (IsDurable L.told L.may_leave log) p.2 b.1 in
+          let f = finds one_log L last disk log (p.0 ∷ p.1) k (same t) d in
+          (record { log = f.log; found = f.may; some = some_records f.log p.0 p.1 d.stands.sequence.run f.records }, keeps_same L last disk log.device (same t) more k)),
+      (λ t.
+          let b = found t in
+          let p = some_places b.0 fresh b.1 some in
+          log_formatted p.0 p.1 (L.told log.device) (subst (λ (bs : List Block). StandsFor bs (L.told log.device)) p.2 b.1.stands)),
+    )
 
-    pub format_cut : (left : D) (status : Status) → IsFault status → (status ≡ statuses.LogFault → L.tells → IsLogOf L.told L.may_leave start 0 [] [] → IsFirst L.told L.may_leave limit 0 left) → (status ≡ statuses.Memory → left ≡ log.device) → IsNotMade L limit disk left status × Shows L left status
-    format_cut left statuses.Memory kind cut no_memory = ((λ t last k. subst (Keeps L last) (sym (no_memory refl)) (keeps_same L last disk log.device (same t) more k)), tt)
-    format_cut left statuses.LogFault kind cut no_memory = ((λ t last k. half_made one_log L limit is last disk log k (same t) (none_durable none t) left (cut refl t (begun t))), tt)
-    format_cut left _ kind cut no_memory = absurd kind
+    module _ (start : LogState D) (starts : L.tells → (bs : List Block) (rs : List Record) → IsDurable L.told L.may_leave log bs → AreRecordsOf 0 bs rs → IsLogOf L.told L.may_leave start 0 rs []) (none : length log.places + length log.pending ≡ 0) (limit : ℕ) (is : is_limit limit ≡ true) where
+      begun : (t : L.tells) → IsLogOf L.told L.may_leave start 0 [] []
+      begun t = starts t [] [] (none_durable none t) nothing_stands
+
+      pub format_made : (left : D) → (L.tells → IsLogOf L.told L.may_leave start 0 [] [] → IsFirst L.told L.may_leave limit 1 left) → L.tells → (last : Last) → Keeps L last disk → IsMade L limit left last
+      format_made left first t last k = is_made one_log L limit is last disk log k (same t) (none_durable none t) left (first t (begun t))
+
+      pub format_cut : (left : D) (status : Status) → IsFault status → (status ≡ statuses.LogFault → L.tells → IsLogOf L.told L.may_leave start 0 [] [] → IsFirst L.told L.may_leave limit 0 left) → (status ≡ statuses.Memory → left ≡ log.device) → IsNotMade L limit disk left status
+      format_cut left statuses.Memory kind cut no_memory = λ t last k. subst (Keeps L last) (sym (no_memory refl)) (keeps_same L last disk log.device (same t) more k)
+      format_cut left statuses.LogFault kind cut no_memory = λ t last k. half_made one_log L limit is last disk log k (same t) (none_durable none t) left (cut refl t (begun t))
+      format_cut left _ kind cut no_memory = absurd kind
 
 -- ---- an opening
 
-module _ (one_log : OneLog) {D : Type 0} (L : Ghosts D) (disk : D) (old new : LogState D) (found : L.tells → (bs : List Block) × IsDurable L.told L.may_leave old bs) (same : L.tells → L.told old.device ≡ L.told disk) (durable : L.tells → (bs : List Block) → IsDurable L.told L.may_leave old bs → IsDurable L.told L.may_leave new bs) where
-  module _ (t : L.tells) (last : Last) (k : Keeps L last disk) where
-    here : Finds last (found t).0
-    here = finds one_log L last disk old (found t).0 k (same t) (found t).1
+-- a disk on which this log was found
+module _ (one_log : OneLog) {D : Type 0} (T : Type 0) (L : Ghosts D) (disk : D) (last : Last) (k : Keeps L last disk) where
+  held_by : (bs : List Block) → StandsFor bs (L.told disk) → HoldEnd k.now.0 bs
+  held_by bs s = let z : StandsOn k.now.0 (L.told disk) = k.now.2 in subst (HoldEnd k.now.0) (one_log z.bs bs (L.told disk) z.stands s) z.records
 
-    durable_new : IsDurable L.told L.may_leave new (found t).0
-    durable_new = durable t (found t).0 (found t).1
+  -- another disk with its blocks, of which a crash leaves nothing else
+  blocks_keep : (left : D) (bs : List Block) → StandsFor bs (L.told disk) → StandsFor bs (L.told left) → Only (L.told left) (L.may_leave left) → Keeps L last left
+  blocks_keep left bs old new only = let z : StandsOn k.now.0 (L.told disk) = k.now.2 in keeps_only L last left (k.now.0, k.now.1, record { sound = z.sound; bs = bs; stands = new; records = held_by bs old }) only
 
-    on_new : StandsOn here.log (L.told new.device)
-    on_new = record { sound = here.sound; bs = (found t).0; stands = durable_new.stands; records = here.records }
+  kept_here : IsKept L.told disk k.now.0
+  kept_here = let z : StandsOn k.now.0 (L.told disk) = k.now.2 in record { sound = z.sound; stands = record { bs = z.bs; stands = z.stands; records = z.records } }
 
-    keeps_new : Keeps L last new.device
-    keeps_new = keeps_only L last new.device (here.log, here.may, on_new) durable_new.only
+  -- a life may begin on it
+  pub is_begun : (b : Beginning D) → IsRead L.told L.may_leave disk b.log.log → ((opening : List Record) → IsKept L.told disk opening → MayBegin T L.told L.may_leave b.log b.listing opening) → IsBegun T L b last
+  is_begun b read begins = record {
+    opening = k.now.0;
+    found = k.now.1;
+    begins = record {
+      may = begins k.now.0 kept_here;
+      stands = record { sound = kept_here.sound; log_disk = record { bs = read.0; stands = read.2.stands; only = read.2.only; records = held_by read.0 read.1 } };
+    };
+  }
 
-  pub open_no_memory : (line : ℕ) → IsNotBegun L line disk new.device statuses.Memory
-  open_no_memory line = λ t last k. keeps_new t last k
+  -- the disk that was read keeps it
+  pub read_keeps : (log : LogState D) → IsRead L.told L.may_leave disk log → Keeps L last log.device
+  read_keeps log read = blocks_keep log.device read.0 read.1 read.2.stands read.2.only
 
-  pub replay_refused : (line : ℕ) (why : NotReplayed) (status : Status) → ReplayStatus line why status → (L.tells → (bs : List Block) (rs : List Record) → IsDurable L.told L.may_leave old bs → HoldEnd rs bs → IsSound rs → IsNotReplayed rs bs why) → IsNotBegun L line disk new.device status
-  unfolding on_new
-  replay_refused line whys.Memory status is met = subst (IsNotBegun L line disk new.device) (sym is) (λ t last k. keeps_new t last k)
-  replay_refused line whys.LogFault status is met = subst (IsNotBegun L line disk new.device) (sym is) (λ t last k. keeps_new t last k)
-  replay_refused line (whys.LogBad block byte) status is met = subst (IsNotBegun L line disk new.device) (sym is) (λ t last k. let h = here t last k in met t (found t).0 h.log (found t).1 h.records h.sound)
-  replay_refused line whys.NotFormatted status is met = subst (IsNotBegun L line disk new.device) (sym is) (λ t last k. let h = here t last k in (subst (MayFind last) (met t (found t).0 h.log (found t).1 h.records h.sound) h.may, keeps_new t last k))
-  replay_refused line whys.NotBuilt status is met = subst (IsNotBegun L line disk new.device) (sym is) (
-    refl,
-    (λ t last k. let h = here t last k in (record { log = h.log; found = h.may; stands = on_new t last k; unbuilt = met t (found t).0 h.log (found t).1 h.records h.sound }, keeps_new t last k)),
-  )
+  same_keeps : (left : D) → StaysSame L.told L.may_leave disk left → Keeps L last left
+  same_keeps left same = ⊎_elim
+      (λ x. keeps_same L last disk left x.0 x.1 k)
+      (λ x. blocks_keep left x.0 x.1 x.2 x.3)
+      same
 
-  pub replay_shows : (line : ℕ) (why : NotReplayed) (status : Status) → ReplayStatus line why status → (L.tells → (bs : List Block) → IsDurable L.told L.may_leave old bs → IsBadIn bs why) → Shows L new.device status
-  replay_shows line (whys.LogBad block byte) status is bad = subst (Shows L new.device) (sym is) (λ t. inr ((found t).0, (durable t (found t).0 (found t).1).stands, bad t (found t).0 (found t).1))
-  replay_shows line whys.NotFormatted status is bad = subst (Shows L new.device) (sym is) (λ t. subst (λ (bs : List Block). StandsFor bs (L.told new.device)) (bad t (found t).0 (found t).1) (durable t (found t).0 (found t).1).stands)
-  replay_shows line whys.Memory status is bad = subst (Shows L new.device) (sym is) tt
-  replay_shows line whys.LogFault status is bad = subst (Shows L new.device) (sym is) tt
-  replay_shows line whys.NotBuilt status is bad = subst (Shows L new.device) (sym is) tt
+  -- why none begins
+  pub why_not : (left : D) (why : WhyNot) (status : Status) → ReadStatus why status → ((opening : List Record) → IsKept L.told disk opening → IsWhyNot opening why) → StaysSame L.told L.may_leave disk left → IsNotBegunAt L last left status
+  why_not left causes.NotFormatted status is not same = subst (IsNotBegunAt L last left) (sym is) (subst (MayFind last) (not k.now.0 kept_here) k.now.1, same_keeps left same)
+  why_not left (causes.Fault faults.LogFault) status is not same = subst (IsNotBegunAt L last left) (sym is) (same_keeps left same)
+  why_not left (causes.Fault (faults.LogBad block byte)) status is not same = subst (IsNotBegunAt L last left) (sym is) (not k.now.0 kept_here)
+  why_not left (causes.Fault _) status is not same = subst (IsNotBegunAt L last left) (sym is) (same_keeps left same)
 
-  pub did_begin_life : (log : LogState D) (standing : Standing) (ok : Found) → (L.tells → (bs : List Block) (rs : List Record) → IsDurable L.told L.may_leave old bs → HoldEnd rs bs → IsSound rs → Opens rs ok)
-      → (L.tells → (bs : List Block) (rs : List Record) → IsDurable L.told L.may_leave old bs → HoldEnd rs bs → IsSound rs → AreRecordsOf 0 bs rs × (new.next ≡ length rs + 1))
-      → (L.tells → (bs : List Block) (rs : List Record) → IsDurable L.told L.may_leave new bs → AreRecordsOf 0 bs rs → first_lsn bs ≡ 1 → Opens rs ok → new.next ≡ length rs + 1 → IsCalm L log standing (record { opening = rs; history = [] }) (length rs))
-      → L.tells → (last : Last) → Keeps L last disk → IsBegun L log standing last
-  did_begin_life log standing ok opens records begun t last k =
-      let h = here t last k in
-      let r = records t (found t).0 h.log (found t).1 h.records h.sound in
-      record { opening = h.log; found = h.may; calm = begun t (found t).0 h.log (durable_new t last k) r.0 (all_kept h.log (found t).0 r.0 h.records) (opens t (found t).0 h.log (found t).1 h.records h.sound) r.1 }
+pub read_shows : {D : Type 0} (L : Ghosts D) (left : D) (why : WhyNot) (status : Status) → ReadStatus why status → (L.tells → ShowsWhy (L.told left) why) → Shows L left status
+read_shows L left causes.NotFormatted status is shows = subst (Shows L left) (sym is) shows
+read_shows L left (causes.Fault (faults.LogBad block byte)) status is shows = subst (Shows L left) (sym is) shows
+read_shows L left (causes.Fault faults.LogFault) status is shows = subst (Shows L left) (sym is) tt
+read_shows L left (causes.Fault _) status is shows = subst (Shows L left) (sym is) tt
+
+pub read_kind : (why : WhyNot) (status : Status) → ReadStatus why status → CanRefuseOpening status
+read_kind causes.NotFormatted status is = subst CanRefuseOpening (sym is) tt
+read_kind (causes.Fault faults.LogFault) status is = subst CanRefuseOpening (sym is) tt
+read_kind (causes.Fault (faults.LogBad block byte)) status is = subst CanRefuseOpening (sym is) tt
+read_kind (causes.Fault _) status is = subst CanRefuseOpening (sym is) tt
+
+-- ---- the record of a format
+
+length-u32 : (n : ℕ) → length (number_bytes w32 n) ≡ 4
+unfolding number_bytes
+length-u32 n = refl
+
+pub format_size : (f : Format) → length (bytes_of (kinds.Format f ∷ [])) ≤ 4194304
+format_size f = let e = length-u32 f.limit in omega (arith, e, length-append (spelling (kinds.Format f)) [])
 
 -- the first record of a log, flushed or not
-pub first_left : {D : Type 0} (L : Ghosts D) (limit : ℕ) (mid new : LogState D) → first_kept mid ≡ 1 → (left : RecordsLeft L.told L.may_leave 0 [] (first_log limit) mid new) → (least : ℕ) → least ≤ left.done → IsFirst L.told L.may_leave limit least new.device
+first_left : {D : Type 0} (L : Ghosts D) (limit : ℕ) (mid new : LogState D) → first_kept mid ≡ 1 → (left : RecordsLeft L.told L.may_leave 0 [] (first_log limit) mid new) → (least : ℕ) → least ≤ left.done → IsFirst L.told L.may_leave limit least new.device
 first_left L limit mid new one left least le =
     record { now = fewer (L.told new.device) left.read; crash = λ c may. fewer c (left.crash c may) }
   where
@@ -273,26 +250,6 @@ first_left L limit mid new one left least le =
     fewer k m = record { whole = m.whole; no_fewer = omega (arith, le, m.no_fewer); within = m.within; stands = m.stands; numbered = m.numbered ∙ one }
 
 -- ---- faults by other names
-
-pub blames_as : {D : Type 0} {passes : D → Option ℕ} {refused own : D → ℕ} {old new : D} {F G : Type 0} → Blames passes refused own old new F → (F → G) → (G → F) → Blames passes refused own old new G
-blames_as b f g = record { unarmed = b.unarmed; refused_later = b.refused_later; own_later = b.own_later; cause = λ x. b.cause (g x); quiet = λ none. b.quiet (λ x. none (f x)) }
-
-pub made_fault : (fault : Fault) (status : Status) → MadeStatus fault status → (IsLogFault fault → status ≡ statuses.LogFault) × (status ≡ statuses.LogFault → IsLogFault fault)
-made_fault faults.LogFault status is = ((λ f. is), (λ e. tt))
-made_fault (faults.LogBad block byte) status is = ((λ f. absurd f), (λ e. let x : statuses.AlreadyFormatted ≡ statuses.LogFault = sym is ∙ e in absurd cc))
-made_fault _ status is = ((λ f. absurd f), (λ e. let x : statuses.Memory ≡ statuses.LogFault = sym is ∙ e in absurd cc))
-
-pub read_fault : (fault : Fault) (status : Status) → ReadStatus fault status → (IsLogFault fault → status ≡ statuses.LogFault) × (status ≡ statuses.LogFault → IsLogFault fault)
-read_fault faults.LogFault status is = ((λ f. is), (λ e. tt))
-read_fault (faults.LogBad block byte) status is = ((λ f. absurd f), (λ e. let x : statuses.LogBad block byte ≡ statuses.LogFault = sym is ∙ e in absurd cc))
-read_fault _ status is = ((λ f. absurd f), (λ e. let x : statuses.Memory ≡ statuses.LogFault = sym is ∙ e in absurd cc))
-
-pub replay_fault : (line : ℕ) (why : NotReplayed) (status : Status) → ReplayStatus line why status → (IsReplayFault why → status ≡ statuses.LogFault) × (status ≡ statuses.LogFault → IsReplayFault why)
-replay_fault line whys.LogFault status is = ((λ f. is), (λ e. tt))
-replay_fault line whys.Memory status is = ((λ f. absurd f), (λ e. let x : statuses.Memory ≡ statuses.LogFault = sym is ∙ e in absurd cc))
-replay_fault line (whys.LogBad block byte) status is = ((λ f. absurd f), (λ e. let x : statuses.LogBad block byte ≡ statuses.LogFault = sym is ∙ e in absurd cc))
-replay_fault line whys.NotFormatted status is = ((λ f. absurd f), (λ e. let x : statuses.NotFormatted ≡ statuses.LogFault = sym is ∙ e in absurd cc))
-replay_fault line whys.NotBuilt status is = ((λ f. absurd f), (λ e. let x : statuses.NotBuilt line ≡ statuses.LogFault = sym is ∙ e in absurd cc))
 
 -- no block without records
 no_blocks : (n k : ℕ) (bs : List Block) → IsRun n bs → AreIn k bs [] → bs ≡ []
@@ -305,23 +262,3 @@ first_flushed L limit old mid new next added stands stands_mid left least reache
     let places_none : lsn_from mid.places ≡ 1 = ap (λ (x : LogState _). lsn_from x.places) added.is ∙ ap lsn_from stands.durable.places_are ∙ ap (λ (bs : List Block). lsn_from (places (L.told old.device).start bs)) none in
     first_left L limit mid new (first_kept_is mid stands_mid.numbered ∙ places_none) left least
     (omega (arith, reached, left.durable, next_is L.told L.may_leave mid [] (first_log limit) stands_mid, ap (λ (x : LogState _). x.next) added.is, next))
-
-pub ok_map : {A B : Type 0} (r : Result A B) (P Q : A → Type 0) → ((a : A) → P a → Q a) → IfOk r P → IfOk r Q
-ok_map (Ok a) P Q f h = f a h
-ok_map (Err e) P Q f h = tt
-
-nothing_left : (own lost : List Record) → [] ≡ own ++ lost → ◌≡◌ {A = List Record} own []
-nothing_left [] lost e = refl
-nothing_left (r ∷ own) lost e = absurd cc
-
--- a life that has only begun leaves the log that it found
-pub begun_keeps : {D : Type 0} (L : Ghosts D) (log : LogState D) (standing : Standing) (last : Last) → IsBegun L log standing last → Keeps L last log.device
-begun_keeps L log standing last k =
-    keeps_map L (LeftBy begun) last log.device found (λ rs h. left_too last rs (found rs h))
-    (calm_keeps L log standing begun (length k.opening) k.calm)
-  where
-    begun : Life
-    begun = record { opening = k.opening; history = [] }
-
-    found : (rs : List Record) → IsLeftBy begun rs → MayFind last rs
-    found rs h = subst (MayFind last) (sym (h.2 ∙ ap (λ (own : List Record). k.opening ++ own) (nothing_left h.0 h.1.lost h.1.whole) ∙ append-nil k.opening)) k.found

@@ -1,5 +1,5 @@
 -- A run, turn by turn.
-use Rattle.std.proofs.Common.{◌≡◌, ◌≤◌, ℕ, ◌+◌, true, false, List, [], ◌∷◌, ◌++◌, Option, Some, None, Err, refl, sym, ap, subst, ◌∙◌, arith, inl, inr, append_assoc, append-nil, length, length-append}
+use Rattle.std.proofs.Common.{◌≡◌, ◌≤◌, ℕ, ◌+◌, true, false, List, [], ◌∷◌, ◌++◌, Option, Some, None, Ok, Err, refl, sym, ap, subst, ◌∙◌, arith, inl, inr, ⊎_elim, append_assoc, append-nil, length, length-append}
 use Rattle.std.specs.Prelude.{◌⊎◌, codes}
 use Rattle.std.specs.List.{All}
 use Rattle.std.proofs.lemmas.List.Elements.{All-nil}
@@ -11,21 +11,24 @@ use Rattle.store_model.specs.Along.{along, AllAlong}
 use Rattle.script.specs.declared.command.Command.{Command}
 use Rattle.script.specs.declared.command.Command.TheVariants as commands
 use Rattle.wal_record.specs.declared.entry.Entry.{Entry}
+use Rattle.wal_record.specs.declared.record.Record.{Record}
 use Rattle.script.specs.Line.{reads}
-use Rattle.runner.specs.declared.status.Status.{Status}
-use Rattle.runner.specs.declared.status.Status.TheVariants as statuses
+use Rattle.life_commands.specs.declared.status.Status.{Status}
+use Rattle.life_commands.specs.declared.status.Status.TheVariants as statuses
 use Rattle.line_reader.specs.Lines.{Reader, to_come, first_reader, longest_script, IsBounded, IsLine, IsNoLine}
 use Rattle.line_reader.specs.Built.{is_built}
 use Rattle.runner.specs.Causes.{LineCause}
-use Rattle.runner.specs.Rows.{Fits, is_lawful}
-use Rattle.runner.specs.Turns.{Start, Turn, Stage, Cut, turn, stage, stage_step, begin_stage, bytes_after, longer, Life, IsRightLife, lives}
-use Rattle.runner.specs.Text.{text, lines}
-use Rattle.runner.specs.Refusals.{RefusesAt, CutAt, IsOpen, IsFormat, IsNotBuilt, IsSplit}
-use Rattle.runner.specs.Machine.{Safe, Out, Adds}
-use Rattle.runner.specs.Bytes.{Bytes, Known}
-use Rattle.runner.specs.LogDisk.{Leaves}
+use Rattle.life_commands.specs.Rows.{Fits, FitsAt, IsOfLife, is_lawful}
+use Rattle.life_commands.specs.Turns.{Start, Turn, Stage, End, Done, TooMany, LogFault, VaultFault, Ended as EndedBefore, Cut, stage, stage_step, stage_after, begin_stage, bytes_after, longer, Life, IsRightLife, lives, turn}
+use Rattle.life_commands.specs.Living.{Safe, Adds}
+use Rattle.life_commands.specs.Text.{lines, text}
+use Rattle.life_commands.specs.Refusals.{RefusesAt, CutAt, LacksLines, IsOpen, IsFormat, IsNotBuilt}
+use Rattle.runner.specs.Machine.{IsAt, Out}
+use Rattle.runner.specs.declared.at.At.{At}
+use Rattle.life_commands.specs.Bytes.{Bytes, Known}
+use Rattle.life_commands.specs.LogDisk.{Leaves}
 use Rattle.runner.specs.Vault.{Beside, IsVault}
-use Rattle.runner.specs.Status.{cuts}
+use Rattle.runner.specs.Cuts.{MayCut}
 use Rattle.runner.specs.Clause.{IsNext, IsPrefix, Partly, BadLine, Unlawful, OfCommand, NextLine, Ended, HandsBack, Headline, Between, Stopping, TakesCommand}
 use Rattle.runner.proofs.Turning.{stage_push, text_push, fits_push, script_push}
 use Rattle.runner.proofs.Vaults.{vault_first}
@@ -40,39 +43,141 @@ of_command : (P : Command → Type 0) (taken : ℕ) (bytes rest : List ℕ) (c :
 of_command P taken bytes rest c next e p = (bytes, next, subst (OfCommand P) (sym e) p)
 
 -- what a cut turn enters opens no life
+longer_bytes : (life : Option Life) (es : List Entry) (bytes : Bytes) → bytes_after (longer life es) bytes ≡ bytes_after life bytes
+longer_bytes None es bytes = refl
+longer_bytes (Some l) es bytes = refl
+
 cut_bytes : (s : Stage) (c : Command) (es : List Entry) → bytes_after (stage_step s (turn c es Cut)).life (stage_step s (turn c es Cut)).bytes ≡ bytes_after s.life s.bytes
 cut_bytes s (commands.Format limit) es = refl
-cut_bytes s (commands.Commit name) es = by s.life
-  where
-    by : (life : Option Life) → bytes_after (longer life es) s.bytes ≡ bytes_after life s.bytes
-    by None = refl
-    by (Some l) = refl
+cut_bytes s (commands.Begin name) es = longer_bytes s.life es s.bytes
+cut_bytes s (commands.Ask name request) es = longer_bytes s.life es s.bytes
+cut_bytes s (commands.Commit name) es = longer_bytes s.life es s.bytes
+cut_bytes s (commands.Abort name) es = longer_bytes s.life es s.bytes
+cut_bytes s commands.Checkpoint es = longer_bytes s.life es s.bytes
 cut_bytes s _ es = refl
 
 cut_vault : (s : Stage) (c : Command) (es : List Entry) → (stage_step s (turn c es Cut)).cycled ≡ s.cycled
 cut_vault s (commands.Format limit) es = refl
+cut_vault s (commands.Begin name) es = refl
+cut_vault s (commands.Ask name request) es = refl
 cut_vault s (commands.Commit name) es = refl
+cut_vault s (commands.Abort name) es = refl
+cut_vault s commands.Checkpoint es = refl
 cut_vault s _ es = refl
 
-module _ {D E : Type 0} (T : Type 0) (L : Ghosts D) (V : vaults.Ghosts E) (start : Start) (disk : D) (first vault : E) (left0 told0 : Option (List ℕ)) (old new : Reader) (lo ln told : Option (List ℕ)) (turns : List Turn) (H : Stage → Type 0)
-    (safe : (s : Stage) → H s → Safe T L disk s) (b : Between L.tells start (Beside V first vault H) left0 told0 old turns lo told) (most : IsBounded new) where
+-- a turn of a life opens none, and doesn't stop the machine
+life_still : (s : Stage) (l : Life) (t : Turn) → s.life ≡ Some l → IsOfLife t.command → ((stage_step s t).cycled ≡ s.cycled) × (bytes_after (stage_step s t).life (stage_step s t).bytes ≡ bytes_after s.life s.bytes)
+life_still s l t living kind = by t.command t.entries t.found t.end kind
+  where
+    by : (c : Command) (es : List Entry) (found : List Record) (end : End) → IsOfLife c → ((stage_after s c es found end).cycled ≡ s.cycled) × (bytes_after (stage_after s c es found end).life (stage_after s c es found end).bytes ≡ bytes_after s.life s.bytes)
+    by (commands.Begin name) es found Done k = (refl, longer_bytes s.life es s.bytes)
+    by (commands.Begin name) es found TooMany k = (refl, refl)
+    by (commands.Begin name) es found (LogFault n) k = (refl, longer_bytes s.life es s.bytes)
+    by (commands.Begin name) es found VaultFault k = (refl, longer_bytes s.life es s.bytes)
+    by (commands.Begin name) es found (EndedBefore n) k = (refl, refl)
+    by (commands.Begin name) es found Cut k = (refl, longer_bytes s.life es s.bytes)
+    by (commands.Ask name request) es found Done k = (refl, longer_bytes s.life es s.bytes)
+    by (commands.Ask name request) es found TooMany k = (refl, refl)
+    by (commands.Ask name request) es found (LogFault n) k = (refl, longer_bytes s.life es s.bytes)
+    by (commands.Ask name request) es found VaultFault k = (refl, longer_bytes s.life es s.bytes)
+    by (commands.Ask name request) es found (EndedBefore n) k = (refl, refl)
+    by (commands.Ask name request) es found Cut k = (refl, longer_bytes s.life es s.bytes)
+    by (commands.Commit name) es found Done k = (refl, longer_bytes s.life es s.bytes)
+    by (commands.Commit name) es found TooMany k = (refl, refl)
+    by (commands.Commit name) es found (LogFault n) k = (refl, longer_bytes s.life es s.bytes)
+    by (commands.Commit name) es found VaultFault k = (refl, longer_bytes s.life es s.bytes)
+    by (commands.Commit name) es found (EndedBefore n) k = (refl, refl)
+    by (commands.Commit name) es found Cut k = (refl, longer_bytes s.life es s.bytes)
+    by (commands.Abort name) es found Done k = (refl, longer_bytes s.life es s.bytes)
+    by (commands.Abort name) es found TooMany k = (refl, refl)
+    by (commands.Abort name) es found (LogFault n) k = (refl, longer_bytes s.life es s.bytes)
+    by (commands.Abort name) es found VaultFault k = (refl, longer_bytes s.life es s.bytes)
+    by (commands.Abort name) es found (EndedBefore n) k = (refl, refl)
+    by (commands.Abort name) es found Cut k = (refl, longer_bytes s.life es s.bytes)
+    by commands.Checkpoint es found Done k = (refl, longer_bytes s.life es s.bytes)
+    by commands.Checkpoint es found TooMany k = (refl, refl)
+    by commands.Checkpoint es found (LogFault n) k = (refl, longer_bytes s.life es s.bytes)
+    by commands.Checkpoint es found VaultFault k = (refl, longer_bytes s.life es s.bytes)
+    by commands.Checkpoint es found (EndedBefore n) k = (refl, refl)
+    by commands.Checkpoint es found Cut k = (refl, longer_bytes s.life es s.bytes)
+    by commands.Stat es found Done k = (refl, refl)
+    by commands.Stat es found TooMany k = (refl, refl)
+    by commands.Stat es found (LogFault n) k = (refl, refl)
+    by commands.Stat es found VaultFault k = (refl, longer_bytes s.life es s.bytes)
+    by commands.Stat es found (EndedBefore n) k = (refl, refl)
+    by commands.Stat es found Cut k = (refl, refl)
+    by _ es found end k = absurd k
+
+-- ---- lines
+
+-- a line was taken that spells this command
+pub record Took (old new : Reader) (lo ln : Option (List ℕ)) (c : Command) : Type 0 where
+  pub line : List ℕ
+  pub took : Consumes (to_come old lo) (to_come new ln) (line ++ 10 ∷ [])
+  pub one : IsLine line
+  pub said : reads line ≡ Some c
+  pub size : new.taken ≡ old.taken + length line + 1
+  pub within : new.taken ≤ longest_script
+  pub count : new.lines ≡ old.lines + 1
+
+-- the next line, with its number
+pub record TookNext (old new : Reader) (lo ln : Option (List ℕ)) (next : Command × ℕ) : Type 0 where
+  pub line : Took old new lo ln next.0
+  pub built : is_built line.line ≡ true
+  pub number : next.1 ≡ old.lines + 1
+
+pub took : (old new : Reader) (lo ln : Option (List ℕ)) (o : Option (Command × ℕ)) (next : Command × ℕ) → o ≡ Some next → TakesCommand old new lo ln (Ok o) → TookNext old new lo ln next
+took old new lo ln o next is t =
+    let u = subst (λ (x : Option (Command × ℕ)). TakesCommand old new lo ln (Ok x)) is t in
+    record { line = record { line = u.0; took = u.1; one = u.2; said = u.4; size = u.7; within = u.8; count = u.6 }; built = u.3; number = u.5 }
+
+-- the line that asks for a stop
+pub took_stop : {D E : Type 0} {tells : Type 0} {L : Ghosts D} {V : vaults.Ghosts E} {start : Start} {disk : D} {first vault : E} {left0 told0 left told : Option (List ℕ)} {reader : Reader} {turns : List Turn} {keep : Option ℕ} {out : List ℕ}
+    (st : Stopping tells L V start disk first vault left0 told0 reader turns left told keep out) → Took st.old reader st.left_old left (commands.Stop keep)
+took_stop st = record { line = st.line; took = st.took; one = st.one; said = st.said; size = st.size; within = st.within; count = st.count }
+
+-- the same turns, of whose stage this holds
+pub between_as : {E : Type 0} {tells : Type 0} {V : vaults.Ghosts E} {start : Start} {first vault : E} {H : Stage → Type 0} {left0 told0 left told : Option (List ℕ)} {reader : Reader} {turns : List Turn}
+    (H' : Stage → Type 0) → H' (stage start turns) → Between tells start (Beside V first vault H) left0 told0 reader turns left told → Between tells start (Beside V first vault H') left0 told0 reader turns left told
+between_as H' h b = record {
+  read = b.read;
+  script = b.script;
+  taken = b.taken;
+  count = b.count;
+  size = b.size;
+  within = b.within;
+  most = b.most;
+  fits = b.fits;
+  holds = record { here = h; vault = b.holds.vault };
+  wrote = b.wrote;
+}
+
+-- the same turns, of whose stage the run's place says what it says of where the run is
+pub between_at : {D E F : Type 0} {tells : Type 0} {V : vaults.Ghosts E} {start : Start} {first vault : E} {left0 told0 left told : Option (List ℕ)} {reader : Reader} {turns : List Turn} (T : Type 0) (L : Ghosts D) (inside : F → Stage → Type 0) (at now : At D F) → at ≡ now
+    → Between tells start (Beside V first vault (IsAt T L inside at)) left0 told0 reader turns left told → Between tells start (Beside V first vault (IsAt T L inside now)) left0 told0 reader turns left told
+between_at {start = start} {turns = turns} T L inside at now is b = between_as (IsAt T L inside now) (subst (λ (x : At _ _). IsAt T L inside x (stage start turns)) is b.holds.here) b
+
+-- ---- behind these turns so much more was read
+
+module _ {D E : Type 0} {start : Start} {V : vaults.Ghosts E} {first vault : E} {H : Stage → Type 0} {left0 told0 lo told : Option (List ℕ)} {old : Reader} {turns : List Turn} (T : Type 0) (L : Ghosts D) (new : Reader) (ln : Option (List ℕ))
+    (b : Between L.tells start (Beside V first vault H) left0 told0 old turns lo told) (most : IsBounded new) where
   abbrev Ends : D → E → Option (List ℕ) → Status → Type 0
   Ends now vault' told' status = Headline T L V start now first vault' left0 new.pending ln told0 told' status
 
-  here : Safe T L disk (stage start turns)
-  here = safe (stage start turns) b.holds.here
+  abbrev AreRight : Type 0
+  AreRight = L.tells → All IsRightLife (lives (stage start turns))
 
   -- what is known of a disk that ends a run
   abbrev IsKnown : D → Type 0
   IsKnown now = Known T L (bytes_after (stage start turns).life (stage start turns).bytes) now
 
-  back : HandsBack T L V disk first vault (stage start turns)
-  back = record { leaves = here.leaves; bytes = here.bytes; stored = b.holds.vault }
+  at_line : (line : ℕ) → line ≡ old.lines + 1 → line ≡ length turns + 1
+  at_line line is = is ∙ ap (λ (n : ℕ). n + 1) b.count
 
-  -- between two turns
-  pub stop : (now : D) (rest : List ℕ) (status : Status) → cuts status ≡ false → Consumes (to_come old lo) (to_come new ln) rest → new.taken ≡ old.taken + length rest → Ended L start now status turns b.read rest (text start turns) (to_come new ln)
+  -- the run ends between two turns
+  stop : AreRight → (stage start turns).cut ≡ false → (now : D) (rest : List ℕ) (status : Status) → MayCut status false → Consumes (to_come old lo) (to_come new ln) rest → new.taken ≡ old.taken + length rest → Ended L start status turns b.read rest (text start turns) (to_come new ln)
       → HandsBack T L V now first vault (stage start turns) → Ends now vault told status
-  stop now rest status whole took size ended hands = record {
+  stop right goes now rest status whole took size ended hands = record {
     turns = turns;
     read = b.read;
     rest = rest;
@@ -80,140 +185,70 @@ module _ {D E : Type 0} (T : Type 0) (L : Ghosts D) (V : vaults.Ghosts E) (start
     taken = Consumes-trans _ _ _ b.read rest b.taken took;
     within = b.within;
     most = omega (arith, most, size, b.size);
-    ran = record { script = b.script; fits = b.fits; right = here.right };
-    cut = here.goes ∙ sym whole;
+    ran = record { script = b.script; fits = b.fits; right = right };
+    cut = subst (MayCut status) (sym goes) whole;
     wrote = b.wrote;
     ended = ended;
     back = hands;
   }
 
-  pub no_memory : (rest : List ℕ) → Consumes (to_come old lo) (to_come new ln) rest → new.taken ≡ old.taken + length rest → Ends disk vault told statuses.Memory
-  no_memory rest took size = stop disk rest statuses.Memory refl took size (all_of start turns) back
+  -- ---- with the disk as it was
 
-  at_line : (line : ℕ) → line ≡ old.lines + 1 → line ≡ length turns + 1
-  at_line line is = is ∙ ap (λ (n : ℕ). n + 1) b.count
+  module _ (disk : D) (safe : Safe T L disk (stage start turns)) where
+    stop_here : (rest : List ℕ) (status : Status) → MayCut status false → Consumes (to_come old lo) (to_come new ln) rest → new.taken ≡ old.taken + length rest → Ended L start status turns b.read rest (text start turns) (to_come new ln) → Ends disk vault told status
+    stop_here rest status whole took size ended = stop safe.right safe.goes disk rest status whole took size ended (record { leaves = safe.leaves; bytes = safe.bytes; stored = b.holds.vault })
 
-  -- the input is at its end
-  pub at_end : Consumes (to_come old lo) (to_come new ln) [] × IsAtEnd (to_come new ln) × (new.taken ≡ old.taken) → Ends disk vault told statuses.Done
-  at_end h = stop disk [] statuses.Done refl h.0 (omega (arith, h.2)) (refl, refl, h.1) back
+    pub no_memory : (rest : List ℕ) → Consumes (to_come old lo) (to_come new ln) rest → new.taken ≡ old.taken + length rest → Ends disk vault told statuses.Memory
+    no_memory rest took size = stop_here rest statuses.Memory tt took size (all_of start turns)
 
-  -- no command is read
-  pub no_line : (status : Status) (before now : ℕ) → TakesCommand old new lo ln (Err status) → LineCause before now status → Ends disk vault told status
-  no_line statuses.Memory before now (rest, took, size) why = no_memory rest took size
-  no_line statuses.SourceFault before now (rest, took, size) why = stop disk rest statuses.SourceFault refl took size refl back
-  no_line (statuses.NotBuilt n) before now (is, bytes, took, one, size, within, unbuilt) why =
-      stop disk (bytes ++ 10 ∷ []) (statuses.NotBuilt n) refl took (omega (arith, size, length-append bytes (10 ∷ []))) (refl, at_line n is, inl (bytes, record { is = refl; one = one; within = omega (arith, within, size, b.size, length-append bytes (10 ∷ [])) }, unbuilt)) back
-  no_line (statuses.Script n) before now (is, rest, took, size, bad) why = stop disk rest (statuses.Script n) refl took size (refl, at_line n is, by bad) back
-    where
-      by : ((bytes : List ℕ) × (rest ≡ bytes ++ 10 ∷ []) × IsLine bytes × (is_built bytes ≡ true) × (reads bytes ≡ None) × (new.taken ≤ longest_script)) ⊎ IsNoLine old.taken rest (to_come new ln) → BadLine (stage start turns) (length b.read) rest (to_come new ln)
-      by (inl (bytes, whole, one, built, none, within)) = inl (bytes, record { is = whole; one = one; within = omega (arith, within, size, b.size) }, built, subst (Unlawful (stage start turns)) (sym none) tt)
-      by (inr bad) = inr (subst (λ (n : ℕ). IsNoLine n rest (to_come new ln)) b.size bad)
-  no_line _ before now took why = absurd why
+    -- the input is at its end
+    pub at_end : Consumes (to_come old lo) (to_come new ln) [] × IsAtEnd (to_come new ln) × (new.taken ≡ old.taken) → Ends disk vault told statuses.Done
+    at_end h = stop_here [] statuses.Done refl h.0 (omega (arith, h.2)) (refl, refl, h.1)
 
-  module _ (bytes : List ℕ) (c : Command) (took : Consumes (to_come old lo) (to_come new ln) (bytes ++ 10 ∷ [])) (is : IsLine bytes) (e : reads bytes ≡ Some c) (size : new.taken ≡ old.taken + length bytes + 1) (within : new.taken ≤ longest_script) where
-    taken_more : Consumes left0 (to_come new ln) (b.read ++ (bytes ++ 10 ∷ []))
-    taken_more = Consumes-trans _ _ _ b.read (bytes ++ 10 ∷ []) b.taken took
-
-    taken_whole : Consumes left0 (to_come new ln) ((b.read ++ (bytes ++ 10 ∷ [])) ++ [])
-    taken_whole = subst (Consumes left0 (to_come new ln)) (sym (append-nil (b.read ++ (bytes ++ 10 ∷ [])))) taken_more
-
-    read_more : new.taken ≡ length (b.read ++ (bytes ++ 10 ∷ []))
-    read_more = omega (arith, size, b.size, length-append b.read (bytes ++ 10 ∷ []), length-append bytes (10 ∷ []))
-
-    within_more : length (b.read ++ (bytes ++ 10 ∷ [])) ≤ longest_script
-    within_more = omega (arith, within, read_more)
-
-    next : IsNext (length b.read) (bytes ++ 10 ∷ []) bytes
-    next = record { is = refl; one = is; within = omega (arith, within, size, b.size, length-append bytes (10 ∷ [])) }
-
-    -- the log disk's own fault cuts a command off
-    cut_off : (now : D) → CutAt L now (stage start turns) c → IsKnown now → Ends now vault told statuses.LogFault
-    cut_off now cut known =
-        let s = stage start turns in
-        let t : Turn = turn c cut.entries Cut in
-        record {
-          turns = turns ++ t ∷ [];
-          read = b.read ++ (bytes ++ 10 ∷ []);
-          rest = [];
-          written = text start turns;
-          taken = taken_whole;
-          within = within_more;
-          most = omega (arith, most, read_more);
-          ran = record {
-            script = script_push b.read bytes turns t b.script is e;
-            fits = fits_push L.tells start turns t b.fits cut.fits;
-            right = λ u. subst (λ (s : Stage). All IsRightLife (lives s)) (sym (stage_push start turns t)) (cut.right u);
-          };
-          cut = ap (λ (s : Stage). s.cut) (stage_push start turns t);
-          wrote = b.wrote;
-          ended = sym (text_push start turns t ∙ append-nil (text start turns));
-          back = subst (HandsBack T L V now first vault) (sym (stage_push start turns t)) (record {
-            leaves = cut.leaves;
-            bytes = subst (λ (x : Bytes). Known T L x now) (sym (cut_bytes s c cut.entries)) known;
-            stored = subst (IsVault V first vault) (sym (cut_vault s c cut.entries)) b.holds.vault;
-          });
-        }
-
-    -- a command ends the run
-    pub refused : (now : D) (line : ℕ) (status : Status) → line ≡ old.lines + 1 → is_built bytes ≡ true → RefusesAt L now (stage start turns) c line status × IsKnown now → Ends now vault told status
-    refused now line status n built (why, known) = by status why
+    -- no command is read
+    pub no_line : (status : Status) (before now : ℕ) → TakesCommand old new lo ln (Err status) → LineCause before now status → Ends disk vault told status
+    no_line statuses.Memory before now (rest, took, size) why = no_memory rest took size
+    no_line statuses.SourceFault before now (rest, took, size) why = stop_here rest statuses.SourceFault refl took size refl
+    no_line (statuses.NotBuilt n) before now (is, bytes, took, one, size, within, unbuilt) why =
+        stop_here (bytes ++ 10 ∷ []) (statuses.NotBuilt n) refl took (omega (arith, size, length-append bytes (10 ∷ []))) (refl, at_line n is, inl (bytes, record { is = refl; one = one; within = omega (arith, within, size, b.size, length-append bytes (10 ∷ [])) }, unbuilt))
+    no_line (statuses.Script n) before now (is, rest, took, size, bad) why = stop_here rest (statuses.Script n) refl took size (refl, at_line n is, by bad)
       where
-        whole : List ℕ
-        whole = bytes ++ 10 ∷ []
+        by : ((bytes : List ℕ) × (rest ≡ bytes ++ 10 ∷ []) × IsLine bytes × (is_built bytes ≡ true) × (reads bytes ≡ None) × (new.taken ≤ longest_script)) ⊎ IsNoLine old.taken rest (to_come new ln) → BadLine (stage start turns) (length b.read) rest (to_come new ln)
+        by (inl (bytes, whole, one, built, none, within)) = inl (bytes, record { is = whole; one = one; within = omega (arith, within, size, b.size) }, built, subst (Unlawful (stage start turns)) (sym none) tt)
+        by (inr bad) = inr (subst (λ (n : ℕ). IsNoLine n rest (to_come new ln)) b.size bad)
+    no_line _ before now took why = absurd why
 
-        count : new.taken ≡ old.taken + length whole
-        count = omega (arith, size, length-append bytes (10 ∷ []))
+  -- ---- a line with its command
 
-        hands : Leaves L now (stage start turns) → HandsBack T L V now first vault (stage start turns)
-        hands leaves = record { leaves = leaves; bytes = known; stored = b.holds.vault }
+  module _ (c : Command) (line : Took old new lo ln c) where
+    abbrev whole : List ℕ
+    whole = line.line ++ 10 ∷ []
 
-        by : (status : Status) → RefusesAt L now (stage start turns) c line status → Ends now vault told status
-        by statuses.Memory why = stop now whole statuses.Memory refl took count (all_of start turns) (hands why)
-        by (statuses.Script m) why = stop now whole (statuses.Script m) refl took count (refl, why.0 ∙ at_line line n, inl (bytes, next, built, subst (Unlawful (stage start turns)) (sym e) why.1)) (hands why.2)
-        by (statuses.NotBuilt m) why =
-            stop now whole (statuses.NotBuilt m) refl took count (refl, why.0 ∙ at_line line n, inr (of_command (λ d. (is_lawful (stage start turns) d ≡ true) × IsNotBuilt L now (stage start turns) d) (length b.read) bytes whole c next e (why.1, why.2))) (hands why.3)
-        by (statuses.NoSplit m) why =
-            stop now whole (statuses.NoSplit m) refl took count (refl, why.0 ∙ at_line line n, of_command (λ d. (is_lawful (stage start turns) d ≡ true) × IsSplit L.tells (stage start turns) d) (length b.read) bytes whole c next e (why.1, why.2)) (hands why.3)
-        by statuses.LogFault why = cut_off now why known
-        by (statuses.LogBad block byte) why = stop now whole (statuses.LogBad block byte) refl took count (refl, of_command IsOpen (length b.read) bytes whole c next e why.0, why.1) (hands (λ t. absurd (why.1 t)))
-        by statuses.NotFormatted why = stop now whole statuses.NotFormatted refl took count (refl, of_command IsOpen (length b.read) bytes whole c next e why.0, why.1) (hands why.2)
-        by statuses.AlreadyFormatted why = stop now whole statuses.AlreadyFormatted refl took count (refl, of_command IsFormat (length b.read) bytes whole c next e why.0, why.1) (hands why.2)
-        by _ why = absurd why
+    taken_more : Consumes left0 (to_come new ln) (b.read ++ whole)
+    taken_more = Consumes-trans _ _ _ b.read whole b.taken line.took
 
-    said_here : (t : Turn) → t.command ≡ c → reads bytes ≡ Some t.command
-    said_here t same = e ∙ ap (λ (x : Command). Some x) (sym same)
+    taken_whole : Consumes left0 (to_come new ln) ((b.read ++ whole) ++ [])
+    taken_whole = subst (Consumes left0 (to_come new ln)) (sym (append-nil (b.read ++ whole))) taken_more
 
-    safe_holds : Beside V first vault (Safe T L disk) (stage start turns)
-    safe_holds = record { here = here; vault = b.holds.vault }
+    read_more : new.taken ≡ length (b.read ++ whole)
+    read_more = omega (arith, line.size, b.size, length-append b.read whole, length-append line.line (10 ∷ []))
 
-    -- the line asks for a stop
-    pub stops : (keep : Option ℕ) (out : List ℕ) → c ≡ commands.Stop keep → out ≡ codes "stop\n" → new.lines ≡ old.lines + 1 → Stopping T L V start disk first vault left0 told0 new turns ln told keep out
-    stops keep out stop text lines_are = record {
-      text = text;
-      old = old;
-      left_old = lo;
-      before = record { read = b.read; script = b.script; taken = b.taken; count = b.count; size = b.size; within = b.within; most = b.most; fits = b.fits; holds = safe_holds; wrote = b.wrote };
-      most = most;
-      line = bytes;
-      took = took;
-      one = is;
-      said = e ∙ ap (λ (x : Command). Some x) stop;
-      size = size;
-      within = within;
-      count = lines_are;
-    }
+    within_more : length (b.read ++ whole) ≤ longest_script
+    within_more = omega (arith, line.within, read_more)
+
+    said_here : (t : Turn) → t.command ≡ c → reads line.line ≡ Some t.command
+    said_here t same = line.said ∙ ap (λ (x : Command). Some x) (sym same)
 
     -- one turn more
-    pub went : (H' : Stage → Type 0) (out : List ℕ) → new.lines ≡ old.lines + 1 → Adds L.tells H' (stage start turns) c out → (told' : Option (List ℕ)) → Appends told told' out
-        → (t : Turn) × Between L.tells start H' left0 told0 new (turns ++ t ∷ []) ln told'
-    went H' out lines_are added told' wrote =
+    pub went : (H' : Stage → Type 0) (out : List ℕ) → Adds L.tells H' (stage start turns) c out → (told' : Option (List ℕ)) → Appends told told' out → (t : Turn) × Between L.tells start H' left0 told0 new (turns ++ t ∷ []) ln told'
+    went H' out added told' wrote =
         let t : Turn = added.turn in (
           t,
           record {
-            read = b.read ++ (bytes ++ 10 ∷ []);
-            script = script_push b.read bytes turns t b.script is (said_here t added.is);
+            read = b.read ++ whole;
+            script = script_push b.read line.line turns t b.script line.one (said_here t added.is);
             taken = taken_more;
-            count = lines_are ∙ ap (λ (n : ℕ). n + 1) b.count ∙ sym (length-append turns (t ∷ []));
+            count = line.count ∙ ap (λ (n : ℕ). n + 1) b.count ∙ sym (length-append turns (t ∷ []));
             size = read_more;
             within = within_more;
             most = most;
@@ -224,37 +259,130 @@ module _ {D E : Type 0} (T : Type 0) (L : Ghosts D) (V : vaults.Ghosts E) (start
         )
 
     -- the sink fails within a turn's lines
-    pub fell : (now : D) (vault' : E) (H' : Stage → Type 0) (safe' : (s : Stage) → H' s → Safe T L now s) (out done rest : List ℕ)
-        → Adds L.tells (Beside V first vault' H') (stage start turns) c out → out ≡ done ++ rest → (told' : Option (List ℕ)) → Appends told told' done → Ends now vault' told' statuses.SinkFault
-    fell now vault' H' safe' out done rest added cut told' wrote =
+    pub fell : (now : D) (vault' : E) (H' : Stage → Type 0) → ((s : Stage) → H' s → Safe T L now s) → (out done rest : List ℕ) → Adds L.tells (Beside V first vault' H') (stage start turns) c out → out ≡ done ++ rest → (told' : Option (List ℕ)) → Appends told told' done → Ends now vault' told' statuses.SinkFault
+    fell now vault' H' safe out done rest added cut told' wrote =
         let t : Turn = added.turn in
-        let whole : text start (turns ++ t ∷ []) ≡ (text start turns ++ done) ++ rest = text_push start turns t ∙ ap (λ (x : List ℕ). text start turns ++ x) (sym added.lines ∙ cut) ∙ sym (append_assoc (text start turns) done rest) in
+        let all : text start (turns ++ t ∷ []) ≡ (text start turns ++ done) ++ rest = text_push start turns t ∙ ap (λ (x : List ℕ). text start turns ++ x) (sym added.lines ∙ cut) ∙ sym (append_assoc (text start turns) done rest) in
         let at = subst (Beside V first vault' H') (sym (stage_push start turns t)) added.holds in
-        let then = safe' (stage start (turns ++ t ∷ [])) at.here in
+        let then = safe (stage start (turns ++ t ∷ [])) at.here in
         record {
           turns = turns ++ t ∷ [];
-          read = b.read ++ (bytes ++ 10 ∷ []);
+          read = b.read ++ whole;
           rest = [];
           written = text start turns ++ done;
           taken = taken_whole;
           within = within_more;
           most = omega (arith, most, read_more);
           ran = record {
-            script = script_push b.read bytes turns t b.script is (said_here t added.is);
+            script = script_push b.read line.line turns t b.script line.one (said_here t added.is);
             fits = fits_push L.tells start turns t b.fits added.fits;
             right = then.right;
           };
           cut = then.goes;
           wrote = Appends-trans _ _ _ (text start turns) done b.wrote wrote;
-          ended = (turns, t ∷ [], omega arith, refl, (done, refl), (rest, whole));
+          ended = (turns, t ∷ [], omega arith, refl, (done, refl), (rest, all));
           back = record { leaves = then.leaves; bytes = then.bytes; stored = at.vault };
         }
+
+    -- the line asks for a stop
+    pub stops : (disk : D) → Safe T L disk (stage start turns) → (keep : Option ℕ) (out : List ℕ) → c ≡ commands.Stop keep → out ≡ codes "stop\n" → Stopping T L V start disk first vault left0 told0 new turns ln told keep out
+    stops disk safe keep out stop text = record {
+      text = text;
+      old = old;
+      left_old = lo;
+      before = between_as (Safe T L disk) safe b;
+      most = most;
+      line = line.line;
+      took = line.took;
+      one = line.one;
+      said = line.said ∙ ap (λ (x : Command). Some x) stop;
+      size = line.size;
+      within = line.within;
+      count = line.count;
+    }
+
+    -- want of memory for the lines of a stop
+    pub lacks_memory : (disk : D) → Safe T L disk (stage start turns) → Ends disk vault told statuses.Memory
+    lacks_memory disk safe = no_memory disk safe whole line.took (omega (arith, line.size, length-append line.line (10 ∷ [])))
+
+    -- ---- a command that ends the run
+
+    -- behind a turn of it, whose lines aren't written
+    turned_off : (now : D) (status : Status) (t : Turn) → t.command ≡ c → FitsAt L.tells (stage start turns) t → (L.tells → All IsRightLife (lives (stage_step (stage start turns) t))) → Leaves L now (stage_step (stage start turns) t)
+        → (stage_step (stage start turns) t).cycled ≡ (stage start turns).cycled → bytes_after (stage_step (stage start turns) t).life (stage_step (stage start turns) t).bytes ≡ bytes_after (stage start turns).life (stage start turns).bytes
+        → MayCut status (stage_step (stage start turns) t).cut → Ended L start status (turns ++ t ∷ []) (b.read ++ whole) [] (text start turns) (to_come new ln) → IsKnown now → Ends now vault told status
+    turned_off now status t same fits right leaves vault_is bytes_are cut ended known = record {
+      turns = turns ++ t ∷ [];
+      read = b.read ++ whole;
+      rest = [];
+      written = text start turns;
+      taken = taken_whole;
+      within = within_more;
+      most = omega (arith, most, read_more);
+      ran = record {
+        script = script_push b.read line.line turns t b.script line.one (said_here t same);
+        fits = fits_push L.tells start turns t b.fits fits;
+        right = λ u. subst (λ (z : Stage). All IsRightLife (lives z)) (sym (stage_push start turns t)) (right u);
+      };
+      cut = subst (λ (z : Stage). MayCut status z.cut) (sym (stage_push start turns t)) cut;
+      wrote = b.wrote;
+      ended = ended;
+      back = subst (HandsBack T L V now first vault) (sym (stage_push start turns t)) (record {
+        leaves = leaves;
+        bytes = subst (λ (z : Bytes). Known T L z now) (sym bytes_are) known;
+        stored = subst (IsVault V first vault) (sym vault_is) b.holds.vault;
+      });
+    }
+
+    -- a cut turn has no lines
+    cut_text : (es : List Entry) → text start turns ≡ text start (turns ++ turn c es Cut ∷ [])
+    cut_text es = sym (text_push start turns (turn c es Cut) ∙ append-nil (text start turns))
+
+    -- a status cuts the command off
+    cut_off : (now : D) (status : Status) → MayCut status true → ((cut : CutAt L now (stage start turns) c) → Ended L start status (turns ++ turn c cut.entries Cut ∷ []) (b.read ++ whole) [] (text start turns) (to_come new ln)) → CutAt L now (stage start turns) c → IsKnown now → Ends now vault told status
+    cut_off now status may ended cut known =
+        let s = stage start turns in
+        turned_off now status (turn c cut.entries Cut) refl cut.fits cut.right cut.leaves (cut_vault s c cut.entries) (cut_bytes s c cut.entries) may (ended cut) known
+
+    -- want of memory for the lines of a turn
+    lacks_lines : (now : D) → LacksLines L now (stage start turns) c → IsKnown now → Ends now vault told statuses.Memory
+    lacks_lines now lacks known =
+        let s = stage start turns in
+        let still = life_still s lacks.here lacks.turn lacks.life (subst IsOfLife (sym lacks.is) lacks.kind) in
+        turned_off now statuses.Memory lacks.turn lacks.is lacks.fits lacks.right lacks.leaves still.0 still.1 tt
+        (turns, lacks.turn ∷ [], omega arith, refl, prefix_self (text start turns), (lines s lacks.turn, text_push start turns lacks.turn)) known
+
+    pub refused : AreRight → (stage start turns).cut ≡ false → (now : D) (n : ℕ) (status : Status) → n ≡ old.lines + 1 → is_built line.line ≡ true → RefusesAt L now (stage start turns) c n status → IsKnown now → Ends now vault told status
+    refused right goes now n status is built why known = by status why
+      where
+        next : IsNext (length b.read) whole line.line
+        next = record { is = refl; one = line.one; within = omega (arith, line.within, line.size, b.size, length-append line.line (10 ∷ [])) }
+
+        stop_with : (status : Status) → MayCut status false → Ended L start status turns b.read whole (text start turns) (to_come new ln) → Leaves L now (stage start turns) → Ends now vault told status
+        stop_with status cut ended leaves = stop right goes now whole status cut line.took (omega (arith, line.size, length-append line.line (10 ∷ []))) ended (record { leaves = leaves; bytes = known; stored = b.holds.vault })
+
+        by : (status : Status) → RefusesAt L now (stage start turns) c n status → Ends now vault told status
+        by statuses.Memory why = ⊎_elim (λ (left : Leaves L now (stage start turns)). stop_with statuses.Memory tt (all_of start turns) left) (λ lacks. lacks_lines now lacks known) why
+        by (statuses.Script m) why = stop_with (statuses.Script m) refl (refl, why.0 ∙ at_line n is, inl (line.line, next, built, subst (Unlawful (stage start turns)) (sym line.said) why.1)) why.2
+        by (statuses.NotBuilt m) why =
+            stop_with (statuses.NotBuilt m) refl (refl, why.0 ∙ at_line n is, inr (of_command (λ d. (is_lawful (stage start turns) d ≡ true) × IsNotBuilt d) (length b.read) line.line whole c next line.said (why.1, why.2))) why.3
+        by statuses.LogFault why = cut_off now statuses.LogFault refl (λ cut. cut_text cut.entries) why known
+        by (statuses.BlockBad block byte) why = cut_off now (statuses.BlockBad block byte) refl (λ cut. (cut_text cut.entries, why.1)) why.0 known
+        by (statuses.LogBad block byte) why = stop_with (statuses.LogBad block byte) refl (refl, of_command IsOpen (length b.read) line.line whole c next line.said why.0, why.1) (λ t. absurd (why.1 t))
+        by statuses.NotFormatted why = stop_with statuses.NotFormatted refl (refl, of_command IsOpen (length b.read) line.line whole c next line.said why.0, why.1) why.2
+        by statuses.AlreadyFormatted why = stop_with statuses.AlreadyFormatted refl (refl, of_command IsFormat (length b.read) line.line whole c next line.said why.0, why.1) why.2
+        by _ why = absurd why
+
+-- want of memory where nothing more was read
+pub ends_here : {D E : Type 0} {start : Start} {V : vaults.Ghosts E} {first vault : E} {H : Stage → Type 0} {left0 told0 left told : Option (List ℕ)} {reader : Reader} {turns : List Turn} (T : Type 0) (L : Ghosts D) (disk : D)
+    (b : Between L.tells start (Beside V first vault H) left0 told0 reader turns left told) → Safe T L disk (stage start turns) → Headline T L V start disk first vault left0 reader.pending left told0 told statuses.Memory
+ends_here {left = left} {reader = reader} T L disk b safe = no_memory T L reader left b b.most disk safe [] (Consumes-nil (to_come reader left)) (omega arith)
 
 -- all is written
 pub all_written : (told told' : Option (List ℕ)) (out done rest : List ℕ) → out ≡ done ++ rest → rest ≡ [] → Appends told told' done → Appends told told' out
 all_written told told' out done rest cut all part = subst (Appends told told') (sym (append-nil done) ∙ ap (λ (x : List ℕ). done ++ x) (sym all) ∙ sym cut) part
 
-pub nothing_pending : (left : Option (List ℕ)) → to_come first_reader left ≡ left
+nothing_pending : (left : Option (List ℕ)) → to_come first_reader left ≡ left
 nothing_pending None = refl
 nothing_pending (Some bytes) = refl
 
@@ -278,7 +406,7 @@ module _ {D E : Type 0} (T : Type 0) (L : Ghosts D) (V : vaults.Ghosts E) (start
   abbrev NotRun : Option (List ℕ) → Option (List ℕ) → Status → Type 0
   NotRun left told status = (pending : List ℕ) × Headline T L V start disk vault vault left pending left told told status
 
-  not_begun : (left told : Option (List ℕ)) (status : Status) → cuts status ≡ false → Ended L start disk status [] [] [] [] (prepend_known [] left) → Leaves L disk (begin_stage start) → Known T L start.bytes disk → NotRun left told status
+  not_begun : (left told : Option (List ℕ)) (status : Status) → MayCut status false → Ended L start status [] [] [] [] (prepend_known [] left) → Leaves L disk (begin_stage start) → Known T L start.bytes disk → NotRun left told status
   unfolding Fits AllAlong stage text along
   not_begun left told status whole ended leaves known = (
     [],
@@ -291,7 +419,7 @@ module _ {D E : Type 0} (T : Type 0) (L : Ghosts D) (V : vaults.Ghosts E) (start
       within = omega arith;
       most = omega arith;
       ran = record { script = refl; fits = tt; right = λ _. All-nil IsRightLife };
-      cut = sym whole;
+      cut = whole;
       wrote = Appends-nil told;
       ended = ended;
       back = record { leaves = leaves; bytes = known; stored = vault_first V vault };
@@ -309,7 +437,7 @@ module _ {D E : Type 0} (T : Type 0) (L : Ghosts D) (V : vaults.Ghosts E) (start
   not_generated left told leaves known = not_begun left told statuses.NoGenerator refl (refl, refl, refl, refl) leaves known
 
   pub no_buffer : (left told : Option (List ℕ)) → Leaves L disk (begin_stage start) → Known T L start.bytes disk → NotRun left told statuses.Memory
-  no_buffer left told leaves known = not_begun left told statuses.Memory refl nothing_written leaves known
+  no_buffer left told leaves known = not_begun left told statuses.Memory tt nothing_written leaves known
 
   pub ran_whole : (vault' : E) (left left' told told' : Option (List ℕ)) (old new : Reader) (status : Status) → old ≡ first_reader → Headline T L V start disk vault vault' (to_come old left) new.pending left' told told' status
       → (pending : List ℕ) × Headline T L V start disk vault vault' left pending left' told told' status

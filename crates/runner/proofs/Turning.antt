@@ -6,9 +6,9 @@ use Rattle.wal_record.proofs.Along.{along_push, AllAlong_back}
 use Rattle.script.specs.declared.command.Command.{Command}
 use Rattle.script.specs.Line.{reads}
 use Rattle.line_reader.specs.Lines.{IsLine}
-use Rattle.runner.specs.Rows.{Fits, FitsAt, fits_after}
-use Rattle.runner.specs.Turns.{Start, Turn, stage, stage_step, begin_stage}
-use Rattle.runner.specs.Text.{text, lines}
+use Rattle.life_commands.specs.Rows.{Fits, FitsAt, fits_after}
+use Rattle.life_commands.specs.Turns.{Start, Turn, stage, stage_step, begin_stage}
+use Rattle.life_commands.specs.Text.{lines, text}
 use Rattle.runner.specs.Clause.{Script, command_of}
 
 pub stage_push : (start : Start) (turns : List Turn) (t : Turn) → stage start (turns ++ t ∷ []) ≡ stage_step (stage start turns) t

@@ -1,14 +1,14 @@
 -- What becomes of the vault in a run.
-use Rattle.std.proofs.Common.{◌≡◌, ◌⊎◌, inl, inr, ℕ, List, Option, Bool, true, false, refl, sym, subst, ◌∙◌}
+use Rattle.std.proofs.Common.{◌≡◌, ◌⊎◌, ⊎_elim, inl, inr, ℕ, List, Option, Bool, true, false, refl, sym, subst, ◌∙◌}
 use Rattle.media.specs.Objects.{Stored, Absent, Unsynced, Synced, MayLeave}
 use Rattle.media.specs.declared.vault.Vault as vaults
 use Rattle.script.specs.declared.command.Command.{Command}
 use Rattle.script.specs.declared.command.Command.TheVariants as commands
 use Rattle.wal_record.specs.declared.entry.Entry.{Entry}
 use Rattle.wal_record.specs.declared.record.Record.{Record}
-use Rattle.runner.specs.Machine.{Adds}
-use Rattle.runner.specs.Rows.{Row, IsNoStop}
-use Rattle.runner.specs.Turns.{End, Done, TooMany, LogFault, VaultFault, Ended, Cut, Stage, stage_after}
+use Rattle.life_commands.specs.Living.{Adds}
+use Rattle.life_commands.specs.Rows.{Row, IsNoStop}
+use Rattle.life_commands.specs.Turns.{End, Done, TooMany, LogFault, VaultFault, Ended, Cut, Figures, Stage, stage_after}
 use Rattle.runner.specs.Vault.{IsCycled, IsVault, Cycles, Beside}
 
 may_self : (x : Stored) → MayLeave x x
@@ -25,20 +25,50 @@ may_trans (Synced bytes) y z a b = subst (λ (w : Stored). MayLeave w z) a b
 uncycled : (s : Stage) (c : Command) (es : List Entry) (found : List Record) (end : End) → IsNoStop c → (stage_after s c es found end).cycled ≡ s.cycled
 uncycled s (commands.Stop keep) es found end h = absurd h
 uncycled s (commands.Format limit) es found Done h = refl
-uncycled s (commands.Format limit) es found (LogFault n) h = refl
 uncycled s (commands.Format limit) es found TooMany h = refl
+uncycled s (commands.Format limit) es found (LogFault n) h = refl
 uncycled s (commands.Format limit) es found VaultFault h = refl
 uncycled s (commands.Format limit) es found (Ended n) h = refl
 uncycled s (commands.Format limit) es found Cut h = refl
+uncycled s commands.Open es found Done h = refl
+uncycled s commands.Open es found TooMany h = refl
+uncycled s commands.Open es found (LogFault n) h = refl
+uncycled s commands.Open es found VaultFault h = refl
+uncycled s commands.Open es found (Ended n) h = refl
+uncycled s commands.Open es found Cut h = refl
+uncycled s (commands.Begin name) es found Done h = refl
+uncycled s (commands.Begin name) es found TooMany h = refl
+uncycled s (commands.Begin name) es found (LogFault n) h = refl
+uncycled s (commands.Begin name) es found VaultFault h = refl
+uncycled s (commands.Begin name) es found (Ended n) h = refl
+uncycled s (commands.Begin name) es found Cut h = refl
+uncycled s (commands.Ask name request) es found Done h = refl
+uncycled s (commands.Ask name request) es found TooMany h = refl
+uncycled s (commands.Ask name request) es found (LogFault n) h = refl
+uncycled s (commands.Ask name request) es found VaultFault h = refl
+uncycled s (commands.Ask name request) es found (Ended n) h = refl
+uncycled s (commands.Ask name request) es found Cut h = refl
 uncycled s (commands.Commit name) es found Done h = refl
-uncycled s (commands.Commit name) es found (LogFault n) h = refl
 uncycled s (commands.Commit name) es found TooMany h = refl
+uncycled s (commands.Commit name) es found (LogFault n) h = refl
 uncycled s (commands.Commit name) es found VaultFault h = refl
 uncycled s (commands.Commit name) es found (Ended n) h = refl
 uncycled s (commands.Commit name) es found Cut h = refl
+uncycled s (commands.Abort name) es found Done h = refl
+uncycled s (commands.Abort name) es found TooMany h = refl
+uncycled s (commands.Abort name) es found (LogFault n) h = refl
+uncycled s (commands.Abort name) es found VaultFault h = refl
+uncycled s (commands.Abort name) es found (Ended n) h = refl
+uncycled s (commands.Abort name) es found Cut h = refl
+uncycled s commands.Checkpoint es found Done h = refl
+uncycled s commands.Checkpoint es found TooMany h = refl
+uncycled s commands.Checkpoint es found (LogFault n) h = refl
+uncycled s commands.Checkpoint es found VaultFault h = refl
+uncycled s commands.Checkpoint es found (Ended n) h = refl
+uncycled s commands.Checkpoint es found Cut h = refl
 uncycled s _ es found Done h = refl
-uncycled s _ es found (LogFault n) h = refl
 uncycled s _ es found TooMany h = refl
+uncycled s _ es found (LogFault n) h = refl
 uncycled s _ es found VaultFault h = refl
 uncycled s _ es found (Ended n) h = refl
 uncycled s _ es found Cut h = refl
@@ -51,13 +81,13 @@ kind (commands.Stop keep) = inl (keep, refl)
 kind _ = inr tt
 
 -- a stop that fits is done
-cycled : (tells : Type 0) (s : Stage) (keep : Option ℕ) (es : List Entry) (found : List Record) (end : End) → Row tells s (commands.Stop keep) es found end → (stage_after s (commands.Stop keep) es found end).cycled ≡ true
-cycled tells s keep es found Done row = refl
-cycled tells s keep es found TooMany row = absurd (let x = row.1 in cc)
-cycled tells s keep es found (LogFault n) row = absurd row.1.calls
-cycled tells s keep es found VaultFault row = absurd row.1.calls
-cycled tells s keep es found (Ended n) row = absurd row.1
-cycled tells s keep es found Cut row = absurd row.calls
+cycled : (tells : Type 0) (s : Stage) (keep : Option ℕ) (es : List Entry) (found : List Record) (figures : Figures) (end : End) → Row tells s (commands.Stop keep) es found figures end → (stage_after s (commands.Stop keep) es found end).cycled ≡ true
+cycled tells s keep es found figures Done row = refl
+cycled tells s keep es found figures TooMany row = absurd (let x = row.1 in cc)
+cycled tells s keep es found figures (LogFault n) row = absurd row.1
+cycled tells s keep es found figures VaultFault row = absurd row.1
+cycled tells s keep es found figures (Ended n) row = absurd row.1
+cycled tells s keep es found figures Cut row = ⊎_elim (λ x. absurd x) (λ x. absurd x) row.0
 
 module _ {E : Type 0} (V : vaults.Ghosts E) where
   cycled_self : (a : E) → IsCycled V a a
@@ -79,12 +109,12 @@ module _ {E : Type 0} (V : vaults.Ghosts E) where
   left_same (commands.Stop keep) old new h same = absurd h
   left_same _ old new h same = same
 
-  vault_after : (tells : Type 0) (first old new : E) (s : Stage) (c : Command) (es : List Entry) (found : List Record) (end : End) → Row tells s c es found end → Cycles V c old new → IsVault V first old s.cycled → IsVault V first new (stage_after s c es found end).cycled
-  vault_after tells first old new s c es found end row cycles h = by (kind c) row cycles
+  vault_after : (tells : Type 0) (first old new : E) (s : Stage) (c : Command) (es : List Entry) (found : List Record) (figures : Figures) (end : End) → Row tells s c es found figures end → Cycles V c old new → IsVault V first old s.cycled → IsVault V first new (stage_after s c es found end).cycled
+  vault_after tells first old new s c es found figures end row cycles h = by (kind c) row cycles
     where
-      by : IsStop c ⊎ IsNoStop c → Row tells s c es found end → Cycles V c old new → IsVault V first new (stage_after s c es found end).cycled
+      by : IsStop c ⊎ IsNoStop c → Row tells s c es found figures end → Cycles V c old new → IsVault V first new (stage_after s c es found end).cycled
       by (inl (keep, is)) row cycles = subst (λ (x : Command). IsVault V first new (stage_after s x es found end).cycled) (sym is)
-          (cycled_vault first old new s.cycled _ (subst (λ (x : Command). Cycles V x old new) is cycles) (cycled tells s keep es found end (subst (λ (x : Command). Row tells s x es found end) is row)) h)
+          (cycled_vault first old new s.cycled _ (subst (λ (x : Command). Cycles V x old new) is cycles) (cycled tells s keep es found figures end (subst (λ (x : Command). Row tells s x es found figures end) is row)) h)
       by (inr go) row cycles = same_vault first old new s.cycled _ (left_same c old new go cycles) (uncycled s c es found end go) h
 
   -- a command that is done, with the vault beside it
@@ -93,7 +123,7 @@ module _ {E : Type 0} (V : vaults.Ghosts E) where
     turn = a.turn;
     is = a.is;
     fits = a.fits;
-    holds = record { here = a.holds; vault = vault_after tells first old new s a.turn.command a.turn.entries a.turn.found a.turn.end a.fits.row (subst (λ (x : Command). Cycles V x old new) (sym a.is) cycles) h };
+    holds = record { here = a.holds; vault = vault_after tells first old new s a.turn.command a.turn.entries a.turn.found a.turn.figures a.turn.end a.fits.row (subst (λ (x : Command). Cycles V x old new) (sym a.is) cycles) h };
     lines = a.lines;
   }
 

@@ -3,6 +3,7 @@ use Rattle.std.specs.Prelude.{◌≡◌, ◌≢◌, ◌≤◌, ℕ, []}
 use Rattle.log_blocks.specs.Log.{StandsFor}
 use Rattle.media.specs.Cause.{Rose}
 use Rattle.media.specs.declared.disk.Disk.{Ghosts}
+use Rattle.page_ops.specs.Seeing.{Calls}
 use Rattle.runner.specs.declared.at.At.{At}
 use Rattle.runner.specs.declared.at.At.TheVariants.{Outside, Inside}
 use Rattle.runner.specs.declared.at.Stepped.{Stepped}
@@ -13,10 +14,10 @@ use Rattle.runner.specs.declared.turns.Passed.{Passed}
 use Rattle.runner.specs.declared.turns.Passed.TheVariants as passes
 use Rattle.runner.specs.declared.living.Lived.{Lived}
 use Rattle.runner.specs.declared.living.Lived.TheVariants as ways
-use Rattle.runner.specs.declared.status.Status.{Status}
-use Rattle.runner.specs.declared.status.Status.TheVariants as statuses
-use Rattle.runner.specs.Bytes.{IsFormatted}
-use Rattle.runner.specs.LogDisk.{IsBadLog}
+use Rattle.life_commands.specs.declared.status.Status.{Status}
+use Rattle.life_commands.specs.declared.status.Status.TheVariants as statuses
+use Rattle.life_commands.specs.Bytes.{IsFormatted}
+use Rattle.opening.specs.Bytes.{IsBadLog}
 
 -- a fault of the log disk comes only where that disk's own count rose, and no stream's fault comes, and nothing that the words decide
 abbrev pub LogCause : ℕ → ℕ → Status → Type 0
@@ -28,19 +29,6 @@ LogCause before now statuses.NoGenerator = ⊥
 LogCause before now statuses.Done = ⊥
 LogCause before now _ = Unit {0}
 
--- the same of a command in a life, which makes and opens no log
-abbrev pub LifeCause : ℕ → ℕ → Status → Type 0
-LifeCause before now statuses.LogFault = Rose before now
-LifeCause before now statuses.SourceFault = ⊥
-LifeCause before now statuses.SinkFault = ⊥
-LifeCause before now statuses.Usage = ⊥
-LifeCause before now statuses.NoGenerator = ⊥
-LifeCause before now statuses.Done = ⊥
-LifeCause before now statuses.AlreadyFormatted = ⊥
-LifeCause before now statuses.NotFormatted = ⊥
-LifeCause before now (statuses.LogBad block byte) = ⊥
-LifeCause before now _ = Unit {0}
-
 -- the same of the next line: no fault of the log disk or of the sink
 abbrev pub LineCause : ℕ → ℕ → Status → Type 0
 LineCause before now statuses.SourceFault = Rose before now
@@ -48,6 +36,15 @@ LineCause before now statuses.Memory = Unit {0}
 LineCause before now (statuses.Script line) = Unit {0}
 LineCause before now (statuses.NotBuilt line) = Unit {0}
 LineCause before now _ = ⊥
+
+-- a status with which a line of a life may end the run
+abbrev pub IsOfALife : Status → Type 0
+IsOfALife statuses.Usage = ⊥
+IsOfALife statuses.NoGenerator = ⊥
+IsOfALife statuses.AlreadyFormatted = ⊥
+IsOfALife statuses.NotFormatted = ⊥
+IsOfALife (statuses.LogBad block byte) = ⊥
+IsOfALife _ = Unit {0}
 
 -- of a whole run: each fault of a device comes only where its own count rose
 pub record RunCause (source0 source1 sink0 sink1 log0 log1 : ℕ) (status : Status) : Type 0 where
@@ -78,15 +75,15 @@ TurnedCause L device disk source0 source1 sink0 sink1 (turns.Goes at) = L.own di
 TurnedCause L device disk source0 source1 sink0 sink1 (turns.Ends status left) = (L.own disk ≤ L.own left) × RunCause source0 source1 sink0 sink1 (L.own disk) (L.own left) status
     × Shows L left status × (status ≢ statuses.Usage) × (status ≢ statuses.NoGenerator)
 
--- the same of a line within a life
-abbrev pub PassedCause : {D : Type 0} → Ghosts D → D → D → ℕ → ℕ → ℕ → ℕ → Passed → Type 0
-PassedCause L old new source0 source1 sink0 sink1 (passes.Ends status) = (L.own old ≤ L.own new) × RunCause source0 source1 sink0 sink1 (L.own old) (L.own new) status
-    × Shows L new status × (status ≢ statuses.Usage) × (status ≢ statuses.NoGenerator)
-PassedCause L old new source0 source1 sink0 sink1 _ = L.own old ≤ L.own new
+-- The same of a line within a life, by what is known of its log disk's calls. A life shows nothing of a disk that isn't told.
+abbrev pub PassedCause : Calls → Calls → ℕ → ℕ → ℕ → ℕ → Passed → Type 0
+PassedCause old new source0 source1 sink0 sink1 (passes.Ends status) = (old.own ≤ new.own) × RunCause source0 source1 sink0 sink1 old.own new.own status × IsOfALife status
+PassedCause old new source0 source1 sink0 sink1 _ = old.own ≤ new.own
 
-abbrev pub LivedCause : {D : Type 0} → Ghosts D → D → ℕ → ℕ → ℕ → ℕ → Lived D → Type 0
-LivedCause L disk source0 source1 sink0 sink1 (ways.Stopped left) = L.own disk ≤ L.own left
-LivedCause L disk source0 source1 sink0 sink1 (ways.Ends status left) = (L.own disk ≤ L.own left) × RunCause source0 source1 sink0 sink1 (L.own disk) (L.own left) status
+-- of a life, before which the log disk had failed by itself so often
+abbrev pub LivedCause : {D : Type 0} → Ghosts D → ℕ → ℕ → ℕ → ℕ → ℕ → Lived D → Type 0
+LivedCause L before source0 source1 sink0 sink1 (ways.Stopped left) = before ≤ L.own left
+LivedCause L before source0 source1 sink0 sink1 (ways.Ends status left) = (before ≤ L.own left) × RunCause source0 source1 sink0 sink1 before (L.own left) status
     × Shows L left status × (status ≢ statuses.Usage) × (status ≢ statuses.NoGenerator)
 
 -- a status that the script asks for, where no device fails; or want of memory
@@ -97,4 +94,5 @@ IsAsked statuses.SourceFault = ⊥
 IsAsked statuses.SinkFault = ⊥
 IsAsked statuses.LogFault = ⊥
 IsAsked (statuses.LogBad block byte) = ⊥
+IsAsked (statuses.BlockBad block byte) = ⊥
 IsAsked _ = Unit {0}

@@ -11,22 +11,23 @@ use Rattle.script.specs.declared.command.Command.TheVariants as commands
 use Rattle.script.specs.Line.{reads}
 use Rattle.line_reader.specs.Lines.{Reader, to_come, longest_script, IsBounded, IsLine, IsNoLine}
 use Rattle.line_reader.specs.Built.{is_built}
-use Rattle.runner.specs.Bytes.{Known}
-use Rattle.runner.specs.Rows.{Fits, is_lawful}
-use Rattle.runner.specs.Turns.{Start, Turn, Stage, stage, bytes_after, IsRightLife, MayFind, lives}
-use Rattle.runner.specs.Refusals.{IsNotBuilt, IsSplit, IsOpen, IsFormat, FindsLog}
-use Rattle.runner.specs.Status.{cuts}
-use Rattle.runner.specs.Text.{text}
-use Rattle.runner.specs.declared.status.Status.{Status}
-use Rattle.runner.specs.declared.status.Status.TheVariants as statuses
+use Rattle.life_commands.specs.Bytes.{Known}
+use Rattle.life_commands.specs.Rows.{Fits, is_lawful}
+use Rattle.life_commands.specs.Turns.{Start, Turn, Stage, stage, bytes_after, IsRightLife, MayFind, lives}
+use Rattle.life_commands.specs.Refusals.{IsNotBuilt, IsOpen, IsFormat, FindsLog}
+use Rattle.runner.specs.Cuts.{MayCut}
+use Rattle.life_commands.specs.Text.{text}
+use Rattle.life_commands.specs.declared.status.Status.{Status}
+use Rattle.life_commands.specs.declared.status.Status.TheVariants as statuses
 use Rattle.runner.specs.declared.turns.Turned.{Turned}
 use Rattle.runner.specs.declared.turns.Turned.TheVariants as results
 use Rattle.runner.specs.declared.turns.Passed.{Passed}
 use Rattle.runner.specs.declared.turns.Passed.TheVariants as passes
 use Rattle.runner.specs.declared.living.Lived.{Lived}
 use Rattle.runner.specs.declared.living.Lived.TheVariants as ways
-use Rattle.runner.specs.LogDisk.{Leaves}
-use Rattle.runner.specs.Machine.{Out, Safe, IsAt}
+use Rattle.life_commands.specs.LogDisk.{Leaves}
+use Rattle.runner.specs.Machine.{Out, IsAt}
+use Rattle.life_commands.specs.Living.{Safe}
 use Rattle.runner.specs.Vault.{IsVault, Beside}
 
 -- the bytes are the lines of these commands
@@ -74,26 +75,24 @@ BadLine s taken rest left = ((line : List ℕ) × IsNext taken rest line × (is_
 abbrev pub NextLine : (Command → Type 0) → ℕ → List ℕ → Type 0
 NextLine P taken rest = (line : List ℕ) × IsNext taken rest line × OfCommand P (reads line)
 
-abbrev pub NotBuiltLine : {D : Type 0} → Ghosts D → D → Stage → ℕ → List ℕ → Type 0
-NotBuiltLine L disk s taken rest = ((line : List ℕ) × IsNext taken rest line × (is_built line ≡ false)) ⊎ NextLine (λ c. (is_lawful s c ≡ true) × IsNotBuilt L disk s c) taken rest
+abbrev pub NotBuiltLine : Stage → ℕ → List ℕ → Type 0
+NotBuiltLine s taken rest = ((line : List ℕ) × IsNext taken rest line × (is_built line ≡ false)) ⊎ NextLine (λ c. (is_lawful s c ≡ true) × IsNotBuilt c) taken rest
 
--- by the status: what was written of the turns' text, and why the run ended; the log disk was handed in as this use left
--- it, and is handed back so
-abbrev pub Ended : {D : Type 0} → Ghosts D → Start → D → Status → List Turn → List ℕ → List ℕ → List ℕ → Option (List ℕ) → Type 0
-Ended L start disk statuses.Done turns read rest written left = (written ≡ text start turns) × (rest ≡ []) × IsAtEnd left
-Ended L start disk statuses.Memory turns read rest written left = Partly start turns written
-Ended L start disk statuses.Usage turns read rest written left = (turns ≡ []) × (read ≡ []) × (rest ≡ []) × (written ≡ [])
-Ended L start disk statuses.NoGenerator turns read rest written left = (turns ≡ []) × (read ≡ []) × (rest ≡ []) × (written ≡ [])
-Ended L start disk (statuses.Script line) turns read rest written left = (written ≡ text start turns) × (line ≡ length turns + 1) × BadLine (stage start turns) (length read) rest left
-Ended L start disk statuses.SourceFault turns read rest written left = written ≡ text start turns
-Ended L start disk statuses.SinkFault turns read rest written left = Partly start turns written
-Ended L start disk statuses.LogFault turns read rest written left = written ≡ text start turns
-Ended L start disk (statuses.LogBad block byte) turns read rest written left = (written ≡ text start turns) × NextLine IsOpen (length read) rest × (L.tells → ⊥)
-Ended L start disk statuses.NotFormatted turns read rest written left = (written ≡ text start turns) × NextLine IsOpen (length read) rest × (L.tells → MayFind (stage start turns).last [])
-Ended L start disk statuses.AlreadyFormatted turns read rest written left = (written ≡ text start turns) × NextLine IsFormat (length read) rest × (L.tells → FindsLog (stage start turns).last)
-Ended L start disk (statuses.NotBuilt line) turns read rest written left = (written ≡ text start turns) × (line ≡ length turns + 1) × NotBuiltLine L disk (stage start turns) (length read) rest
-Ended L start disk (statuses.NoSplit line) turns read rest written left = (written ≡ text start turns) × (line ≡ length turns + 1)
-    × NextLine (λ c. (is_lawful (stage start turns) c ≡ true) × IsSplit L.tells (stage start turns) c) (length read) rest
+-- by the status: what was written of the turns' text, and why the run ended; the log disk was handed in as this use left it
+abbrev pub Ended : {D : Type 0} → Ghosts D → Start → Status → List Turn → List ℕ → List ℕ → List ℕ → Option (List ℕ) → Type 0
+Ended L start statuses.Done turns read rest written left = (written ≡ text start turns) × (rest ≡ []) × IsAtEnd left
+Ended L start statuses.Memory turns read rest written left = Partly start turns written
+Ended L start statuses.Usage turns read rest written left = (turns ≡ []) × (read ≡ []) × (rest ≡ []) × (written ≡ [])
+Ended L start statuses.NoGenerator turns read rest written left = (turns ≡ []) × (read ≡ []) × (rest ≡ []) × (written ≡ [])
+Ended L start (statuses.Script line) turns read rest written left = (written ≡ text start turns) × (line ≡ length turns + 1) × BadLine (stage start turns) (length read) rest left
+Ended L start statuses.SourceFault turns read rest written left = written ≡ text start turns
+Ended L start statuses.SinkFault turns read rest written left = Partly start turns written
+Ended L start statuses.LogFault turns read rest written left = written ≡ text start turns
+Ended L start (statuses.BlockBad block byte) turns read rest written left = (written ≡ text start turns) × (L.tells → ⊥)
+Ended L start (statuses.LogBad block byte) turns read rest written left = (written ≡ text start turns) × NextLine IsOpen (length read) rest × (L.tells → ⊥)
+Ended L start statuses.NotFormatted turns read rest written left = (written ≡ text start turns) × NextLine IsOpen (length read) rest × (L.tells → MayFind (stage start turns).last [])
+Ended L start statuses.AlreadyFormatted turns read rest written left = (written ≡ text start turns) × NextLine IsFormat (length read) rest × (L.tells → FindsLog (stage start turns).last)
+Ended L start (statuses.NotBuilt line) turns read rest written left = (written ≡ text start turns) × (line ≡ length turns + 1) × NotBuiltLine (stage start turns) (length read) rest
 
 -- The devices that are handed back, and the vault that was handed in. The log disk keeps a log that may be found next: of an
 -- open life a member of what a stop may leave.
@@ -116,10 +115,10 @@ pub record Headline {D E : Type 0} (tells : Type 0) (L : Ghosts D) (V : vaults.G
   pub within : length read ≤ longest_script
   pub most : length read + length rest + length pending ≤ longest_script + 1
   pub ran : Ran L.tells start read turns
-  -- a status cuts a command off where the log disk itself failed, and nowhere else
-  pub cut : (stage start turns).cut ≡ cuts status
+  -- whether the status has cut the last command off
+  pub cut : MayCut status (stage start turns).cut
   pub wrote : Appends told0 told written
-  pub ended : Ended L start disk status turns read rest written (prepend_known pending left)
+  pub ended : Ended L start status turns read rest written (prepend_known pending left)
   pub back : HandsBack tells L V disk first vault (stage start turns)
 
 -- between two turns: what was read and written since the start, by the turns so far; H says what holds of their stage
@@ -167,11 +166,12 @@ pub record Stopping {D E : Type 0} (tells : Type 0) (L : Ghosts D) (V : vaults.G
   pub within : reader.taken ≤ longest_script
   pub count : reader.lines ≡ old.lines + 1
 
--- one line within a life, which H knows then, behind which the run goes on, the machine is to stop, or the run has ended
-abbrev pub PassedTo : {D E : Type 0} → Type 0 → Ghosts D → vaults.Ghosts E → Start → (Stage → Type 0) → D → E → E → Option (List ℕ) → Option (List ℕ) → Reader → List Turn → Option (List ℕ) → Option (List ℕ) → Passed → Type 0
-PassedTo tells L V start H disk first vault left0 told0 reader turns left told passes.Goes = (t : Turn) × Between L.tells start (Beside V first vault H) left0 told0 reader (turns ++ t ∷ []) left told
-PassedTo tells L V start H disk first vault left0 told0 reader turns left told (passes.Stops keep lines) = Stopping tells L V start disk first vault left0 told0 reader turns left told keep lines.items
-PassedTo tells L V start H disk first vault left0 told0 reader turns left told (passes.Ends status) = Headline tells L V start disk first vault left0 reader.pending left told0 told status
+-- one line within a life, which H knows then, behind which the run goes on, the machine is to stop, or the run has ended, whatever
+-- disk the life hands out
+abbrev pub PassedTo : {D E : Type 0} → Type 0 → Ghosts D → vaults.Ghosts E → Start → (Stage → Type 0) → (D → Type 0) → E → E → Option (List ℕ) → Option (List ℕ) → Reader → List Turn → Option (List ℕ) → Option (List ℕ) → Passed → Type 0
+PassedTo tells L V start H hands first vault left0 told0 reader turns left told passes.Goes = (t : Turn) × Between L.tells start (Beside V first vault H) left0 told0 reader (turns ++ t ∷ []) left told
+PassedTo tells L V start H hands first vault left0 told0 reader turns left told (passes.Stops keep lines) = (disk : _) → hands disk → Stopping tells L V start disk first vault left0 told0 reader turns left told keep lines.items
+PassedTo tells L V start H hands first vault left0 told0 reader turns left told (passes.Ends status) = (disk : _) → hands disk → Headline tells L V start disk first vault left0 reader.pending left told0 told status
 
 -- a life, which a stop has ended, or the run has ended in it
 abbrev pub LivedTo : {D E : Type 0} → Type 0 → Ghosts D → vaults.Ghosts E → Start → E → E → Option (List ℕ) → Option (List ℕ) → Reader → Option (List ℕ) → Option (List ℕ) → Lived D → Type 0

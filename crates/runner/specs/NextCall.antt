@@ -4,8 +4,8 @@ use Rattle.std.specs.List.{list_any}
 use Rattle.media.specs.declared.disk.Disk.{Ghosts}
 use Rattle.wal_record.specs.Left.{acknowledges, is_commit_of}
 use Rattle.wal_record.specs.declared.record.Record.{Record}
-use Rattle.runner.specs.LogDisk.{Keeps, StandsOn}
-use Rattle.runner.specs.Turns.{Unsynced, Life, Stage, MayFind, MayBeLeft, last_after}
+use Rattle.life_commands.specs.LogDisk.{Keeps, StandsOn}
+use Rattle.life_commands.specs.Turns.{Unsynced, Life, Stage, MayFind, MayBeLeft, last_after}
 
 -- each commit that the life has acknowledged stands in the log
 abbrev pub HasAcknowledged : Life → List Record → Type 0

@@ -1,22 +1,20 @@
 -- Openings and formats of a disk that keeps a log that may be found.
-use Rattle.std.specs.Prelude.{◌≡◌, ℕ, List, [], length}
+use Rattle.std.specs.Prelude.{◌≡◌, ℕ, List, []}
 use Rattle.media.specs.declared.disk.Disk.{Ghosts}
 use Rattle.media.specs.Kept.{Kept}
-use Rattle.log_blocks.specs.LogState.{LogState}
 use Rattle.log_manager.specs.Records.{StandsForMoreRecords}
-use Rattle.log_replay.specs.declared.found.NotReplayed.{NotReplayed}
-use Rattle.log_replay.specs.declared.found.NotReplayed.TheVariants as whys
+use Rattle.opening.specs.declared.reading.WhyNot.{WhyNot}
+use Rattle.opening.specs.declared.reading.WhyNot.TheVariants as causes
 use Rattle.store_model.specs.declared.fault.Fault.{Fault}
 use Rattle.store_model.specs.declared.fault.Fault.TheVariants as faults
 use Rattle.log_laws.specs.Right.{first_log}
 use Rattle.wal_record.specs.declared.record.Record.{Record}
-use Rattle.runner.specs.Standing.{Standing}
-use Rattle.runner.specs.declared.status.Status.{Status}
-use Rattle.runner.specs.declared.status.Status.TheVariants as statuses
-use Rattle.runner.specs.LogDisk.{Keeps}
-use Rattle.runner.specs.Machine.{IsCalm}
-use Rattle.runner.specs.Refusals.{FindsLog, FindsUnbuilt}
-use Rattle.runner.specs.Turns.{Last, Formatted, Unformatted, MayFind}
+use Rattle.life_commands.specs.declared.status.Status.{Status}
+use Rattle.life_commands.specs.declared.status.Status.TheVariants as statuses
+use Rattle.life_commands.specs.LogDisk.{Keeps}
+use Rattle.runner.specs.Machine.{Beginning, BeginsOn}
+use Rattle.life_commands.specs.Refusals.{FindsLog}
+use Rattle.life_commands.specs.Turns.{Last, Formatted, Unformatted, MayFind}
 
 -- what was so of the disk before, where it tells, is this now
 abbrev pub Makes : {D : Type 0} → Ghosts D → D → (Last → Type 0) → Type 0
@@ -39,20 +37,30 @@ IsNotMade L limit disk left statuses.LogFault = Makes L disk (λ last. Keeps L (
 IsNotMade L limit disk left statuses.AlreadyFormatted = Makes L disk (λ last. FindsLog last × Keeps L last left)
 IsNotMade L limit disk left _ = ⊥
 
--- a life begins on a log that may be found
-pub record IsBegun {D : Type 0} (L : Ghosts D) (log : LogState D) (standing : Standing) (last : Last) : Type 0 where
+-- a life may begin on a log that may be found
+pub record IsBegun {D : Type 0} (tells : Type 0) (L : Ghosts D) (b : Beginning D) (last : Last) : Type 0 where
   pub opening : List Record
   pub found : MayFind last opening
-  pub calm : IsCalm L log standing (record { opening = opening; history = [] }) (length opening)
+  pub begins : BeginsOn tells L b opening
 
--- why no life begins, in the line that asks for it
-abbrev pub IsNotBegun : {D : Type 0} → Ghosts D → ℕ → D → D → Status → Type 0
-IsNotBegun L line disk left statuses.Memory = Makes L disk (λ last. Keeps L last left)
-IsNotBegun L line disk left statuses.LogFault = Makes L disk (λ last. Keeps L last left)
-IsNotBegun L line disk left (statuses.LogBad block byte) = Makes L disk (λ last. ⊥)
-IsNotBegun L line disk left statuses.NotFormatted = Makes L disk (λ last. MayFind last [] × Keeps L last left)
-IsNotBegun L line disk left (statuses.NotBuilt n) = (n ≡ line) × Makes L disk (λ last. FindsUnbuilt L left last × Keeps L last left)
-IsNotBegun L line disk left _ = ⊥
+-- the statuses of an opening
+abbrev pub CanRefuseOpening : Status → Type 0
+CanRefuseOpening statuses.Memory = Unit {0}
+CanRefuseOpening statuses.LogFault = Unit {0}
+CanRefuseOpening (statuses.LogBad block byte) = Unit {0}
+CanRefuseOpening statuses.NotFormatted = Unit {0}
+CanRefuseOpening _ = ⊥
+
+-- why no life begins, where the disk was used so last
+abbrev pub IsNotBegunAt : {D : Type 0} → Ghosts D → Last → D → Status → Type 0
+IsNotBegunAt L last left statuses.Memory = Keeps L last left
+IsNotBegunAt L last left statuses.LogFault = Keeps L last left
+IsNotBegunAt L last left (statuses.LogBad block byte) = ⊥
+IsNotBegunAt L last left statuses.NotFormatted = MayFind last [] × Keeps L last left
+IsNotBegunAt L last left _ = ⊥
+
+abbrev pub IsNotBegun : {D : Type 0} → Ghosts D → D → D → Status → Type 0
+IsNotBegun L disk left status = CanRefuseOpening status × Makes L disk (λ last. IsNotBegunAt L last left status)
 
 -- the status of a fault, where a log isn't made, and where it isn't opened
 abbrev pub MadeStatus : Fault → Status → Type 0
@@ -60,17 +68,11 @@ MadeStatus faults.LogFault status = status ≡ statuses.LogFault
 MadeStatus (faults.LogBad block byte) status = status ≡ statuses.AlreadyFormatted
 MadeStatus fault status = status ≡ statuses.Memory
 
-abbrev pub ReadStatus : Fault → Status → Type 0
-ReadStatus faults.LogFault status = status ≡ statuses.LogFault
-ReadStatus (faults.LogBad block byte) status = status ≡ statuses.LogBad block byte
-ReadStatus fault status = status ≡ statuses.Memory
-
-abbrev pub ReplayStatus : ℕ → NotReplayed → Status → Type 0
-ReplayStatus line whys.Memory status = status ≡ statuses.Memory
-ReplayStatus line whys.LogFault status = status ≡ statuses.LogFault
-ReplayStatus line (whys.LogBad block byte) status = status ≡ statuses.LogBad block byte
-ReplayStatus line whys.NotFormatted status = status ≡ statuses.NotFormatted
-ReplayStatus line whys.NotBuilt status = status ≡ statuses.NotBuilt line
+abbrev pub ReadStatus : WhyNot → Status → Type 0
+ReadStatus causes.NotFormatted status = status ≡ statuses.NotFormatted
+ReadStatus (causes.Fault faults.LogFault) status = status ≡ statuses.LogFault
+ReadStatus (causes.Fault (faults.LogBad block byte)) status = status ≡ statuses.LogBad block byte
+ReadStatus (causes.Fault fault) status = status ≡ statuses.Memory
 
 abbrev pub IsFault : Status → Type 0
 IsFault statuses.Memory = Unit {0}

@@ -3,8 +3,8 @@ use Rattle.std.specs.Prelude.{◌≡◌, ◌≢◌, ◌⊎◌, Option, Some, Non
 use Rattle.call_words.specs.declared.call.Call.{Call}
 use Rattle.call_words.specs.declared.call.Mode.{Mode}
 use Rattle.call_words.specs.declared.call.Mode.TheVariants.{Run, Generate}
-use Rattle.runner.specs.declared.status.Status.{Status}
-use Rattle.runner.specs.declared.status.Status.TheVariants as statuses
+use Rattle.life_commands.specs.declared.status.Status.{Status}
+use Rattle.life_commands.specs.declared.status.Status.TheVariants as statuses
 
 -- the script on the source is asked for
 abbrev pub AsksRun : Option Call → Type 0

@@ -5,7 +5,7 @@ use Rattle.media.specs.declared.vault.Vault as vaults
 use Rattle.store_model.specs.declared.object.ObjectName.{ObjectName}
 use Rattle.script.specs.declared.command.Command.{Command}
 use Rattle.script.specs.declared.command.Command.TheVariants as commands
-use Rattle.runner.specs.Turns.{Stage}
+use Rattle.life_commands.specs.Turns.{Stage}
 
 -- what stops leave of it: its count of faults, each synced object, and what no name stood for
 pub record IsCycled {E : Type 0} (V : vaults.Ghosts E) (old new : E) : Type 0 where

@@ -3,7 +3,7 @@ ghost use Rattle.std.specs.Prelude.{◌≡◌};
 ghost use Rattle.runner.specs.Causes.{disk_at};
 
 use crate::opened::Opened;
-use crate::status::Status;
+use life_commands::Status;
 use media::Disk;
 
 /// Outside of a life, with the log disk, or within one.
@@ -22,7 +22,7 @@ pub enum Stepped<L, F> {
 
 /// The log disk where a life may begin, where the run ends.
 pub fn disk_opened<L: Disk>(at: At<L, Opened<L>>) -> L
-    ensures { result ≡ disk_at (λ life. life.log.log.device) at }
+    ensures { result ≡ disk_at (λ log. log.log.log.device) at }
 {
     match at {
         At::Outside { disk } => disk,

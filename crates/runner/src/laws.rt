@@ -3,10 +3,10 @@ ghost use Rattle.std.specs.Prelude.{ℕ, List, Option};
 ghost use Rattle.log_manager.specs.Devices.{DevicesStandFor};
 ghost use Rattle.wal_record.specs.declared.record.Record.{Record};
 ghost use Rattle.runner.specs.Clause.{Headline};
-ghost use Rattle.runner.specs.LogDisk.{Keeps};
+ghost use Rattle.life_commands.specs.LogDisk.{Keeps};
 ghost use Rattle.runner.specs.NextCall.{HandsOn};
-ghost use Rattle.runner.specs.Turns.{Found, Start, stage};
-ghost use Rattle.runner.specs.declared.status.Status.{Status};
+ghost use Rattle.life_commands.specs.Turns.{Found, Start, stage};
+ghost use Rattle.life_commands.specs.declared.status.Status.{Status};
 
 use media::{Disk, Vault};
 

@@ -1,27 +1,30 @@
 //! A life, line after line.
-ghost use Rattle.std.specs.Prelude.{◌≡◌, ◌≤◌, ◌↔◌, ℕ, List, [], Option};
+ghost use Rattle.std.specs.Prelude.{◌≡◌, ◌<◌, ◌≤◌, ◌↔◌, ℕ, List, [], Option};
 ghost use Rattle.page_ops.specs.Names.{life_names};
 ghost use Rattle.wal_record.specs.declared.record.Record.{Record};
-ghost use Rattle.runner.specs.LogDisk.{View, IsWhole, seen};
-ghost use Rattle.runner.specs.Turns.{Start, Turn};
-ghost use Rattle.runner.specs.Machine.{In, IsAt, Within, BeginsOn};
+ghost use Rattle.life_commands.specs.LogDisk.{View, IsWhole, seen};
+ghost use Rattle.life_commands.specs.Turns.{Start, Turn};
+ghost use Rattle.runner.specs.Machine.{Begun, BeginsOn, IsAt};
+ghost use Rattle.life_commands.specs.Living.{Within};
 ghost use Rattle.line_reader.specs.Lines.{Reader};
 ghost use Rattle.runner.specs.Clause.{Between, LivedTo, Stopping};
 ghost use Rattle.runner.specs.Vault.{Beside};
 ghost use Rattle.runner.specs.Causes.{LivedCause, disk_at};
 
 use crate::at::At;
-use crate::life::OpenLife;
 use crate::opened::Opened;
-use crate::status::Status;
+use crate::pages::RunPages;
 use crate::stop::cycled;
 use crate::turns::{Passed, turn_inside};
+use life_commands::Status;
 use line_reader::Input;
 use media::{Disk, Sink, Source, Vault, write_all};
 use operators::Operators;
+use own_life::{LifePages, OwnLife, open_life};
 use page_ops::{Ground, Life, Tokens, Unnamed};
 use std::alloc::Global;
 use std::marker::Brand;
+use std::sync::Wait;
 
 /// How a life ended: by a stop, or with the run.
 #[derive(Drop)]
@@ -31,7 +34,8 @@ pub enum Lived<L> {
 }
 
 /// What a line has begun: nothing, or a life.
-pub fn run_from<S: Source, K: Sink, V: Vault, L: Disk>(
+pub fn run_from<S: Source, K: Sink, V: Vault, L: Disk, R: Wait>(
+    rt: &R,
     alloc: Global,
     operators: &Operators,
     input: &mut Input,
@@ -41,18 +45,18 @@ pub fn run_from<S: Source, K: Sink, V: Vault, L: Disk>(
     at: At<L, Opened<L>>,
 ) -> Lived<L>
     ensures turns { (v : View L.tells) (start : Start) (first : V) (left told : Option (List ℕ)) (turns : List Turn)
-        → Between (IsWhole v) start (Beside V.Vault first vault.old (IsAt L.tells (seen L.Disk v) (λ life. In (seen L.Disk v) life.log.log life.standing) at)) left told input.old turns (S.left source.old) (K.told sink.old)
+        → Between (IsWhole v) start (Beside V.Vault first vault.old (IsAt L.tells (seen L.Disk v) (Begun L.tells (seen L.Disk v)) at)) left told input.old turns (S.left source.old) (K.told sink.old)
         → LivedTo L.tells (seen L.Disk v) V.Vault start first vault.new left told input.new (S.left source.new) (K.told sink.new) result }
     ensures later { (S.faults source.old ≤ S.faults source.new) × (K.faults sink.old ≤ K.faults sink.new) }
-    ensures cause { LivedCause L.Disk (disk_at (λ life. life.log.log.device) at) (S.faults source.old) (S.faults source.new) (K.faults sink.old) (K.faults sink.new) result }
+    ensures cause { LivedCause L.Disk (L.own (disk_at (λ b. b.log.log.device) at)) (S.faults source.old) (S.faults source.new) (K.faults sink.old) (K.faults sink.new) result }
 {
     let opened = match at {
         At::Outside { disk } => return Lived::Stopped { disk },
         At::Inside { life } => life,
     };
     match Unnamed::new(alloc, 1) {
-        Ok(unnamed) => run_named::<Brand, S, K, V, L>(
-            alloc, operators, input, source, sink, vault, unnamed, opened,
+        Ok(unnamed) => run_named::<Brand, S, K, V, L, R>(
+            rt, alloc, operators, input, source, sink, vault, unnamed, opened,
         ),
         Err(_) => Lived::Ends {
             status: Status::Memory,
@@ -62,7 +66,8 @@ pub fn run_from<S: Source, K: Sink, V: Vault, L: Disk>(
 }
 
 /// A life with a name of its own. It may have begun with the logs for which its disk stands.
-fn run_named<N: Life, S: Source, K: Sink, V: Vault, L: Disk>(
+fn run_named<N: Life, S: Source, K: Sink, V: Vault, L: Disk, R: Wait>(
+    rt: &R,
     alloc: Global,
     operators: &Operators,
     input: &mut Input,
@@ -73,23 +78,25 @@ fn run_named<N: Life, S: Source, K: Sink, V: Vault, L: Disk>(
     opened: Opened<L>,
 ) -> Lived<L>
     requires named { unnamed ≡ life_names N.count N.pages N.sessions N.maint N.entries N.session_entries N.log_faults N.vault_faults N.data_faults N.made }
-    requires opens { (opening : List Record) → (N.opens opening ↔ BeginsOn L.Disk opened opening) }
+    requires parts { (0 < N.entries.parts) × (0 < N.session_entries.parts) × (0 < N.log_faults.parts) × (0 < N.made.parts) }
+    requires opens { (opening : List Record) → (N.opens opening ↔ BeginsOn L.tells L.Disk opened opening) }
     ensures turns { (v : View L.tells) (start : Start) (first : V) (left told : Option (List ℕ)) (turns : List Turn)
-        → Between (IsWhole v) start (Beside V.Vault first vault.old (In (seen L.Disk v) opened.log.log opened.standing)) left told input.old turns (S.left source.old) (K.told sink.old)
+        → Between (IsWhole v) start (Beside V.Vault first vault.old (Begun L.tells (seen L.Disk v) opened)) left told input.old turns (S.left source.old) (K.told sink.old)
         → LivedTo L.tells (seen L.Disk v) V.Vault start first vault.new left told input.new (S.left source.new) (K.told sink.new) result }
     ensures later { (S.faults source.old ≤ S.faults source.new) × (K.faults sink.old ≤ K.faults sink.new) }
-    ensures cause { LivedCause L.Disk opened.log.log.device (S.faults source.old) (S.faults source.new) (K.faults sink.old) (K.faults sink.new) result }
+    ensures cause { LivedCause L.Disk (L.own opened.log.log.device) (S.faults source.old) (S.faults source.new) (K.faults sink.old) (K.faults sink.new) result }
 {
     let (ground, tokens) = unnamed.split::<N>();
     run_on(
-        alloc, operators, input, source, sink, vault, &ground, tokens, opened,
+        rt, alloc, operators, input, source, sink, vault, &ground, tokens, opened,
     )
 }
 
 /// The same on what the life is made of.
-fn run_on<'a, N: Life, S: Source, K: Sink, V: Vault, L: Disk>(
+fn run_on<'a, N: Life, S: Source, K: Sink, V: Vault, L: Disk, R: Wait>(
+    rt: &R,
     alloc: Global,
-    operators: &Operators,
+    operators: &'a Operators,
     input: &mut Input,
     source: &mut S,
     sink: &mut K,
@@ -98,50 +105,64 @@ fn run_on<'a, N: Life, S: Source, K: Sink, V: Vault, L: Disk>(
     tokens: Tokens<N>,
     opened: Opened<L>,
 ) -> Lived<L>
-    requires history { (tokens.front ≡ []) × (tokens.pass.log ≡ []) × (tokens.books.pages ≡ []) }
-    requires opens { (opening : List Record) → N.opens opening → BeginsOn L.Disk opened opening }
+    requires parts { (0 < N.entries.parts) × (0 < N.session_entries.parts) × (0 < N.log_faults.parts) × (0 < N.made.parts) }
+    requires history { (tokens.front ≡ []) × (tokens.mark ≡ 0) × (tokens.pass.log ≡ []) }
+    requires books { (tokens.books.pages ≡ []) × (tokens.books.sessions ≡ []) × (tokens.books.maint ≡ []) }
+    requires opens { (opening : List Record) → (N.opens opening ↔ BeginsOn L.tells L.Disk opened opening) }
     ensures turns { (v : View L.tells) (start : Start) (first : V) (left told : Option (List ℕ)) (turns : List Turn)
-        → Between (IsWhole v) start (Beside V.Vault first vault.old (In (seen L.Disk v) opened.log.log opened.standing)) left told input.old turns (S.left source.old) (K.told sink.old)
+        → Between (IsWhole v) start (Beside V.Vault first vault.old (Begun L.tells (seen L.Disk v) opened)) left told input.old turns (S.left source.old) (K.told sink.old)
         → LivedTo L.tells (seen L.Disk v) V.Vault start first vault.new left told input.new (S.left source.new) (K.told sink.new) result }
     ensures later { (S.faults source.old ≤ S.faults source.new) × (K.faults sink.old ≤ K.faults sink.new) }
-    ensures cause { LivedCause L.Disk opened.log.log.device (S.faults source.old) (S.faults source.new) (K.faults sink.old) (K.faults sink.new) result }
+    ensures cause { LivedCause L.Disk (L.own opened.log.log.device) (S.faults source.old) (S.faults source.new) (K.faults sink.old) (K.faults sink.new) result }
 {
-    let life = OpenLife::new(ground, tokens, opened);
-    run_life(alloc, operators, input, source, sink, vault, life)
+    match open_life(alloc, operators, ground, tokens, opened.into_log()) {
+        Ok((life, pages)) => {
+            let pages = RunPages { pages };
+            run_life(rt, alloc, input, source, sink, vault, life, pages)
+        }
+        Err(disk) => Lived::Ends {
+            status: Status::Memory,
+            disk,
+        },
+    }
 }
 
 /// A life, from its opening to its stop or the end of the run.
-fn run_life<'a, N: Life, S: Source, K: Sink, V: Vault, L: Disk>(
+fn run_life<'a, N: Life, S: Source, K: Sink, V: Vault, L: Disk, P: LifePages<N>, R: Wait>(
+    rt: &R,
     alloc: Global,
-    operators: &Operators,
     input: &mut Input,
     source: &mut S,
     sink: &mut K,
     vault: &mut V,
-    life: OpenLife<'a, N, L>,
+    life: OwnLife<'a, L, N>,
+    pages: P,
 ) -> Lived<L>
+    requires idle { P.idle pages }
     ensures turns { (v : View L.tells) (start : Start) (first : V) (left told : Option (List ℕ)) (turns : List Turn)
-        → Between (IsWhole v) start (Beside V.Vault first vault.old (Within (seen L.Disk v) life.entry.log life.entry.leaf life.entry.transactions)) left told input.old turns (S.left source.old) (K.told sink.old)
+        → Between (IsWhole v) start (Beside V.Vault first vault.old (Within (seen L.Disk v) N.opens life.entry)) left told input.old turns (S.left source.old) (K.told sink.old)
         → LivedTo L.tells (seen L.Disk v) V.Vault start first vault.new left told input.new (S.left source.new) (K.told sink.new) result }
     ensures later { (S.faults source.old ≤ S.faults source.new) × (K.faults sink.old ≤ K.faults sink.new) }
-    ensures cause { LivedCause L.Disk life.entry.log.log.device (S.faults source.old) (S.faults source.new) (K.faults sink.old) (K.faults sink.new) result }
+    ensures cause { LivedCause L.Disk life.entry.calls.own (S.faults source.old) (S.faults source.new) (K.faults sink.old) (K.faults sink.new) result }
 {
-    let mut life = life;
+    let (mut life, mut pages) = (life, pages);
     for _ in 0..u64::MAX {
-        match turn_inside::<N, S, K, V, L>(alloc, operators, input, source, sink, &mut life) {
+        match turn_inside::<N, S, K, V, L, P, R>(
+            rt, alloc, input, source, sink, &mut life, &mut pages,
+        ) {
             Passed::Goes => {}
             Passed::Stops { keep, lines } => {
-                return end_life(sink, vault, life.log.into_device(), keep, lines);
+                return end_life(sink, vault, life.into_device(), keep, lines);
             }
             Passed::Ends { status } => return Lived::Ends {
                 status,
-                disk: life.log.into_device(),
+                disk: life.into_device(),
             },
         }
     }
     Lived::Ends {
         status: Status::Memory,
-        disk: life.log.into_device(),
+        disk: life.into_device(),
     }
 }
 
@@ -157,7 +178,7 @@ fn end_life<K: Sink, V: Vault, L: Disk>(
         → Stopping L.tells (seen L.Disk v) V.Vault start disk first vault.old left0 told0 reader turns left (K.told sink.old) keep lines.items
         → LivedTo L.tells (seen L.Disk v) V.Vault start first vault.new left0 told0 reader left (K.told sink.new) result }
     ensures later { K.faults sink.old ≤ K.faults sink.new }
-    ensures cause { (source : ℕ) → LivedCause L.Disk disk source source (K.faults sink.old) (K.faults sink.new) result }
+    ensures cause { (source : ℕ) → LivedCause L.Disk (L.own disk) source source (K.faults sink.old) (K.faults sink.new) result }
 {
     let disk = cycled(disk, keep.unwrap_or(0));
     vault.power_cycle();

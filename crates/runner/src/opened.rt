@@ -1,69 +1,53 @@
 //! A log on which a life may begin.
-ghost use Rattle.std.specs.Prelude.{◌≡◌, IsTrue};
-ghost use Rattle.wal_record.specs.Rules.{is_number};
-ghost use Rattle.wal_record.specs.State.{KeepsState};
-ghost use Rattle.runner.specs.Session.{IsNumbered};
-ghost use Rattle.runner.specs.Standing.{beginning};
+ghost use Rattle.std.specs.Prelude.{◌≡◌, None};
 
-use log_manager::LogManager;
-use log_replay::Found;
+use listed_log::ListedLog;
 use media::Disk;
 use std::marker::Model;
 
-/// An open log, and what was found in it. Contracts see it as the beginning of a life.
+/// A log that was read, and goes on. Contracts see it with its listing.
 #[derive(Drop)]
 pub struct Opened<L: Disk> {
-    log: LogManager<L>,
-    found: Found,
+    log: ListedLog<L>,
 }
 
 impl<L: Disk> Model for Opened<L> {
-    ghost use Rattle.std.specs.Prelude.{◌<◌, ◌^◌, IsTrue};
-    ghost use Rattle.wal_record.specs.Rules.{is_number};
-    ghost use Rattle.wal_record.specs.State.{KeepsState};
-    ghost use Rattle.runner.specs.Session.{IsNumbered};
-    ghost use Rattle.runner.specs.Standing.{Beginning, beginning};
+    ghost use Rattle.std.specs.Coded.{codes};
+    ghost use Rattle.std.specs.Prelude.{◌≡◌, None};
+    ghost use Rattle.log_index.specs.contracts.listing.Listing as listings;
+    ghost use Rattle.runner.specs.Machine.{Beginning};
 
     ghost Value = { Beginning L };
 
-    ghost view = { λ o. beginning o.log o.found };
+    ghost coded = { Prim.hlevel (codes, listings.the_row.coded) };
 
-    ghost invariant = { λ o. KeepsState o.found.page × IsNumbered o.found.next × IsTrue (is_number o.found.head) × (o.found.limit < 2 ^ 32) };
+    ghost view = { λ o. record { log = o.log.log; listing = o.log.listing } };
+
+    ghost invariant = { λ o. o.log.log.log.ended ≡ None };
 }
 
 impl<L: Disk> Opened<L> {
-    /// What was found in this log, where the next number of a transaction isn't used up, and the page has a record.
-    pub fn new(log: LogManager<L>, found: Found) -> Opened<L>
-        requires rules { KeepsState found.page }
-        requires number { IsNumbered found.next }
-        requires head { IsTrue (is_number found.head) }
-        ensures { result ≡ beginning log found }
+    pub fn new(log: ListedLog<L>) -> Opened<L>
+        requires goes { log.log.log.ended ≡ None }
+        ensures { result ≡ record { log = log.log; listing = log.listing } }
     {
-        Opened { log, found }
+        Opened { log }
     }
 
-    /// How many transactions of the log have committed.
-    pub fn commits(&self) -> u64
-        ensures { result ≡ self.now.standing.commits }
+    /// The log with its listing.
+    pub fn into_log(self) -> ListedLog<L>
+        ensures is { (result.log ≡ self.log) × (result.listing ≡ self.listing) }
+        ensures goes { result.log.log.ended ≡ None }
     {
-        self.found.commits
-    }
-
-    /// The log, and what was found in it.
-    pub fn into_parts(self) -> (LogManager<L>, Found)
-        ensures is { self ≡ beginning result.0 result.1 }
-        ensures rules { KeepsState result.1.page }
-        ensures number { IsNumbered result.1.next }
-        ensures head { IsTrue (is_number result.1.head) }
-    {
-        let Opened { log, found } = self;
-        (log, found)
+        let Opened { log } = self;
+        log
     }
 
     /// The log disk.
     pub fn into_device(self) -> L
         ensures { result ≡ self.log.log.device }
     {
-        self.log.into_device()
+        let Opened { log } = self;
+        log.into_device()
     }
 }

@@ -1,20 +1,19 @@
 //! Commands where no life is open.
-ghost use Rattle.std.specs.Prelude.{◌≡◌, ◌<◌, ◌^◌, codes, IfOk, IfErr};
+ghost use Rattle.std.specs.Prelude.{◌≡◌, ◌<◌, ◌^◌, ℕ, codes, IfOk, IfErr};
 ghost use Rattle.wal_record.specs.Rules.{is_limit};
 ghost use Rattle.runner.specs.Causes.{SteppedCause};
-ghost use Rattle.runner.specs.LogDisk.{View, seen};
-ghost use Rattle.runner.specs.Turns.{Stage};
-ghost use Rattle.runner.specs.declared.status.Status.{Status};
-ghost use Rattle.runner.specs.Machine.{Out, In, Steps, Refuses};
+ghost use Rattle.life_commands.specs.LogDisk.{View, seen};
+ghost use Rattle.life_commands.specs.Turns.{Stage};
+ghost use Rattle.life_commands.specs.declared.status.Status.{Status};
+ghost use Rattle.runner.specs.Machine.{Begun, Out, Steps, Refuses};
 ghost use Rattle.script.specs.declared.command.Command.TheVariants as commands;
 
 use crate::at::{At, Stepped};
+use crate::logs::{NotOpened, make_log, open};
 use crate::opened::Opened;
-use crate::opening::{NotOpened, make_log, open};
-use crate::status::Status;
 use crate::stop::stop;
+use life_commands::Status;
 use media::Disk;
-use operators::Operators;
 use script::{Command, Device};
 use std::alloc::Global;
 
@@ -25,15 +24,9 @@ const ROOM: u32 = 16_384;
 const MOST: u64 = 1 << 62;
 
 /// Carries a command out.
-pub fn step<L: Disk>(
-    alloc: Global,
-    operators: &Operators,
-    disk: L,
-    command: &Command,
-    line: u64,
-) -> Stepped<L, Opened<L>>
-    ensures turns { (v : View L.tells) (s : Stage) → Out L.tells (seen L.Disk v) disk s → Steps L.tells (seen L.Disk v) (λ life. In (seen L.Disk v) life.log.log life.standing) s command.now line result }
-    ensures cause { SteppedCause L.Disk (λ life. life.log.log.device) disk result }
+pub fn step<L: Disk>(alloc: Global, disk: L, command: &Command, line: u64) -> Stepped<L, Opened<L>>
+    ensures turns { (v : View L.tells) (s : Stage) → Out L.tells (seen L.Disk v) disk s → Steps L.tells (seen L.Disk v) (Begun L.tells (seen L.Disk v)) s command.now line result }
+    ensures cause { SteppedCause L.Disk (λ b. b.log.log.device) disk result }
 {
     match command {
         Command::Nothing => Stepped::Goes {
@@ -41,7 +34,7 @@ pub fn step<L: Disk>(
             at: At::Outside { disk },
         },
         Command::Format { limit } => format(alloc, disk, *limit, line),
-        Command::Open => opens(alloc, operators, disk, line),
+        Command::Open => opens(alloc, disk),
         Command::Stop { keep } => match stop(alloc, disk, *keep) {
             Ok((lines, disk)) => Stepped::Goes {
                 lines,
@@ -63,8 +56,8 @@ pub fn step<L: Disk>(
 
 /// Makes the log of a disk that has none.
 fn format<L: Disk>(alloc: Global, disk: L, limit: Option<u32>, line: u64) -> Stepped<L, Opened<L>>
-    ensures turns { (v : View L.tells) (s : Stage) → Out L.tells (seen L.Disk v) disk s → Steps L.tells (seen L.Disk v) (λ life. In (seen L.Disk v) life.log.log life.standing) s (commands.Format limit) line result }
-    ensures cause { SteppedCause L.Disk (λ life. life.log.log.device) disk result }
+    ensures turns { (v : View L.tells) (s : Stage) → Out L.tells (seen L.Disk v) disk s → Steps L.tells (seen L.Disk v) (Begun L.tells (seen L.Disk v)) s (commands.Format limit) line result }
+    ensures cause { SteppedCause L.Disk (λ b. b.log.log.device) disk result }
 {
     let room = limit.unwrap_or(ROOM);
     if !is_room(room) {
@@ -115,9 +108,9 @@ fn format_lines(alloc: Global) -> Result<(Vec<u8>, Vec<u8>), Status>
 }
 
 /// Opens a life.
-fn opens<L: Disk>(alloc: Global, operators: &Operators, disk: L, line: u64) -> Stepped<L, Opened<L>>
-    ensures turns { (v : View L.tells) (s : Stage) → Out L.tells (seen L.Disk v) disk s → Steps L.tells (seen L.Disk v) (λ life. In (seen L.Disk v) life.log.log life.standing) s commands.Open line result }
-    ensures cause { SteppedCause L.Disk (λ life. life.log.log.device) disk result }
+fn opens<L: Disk>(alloc: Global, disk: L) -> Stepped<L, Opened<L>>
+    ensures turns { (v : View L.tells) (s : Stage) (line : ℕ) → Out L.tells (seen L.Disk v) disk s → Steps L.tells (seen L.Disk v) (Begun L.tells (seen L.Disk v)) s commands.Open line result }
+    ensures cause { SteppedCause L.Disk (λ b. b.log.log.device) disk result }
 {
     let refused = disk.refused();
     if refused >= MOST {
@@ -133,8 +126,8 @@ fn opens<L: Disk>(alloc: Global, operators: &Operators, disk: L, line: u64) -> S
             disk,
         },
     };
-    match open(alloc, operators, disk, line) {
-        Ok(life) => match transcript::open_line(alloc, life.commits(), 0) {
+    match open(alloc, disk) {
+        Ok((life, found)) => match transcript::open_line(alloc, found.commits, found.losers) {
             Ok(lines) => Stepped::Goes {
                 lines,
                 at: At::Inside { life },
@@ -183,8 +176,8 @@ fn fuse<L: Disk>(
     calls: u64,
     line: u64,
 ) -> Stepped<L, Opened<L>>
-    ensures turns { (v : View L.tells) (s : Stage) → Out L.tells (seen L.Disk v) disk s → Steps L.tells (seen L.Disk v) (λ life. In (seen L.Disk v) life.log.log life.standing) s (commands.Fuse device calls) line result }
-    ensures cause { SteppedCause L.Disk (λ life. life.log.log.device) disk result }
+    ensures turns { (v : View L.tells) (s : Stage) → Out L.tells (seen L.Disk v) disk s → Steps L.tells (seen L.Disk v) (Begun L.tells (seen L.Disk v)) s (commands.Fuse device calls) line result }
+    ensures cause { SteppedCause L.Disk (λ b. b.log.log.device) disk result }
 {
     let mut disk = disk;
     if device != Device::Log {
@@ -210,8 +203,8 @@ fn fuse<L: Disk>(
 
 /// Renews the disk's fuse.
 fn renew<L: Disk>(alloc: Global, disk: L, device: Device, line: u64) -> Stepped<L, Opened<L>>
-    ensures turns { (v : View L.tells) (s : Stage) → Out L.tells (seen L.Disk v) disk s → Steps L.tells (seen L.Disk v) (λ life. In (seen L.Disk v) life.log.log life.standing) s (commands.Renew device) line result }
-    ensures cause { SteppedCause L.Disk (λ life. life.log.log.device) disk result }
+    ensures turns { (v : View L.tells) (s : Stage) → Out L.tells (seen L.Disk v) disk s → Steps L.tells (seen L.Disk v) (Begun L.tells (seen L.Disk v)) s (commands.Renew device) line result }
+    ensures cause { SteppedCause L.Disk (λ b. b.log.log.device) disk result }
 {
     let mut disk = disk;
     if device != Device::Log {

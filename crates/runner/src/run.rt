@@ -1,29 +1,31 @@
 //! A whole run.
-ghost use Rattle.runner.specs.Bytes.{Known};
+ghost use Rattle.life_commands.specs.Bytes.{Known};
 ghost use Rattle.std.specs.Prelude.{◌≡◌, ◌≢◌, ◌≤◌, ℕ, List, map};
 ghost use Rattle.media.specs.Cause.{Rose};
 ghost use Rattle.line_reader.specs.Lines.{to_come, IsBounded};
-ghost use Rattle.runner.specs.LogDisk.{View, IsWhole, Keeps, seen};
-ghost use Rattle.runner.specs.Turns.{Last, Start, begin_stage};
+ghost use Rattle.life_commands.specs.LogDisk.{View, IsWhole, Keeps, seen};
+ghost use Rattle.life_commands.specs.Turns.{Last, Start, begin_stage};
 ghost use Rattle.runner.specs.Machine.{Out};
 ghost use Rattle.runner.specs.Clause.{Headline};
 ghost use Rattle.runner.specs.Causes.{RunCause, Shows, IsAsked};
 ghost use Rattle.call_words.specs.Calls.{call_of};
 ghost use Rattle.runner.specs.Usage.{AsksRun, ByWords, IsUnbegun};
-ghost use Rattle.runner.specs.declared.status.Status.TheVariants as statuses;
+ghost use Rattle.life_commands.specs.declared.status.Status.TheVariants as statuses;
 
 use crate::living::{Lived, run_from};
-use crate::status::Status;
 use crate::turns::{Turned, turn_outside};
 use call_words::{Mode, Refusal, call_of};
+use life_commands::Status;
 use line_reader::Input;
 use media::{Devices, Disk, Fuse, PageDevice, Sink, Source, Vault};
 use operators::Operators;
 use std::alloc::Global;
+use std::sync::Wait;
 
 /// Runs the script that the source has, prints its transcript to the sink, and hands the devices back. The words are those
 /// of a call behind its place (`call_words`). Workers and frames have no effect, and no script is generated yet.
-pub fn run_words<S: Source, K: Sink, L: Disk, P: PageDevice, V: Vault>(
+pub fn run_words<S: Source, K: Sink, L: Disk, P: PageDevice, V: Vault, R: Wait>(
+    rt: &R,
     alloc: Global,
     words: &[String],
     source: &mut S,
@@ -79,6 +81,7 @@ pub fn run_words<S: Source, K: Sink, L: Disk, P: PageDevice, V: Vault>(
     let Devices { log, pages, vault } = devices;
     let mut vault = vault;
     let (status, log) = run(
+        rt,
         alloc,
         operators,
         &mut input,
@@ -98,7 +101,8 @@ pub fn run_words<S: Source, K: Sink, L: Disk, P: PageDevice, V: Vault>(
 }
 
 /// Lines without a life, and the lives that some of them open.
-fn run<S: Source, K: Sink, V: Vault, L: Disk>(
+fn run<S: Source, K: Sink, V: Vault, L: Disk, R: Wait>(
+    rt: &R,
     alloc: Global,
     operators: &Operators,
     input: &mut Input,
@@ -117,9 +121,9 @@ fn run<S: Source, K: Sink, V: Vault, L: Disk>(
 {
     let mut disk = disk;
     for _ in 0..u64::MAX {
-        match turn_outside(alloc, operators, input, source, sink, vault, disk) {
+        match turn_outside(alloc, input, source, sink, vault, disk) {
             Turned::Goes { at } => match run_from(
-                alloc, operators, input, source, sink, vault, at,
+                rt, alloc, operators, input, source, sink, vault, at,
             ) {
                 Lived::Stopped { disk: left } => disk = left,
                 Lived::Ends { status, disk } => return (status, disk),

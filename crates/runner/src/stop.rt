@@ -1,9 +1,10 @@
 //! A stop of the machine.
 ghost use Rattle.std.specs.Prelude.{◌≡◌, ◌≤◌, None, IfOk, IfErr};
 ghost use Rattle.media.specs.Crash.{Only};
-ghost use Rattle.runner.specs.LogDisk.{View, IsWhole, seen};
-ghost use Rattle.runner.specs.Turns.{Stage};
-ghost use Rattle.runner.specs.Machine.{Out, Safe, Adds};
+ghost use Rattle.life_commands.specs.LogDisk.{View, IsWhole, seen};
+ghost use Rattle.life_commands.specs.Turns.{Stage};
+ghost use Rattle.runner.specs.Machine.{Out};
+ghost use Rattle.life_commands.specs.Living.{Safe, Adds};
 ghost use Rattle.script.specs.declared.command.Command.TheVariants as commands;
 
 use media::Disk;

@@ -1,25 +1,25 @@
 //! One line of a run.
 ghost use Rattle.std.specs.Prelude.{◌≤◌, ℕ, List, Option, IfErr};
 ghost use Rattle.line_reader.specs.Lines.{IsBounded};
-ghost use Rattle.runner.specs.LogDisk.{View, IsWhole, seen};
-ghost use Rattle.runner.specs.Turns.{Start, Turn};
-ghost use Rattle.runner.specs.Machine.{Out, In};
+ghost use Rattle.life_commands.specs.LogDisk.{View, IsWhole, seen};
+ghost use Rattle.life_commands.specs.Turns.{Start, Turn};
+ghost use Rattle.runner.specs.Machine.{Begun, Out};
+ghost use Rattle.life_commands.specs.Living.{IsDiskOf, Within};
 ghost use Rattle.runner.specs.Clause.{Between, PassedTo, TakesCommand, TurnedTo};
-ghost use Rattle.runner.specs.Machine.{Within};
 ghost use Rattle.runner.specs.Vault.{Beside, Cycles};
 ghost use Rattle.runner.specs.Causes.{LineCause, PassedCause, TurnedCause};
 
 use crate::at::{At, Stepped, disk_opened};
-use crate::life::OpenLife;
 use crate::opened::Opened;
 use crate::outside;
-use crate::status::Status;
+use life_commands::Status;
 use line_reader::{Input, Next, NotRead, is_built};
 use media::{Disk, Sink, Source, Vault, write_all};
-use operators::Operators;
+use own_life::{LifePages, OwnLife};
 use page_ops::Life;
 use script::{Command, command_of};
 use std::alloc::Global;
+use std::sync::Wait;
 
 /// What a line did: where the run is then, or how it ended.
 #[derive(Drop)]
@@ -39,7 +39,6 @@ pub enum Passed {
 /// One line where no life is open. The end of the input ends the run.
 pub fn turn_outside<S: Source, K: Sink, V: Vault, L: Disk>(
     alloc: Global,
-    operators: &Operators,
     input: &mut Input,
     source: &mut S,
     sink: &mut K,
@@ -48,9 +47,9 @@ pub fn turn_outside<S: Source, K: Sink, V: Vault, L: Disk>(
 ) -> Turned<L, Opened<L>>
     ensures turns { (v : View L.tells) (start : Start) (first : V) (left told : Option (List ℕ)) (turns : List Turn)
         → Between (IsWhole v) start (Beside V.Vault first vault.old (Out L.tells (seen L.Disk v) disk)) left told input.old turns (S.left source.old) (K.told sink.old)
-        → TurnedTo L.tells (seen L.Disk v) V.Vault start (λ life. In (seen L.Disk v) life.log.log life.standing) first vault.new left told input.new turns (S.left source.new) (K.told sink.new) result }
+        → TurnedTo L.tells (seen L.Disk v) V.Vault start (Begun L.tells (seen L.Disk v)) first vault.new left told input.new turns (S.left source.new) (K.told sink.new) result }
     ensures later { (S.faults source.old ≤ S.faults source.new) × (K.faults sink.old ≤ K.faults sink.new) }
-    ensures cause { TurnedCause L.Disk (λ life. life.log.log.device) disk (S.faults source.old) (S.faults source.new) (K.faults sink.old) (K.faults sink.new) result }
+    ensures cause { TurnedCause L.Disk (λ b. b.log.log.device) disk (S.faults source.old) (S.faults source.new) (K.faults sink.old) (K.faults sink.new) result }
 {
     let (command, line) = match next_command(alloc, input, source) {
         Ok(Some(next)) => next,
@@ -60,7 +59,7 @@ pub fn turn_outside<S: Source, K: Sink, V: Vault, L: Disk>(
         },
         Err(status) => return Turned::Ends { status, disk },
     };
-    match outside::step(alloc, operators, disk, &command, line) {
+    match outside::step(alloc, disk, &command, line) {
         Stepped::Goes { lines, at } => {
             cycle(vault, &command);
             match write_all(sink, &lines) {
@@ -76,19 +75,22 @@ pub fn turn_outside<S: Source, K: Sink, V: Vault, L: Disk>(
 }
 
 /// One line within a life. The end of the input ends the run. A stop is left to the caller, who has the life.
-pub fn turn_inside<'a, N: Life, S: Source, K: Sink, V: Vault, L: Disk>(
+pub fn turn_inside<'a, N: Life, S: Source, K: Sink, V: Vault, L: Disk, P: LifePages<N>, R: Wait>(
+    rt: &R,
     alloc: Global,
-    operators: &Operators,
     input: &mut Input,
     source: &mut S,
     sink: &mut K,
-    life: &mut OpenLife<'a, N, L>,
+    life: &mut OwnLife<'a, L, N>,
+    pages: &mut P,
 ) -> Passed
+    requires idle { P.idle pages.old }
+    ensures idle { P.idle pages.new }
     ensures turns { (v : View L.tells) (start : Start) (first vault : V) (left told : Option (List ℕ)) (turns : List Turn)
-        → Between (IsWhole v) start (Beside V.Vault first vault (Within (seen L.Disk v) life.old.log life.old.leaf life.old.transactions)) left told input.old turns (S.left source.old) (K.told sink.old)
-        → PassedTo L.tells (seen L.Disk v) V.Vault start (Within (seen L.Disk v) life.new.log life.new.leaf life.new.transactions) life.new.log.log.device first vault left told input.new turns (S.left source.new) (K.told sink.new) result }
+        → Between (IsWhole v) start (Beside V.Vault first vault (Within (seen L.Disk v) N.opens life.old)) left told input.old turns (S.left source.old) (K.told sink.old)
+        → PassedTo L.tells (seen L.Disk v) V.Vault start (Within (seen L.Disk v) N.opens life.new) (IsDiskOf L.Disk N.opens life.new) first vault left told input.new turns (S.left source.new) (K.told sink.new) result }
     ensures later { (S.faults source.old ≤ S.faults source.new) × (K.faults sink.old ≤ K.faults sink.new) }
-    ensures cause { PassedCause L.Disk life.old.log.log.device life.new.log.log.device (S.faults source.old) (S.faults source.new) (K.faults sink.old) (K.faults sink.new) result }
+    ensures cause { PassedCause life.old.calls life.new.calls (S.faults source.old) (S.faults source.new) (K.faults sink.old) (K.faults sink.new) result }
 {
     let (command, line) = match next_command(alloc, input, source) {
         Ok(Some(next)) => next,
@@ -104,7 +106,7 @@ pub fn turn_inside<'a, N: Life, S: Source, K: Sink, V: Vault, L: Disk>(
                 status: Status::Memory,
             },
         },
-        _ => match life.step(alloc, operators, &command, line) {
+        _ => match life_commands::step(rt, alloc, life, pages, &command, line) {
             Ok(lines) => match write_all(sink, &lines) {
                 Ok(()) => Passed::Goes,
                 Err(_) => Passed::Ends {

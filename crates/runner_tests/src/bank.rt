@@ -1,6 +1,7 @@
 //! A bank with two accounts, over two lives.
 
-use crate::fixture::{blank, is_done, run};
+use media_mem::MemDisk;
+use script_runs::{is_done, run};
 use std::test::Fail;
 
 /// Accounts are opened, money moves between them, and the machine stops between the two puts of the next move.
@@ -25,9 +26,9 @@ const AUDIT_PRINTED: &str = "open commits=2 losers=0\nAudit begin\nAudit get ali
 #[test]
 fn money_is_neither_made_nor_lost(rt: HostRuntime) -> Result<(), Fail> {
     let alloc = rt.alloc();
-    let day = run(alloc, DAY, blank(alloc))?;
-    assert!(rt; is_done(&day, DAY_PRINTED));
-    let audit = run(alloc, AUDIT, day.devices)?;
-    assert!(rt; is_done(&audit, AUDIT_PRINTED));
+    let day = run(&rt, alloc, DAY, MemDisk::new(alloc))?;
+    assert!(rt; is_done(alloc, &day, DAY_PRINTED)?);
+    let audit = run(&rt, alloc, AUDIT, day.log)?;
+    assert!(rt; is_done(alloc, &audit, AUDIT_PRINTED)?);
     Ok(())
 }

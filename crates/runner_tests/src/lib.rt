@@ -1,17 +1,22 @@
-//! Whole scripts, and what runs leave whose log disk refuses a call, or whose machine stops.
+//! Whole scripts.
 //!
-//! The crate has tests alone. They run scripts on devices in memory: worked ones, random ones beside an ordered map, a stop
-//! after each call of a commit and of a format, with each number of bytes kept, and a small example of a bank. What they
-//! expect is written down beside the scripts. They stand in a crate of their own, since a crate with tests is proved a second time with them.
+//! The crate has tests alone. They run scripts on devices in memory: worked ones of one transaction and of several, of lives
+//! that follow each other, of trees and of refusals, random ones beside an ordered map, and a small example of a bank. What
+//! they expect is written down beside the scripts. They stand in a crate of their own, since a crate with tests is proved a
+//! second time with them.
 #![tactic(auto)]
 
 #[cfg(test)]
 mod bank;
 #[cfg(test)]
-mod commits;
+mod random;
 #[cfg(test)]
-mod fixture;
+mod refusals;
 #[cfg(test)]
-mod formats;
+mod restarts;
+#[cfg(test)]
+mod schedules;
 #[cfg(test)]
 mod scripts;
+#[cfg(test)]
+mod trees;

@@ -1,4 +1,4 @@
-use Rattle.runner.specs.Turns.{stage}
+use Rattle.life_commands.specs.Turns.{stage}
 use Rattle.runner.proofs.NextCalls.{hands_on}
 use Rattle.runner.proofs.laws.next_call_law.Goals as goal
 

@@ -3,7 +3,7 @@ use Rattle.runner.proofs.living.run_from.Given as goal
 
 abbrev pub ghosts-run_named-N-Life : goal.ghosts-run_named-N-Life
 ghosts-run_named-N-Life g a = record {
-  opens = BeginsOn g.L.Disk a.opened;
+  opens = BeginsOn g.L.Disk.tells g.L.Disk a.opened;
   entries = a.unnamed.entries;
   session_entries = a.unnamed.session_entries;
   log_faults = a.unnamed.log_faults;

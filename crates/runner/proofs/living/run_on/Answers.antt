@@ -1,15 +1,21 @@
-use Rattle.std.proofs.Common.{sym, subst}
+use Rattle.std.proofs.Common.{subst, sym, ap, ◌∙◌}
 use Rattle.log_manager.specs.Managed.{Managed}
-use Rattle.runner.specs.Clause.{Between}
-use Rattle.runner.specs.LogDisk.{IsWhole, seen}
-use Rattle.runner.specs.Machine.{In}
-use Rattle.runner.specs.Vault.{Beside}
-use Rattle.runner.specs.Standing.{Standing, standing_with}
+use Rattle.life_commands.specs.declared.status.Status.TheVariants as statuses
+use Rattle.life_commands.specs.LogDisk.{seen}
+use Rattle.life_commands.specs.Living.{Within}
+use Rattle.life_commands.specs.Turns.{stage}
+use Rattle.runner.specs.Clause.{Headline}
+use Rattle.runner.proofs.Insides.{within_begun}
+use Rattle.runner.proofs.Places.{safe_begun}
+use Rattle.runner.proofs.Runs.{between_as, ends_here}
 use Rattle.runner.proofs.living.run_on.Goals as goal
 
-pub returns-clause-turns : goal.returns-clause-turns
-returns-clause-turns g c = λ v start first left told turns b.
-    let life = c.new-life.result in
+pub returns-in-Ok-clause-turns : goal.returns-in-Ok-clause-turns
+returns-in-Ok-clause-turns g c = λ v start first left told turns b.
     c.run_life.ensures.turns v start first left told turns
-    (subst (λ (m : Managed g.row.L.Denot). Between (IsWhole v) start (Beside g.V.Vault first c.args.vault.now (In (seen g.L.Disk v) m.log (standing_with life.leaf life.transactions))) left told c.args.input.now turns (g.S.Source.left c.args.source.now) (g.K.Sink.told c.args.sink.now)) (sym c.new-life.ensures.log)
-    (subst (λ (x : Standing). Between (IsWhole v) start (Beside g.V.Vault first c.args.vault.now (In (seen g.L.Disk v) c.args.opened.log.log x)) left told c.args.input.now turns (g.S.Source.left c.args.source.now) (g.K.Sink.told c.args.sink.now)) (sym c.new-life.ensures.standing) b))
+    (between_as (Within (seen g.L.Disk v) g.N.Life.opens c.in-Ok.life) (within_begun g.L.Disk v g.N.Life.opens c.args.opened c.into_log.result.log c.in-Ok.life (stage start turns) (λ opening begins. (c.requires.opens opening).1 begins) c.into_log.ensures.is.0 c.in-Ok.ensures.begins b.holds.here) b)
+
+pub returns-in-Err-clause-turns : goal.returns-in-Err-clause-turns
+returns-in-Err-clause-turns g c = λ v start first left told turns b.
+    subst (λ (d : g.row.L.Denot). Headline g.L.Disk.tells (seen g.L.Disk v) g.V.Vault start d first c.args.vault.now left c.args.input.now.pending (g.S.Source.left c.args.source.now) told (g.K.Sink.told c.args.sink.now) statuses.Memory) (sym (c.in-Err.ensures.refused ∙ ap (λ (m : Managed g.row.L.Denot). m.log.device) c.into_log.ensures.is.0))
+    (ends_here g.L.Disk.tells (seen g.L.Disk v) c.args.opened.log.log.device b (safe_begun (seen g.L.Disk v) g.L.Disk.tells c.args.opened (stage start turns) b.holds.here))

@@ -1,11 +1,10 @@
 use Rattle.std.proofs.Common.{rules}
-use Rattle.runner.specs.Standing.{Beginning}
-use Rattle.runner.specs.LogDisk.{seen}
-use Rattle.runner.specs.Machine.{In}
+use Rattle.life_commands.specs.LogDisk.{seen}
+use Rattle.runner.specs.Machine.{Begun}
 use Rattle.runner.proofs.Known.{known_by}
-use Rattle.runner.proofs.Lives.{tells_of}
+use Rattle.life_commands.proofs.Lives.{tells_of}
 use Rattle.runner.proofs.Without.{did_fuse}
 use Rattle.runner.proofs.outside.fuse.Goals as goal
 
 pub returns-in-Ok-clause-turns : goal.returns-in-Ok-clause-turns
-returns-in-Ok-clause-turns g c = λ v s h. did_fuse g.L.Disk.tells (seen g.L.Disk v) (λ (life : Beginning g.row.L.Denot). In (seen g.L.Disk v) life.log.log life.standing) c.args.disk s h c.fuse.new.self (λ t. c.fuse.ensures.told (tells_of v t)) c.fuse.ensures.crash (known_by g.L.Disk.tells g.L.Disk c.args.disk c.fuse.new.self c.fuse.ensures.told c.fuse.ensures.crash) c.args.device c.args.calls c.in-Ok.lines.items (search rules) c.in-Ok.ensures
+returns-in-Ok-clause-turns g c = λ v s h. did_fuse g.L.Disk.tells (seen g.L.Disk v) (Begun g.L.Disk.tells (seen g.L.Disk v)) c.args.disk s h c.fuse.new.self (λ t. c.fuse.ensures.told (tells_of v t)) c.fuse.ensures.crash (known_by g.L.Disk.tells g.L.Disk c.args.disk c.fuse.new.self c.fuse.ensures.told c.fuse.ensures.crash) c.args.device c.args.calls c.in-Ok.lines.items (search rules) c.in-Ok.ensures

@@ -1,9 +1,8 @@
 use Rattle.std.proofs.Common.{arith, [], ◌∷◌, ◌++◌}
-use Rattle.std.proofs.KnownBytes.{Consumes-nil}
-use Rattle.runner.specs.LogDisk.{seen}
-use Rattle.runner.specs.Machine.{Out}
-use Rattle.runner.proofs.Lives.{safe_out}
-use Rattle.runner.proofs.Runs.{at_start, no_memory}
+use Rattle.life_commands.specs.LogDisk.{seen}
+use Rattle.life_commands.specs.Turns.{stage}
+use Rattle.runner.proofs.Places.{safe_out}
+use Rattle.runner.proofs.Runs.{at_start, ends_here}
 use Rattle.runner.proofs.run.run.Goals as goal
 
 pub loop-init : goal.loop-init
@@ -34,4 +33,4 @@ returns-in-Ends-clause-headline g c = λ v start out.
 pub returns-clause-headline : goal.returns-clause-headline
 returns-clause-headline g c = λ v start out.
     let p = c.loop.invariant.turns v start out in
-    no_memory g.L.Disk.tells (seen g.L.Disk v) g.V.Vault start c.loop.disk c.args.vault.now c.loop.vault _ _ c.loop.input c.loop.input _ _ _ p.0 (Out g.L.Disk.tells (seen g.L.Disk v) c.loop.disk) (λ s h. safe_out (seen g.L.Disk v) g.L.Disk.tells c.loop.disk s h) p.1 p.1.most [] (Consumes-nil _) (omega arith)
+    ends_here g.L.Disk.tells (seen g.L.Disk v) c.loop.disk p.1 (safe_out (seen g.L.Disk v) g.L.Disk.tells c.loop.disk (stage start p.0) p.1.holds.here)

@@ -1,7 +1,7 @@
 use Rattle.std.proofs.Common.{◌≤◌, List}
 use Rattle.line_reader.specs.Lines.{to_come}
-use Rattle.runner.specs.LogDisk.{View, IsWhole, seen}
-use Rattle.runner.specs.Turns.{Start, Turn, begin_stage}
+use Rattle.life_commands.specs.LogDisk.{View, IsWhole, seen}
+use Rattle.life_commands.specs.Turns.{Start, Turn, begin_stage}
 use Rattle.runner.specs.Machine.{Out}
 use Rattle.runner.specs.Vault.{Beside}
 use Rattle.runner.specs.Clause.{Between}

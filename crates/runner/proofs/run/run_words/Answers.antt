@@ -1,10 +1,8 @@
 use Rattle.std.proofs.Common.{sym, ap, subst, ℕ}
 use Rattle.media.specs.Cause.{Rose}
 use Rattle.media.specs.Fused.{Fused}
-use Rattle.runner.specs.LogDisk.{Whole, seen}
-use Rattle.runner.specs.Bytes.{Unknown}
-use Rattle.runner.specs.Turns.{Start}
-use Rattle.runner.proofs.Fused.{asked, begun_fused, ended_fused}
+use Rattle.life_commands.specs.LogDisk.{seen}
+use Rattle.runner.proofs.Fused.{asked_fused, begun_fused, ended_fused}
 use Rattle.runner.proofs.Runs.{not_called, not_generated, no_buffer, ran_whole}
 use Rattle.runner.proofs.run.run_words.Goals as goal
 
@@ -27,10 +25,7 @@ returns-clause-headline g c = λ v start keeps known.
 
 pub returns-clause-complete : goal.returns-clause-complete
 returns-clause-complete g c = λ call t last keeps source sink own.
-    let start : Start = record { last = last; bytes = Unknown } in
-    let h = c.run-status.ensures.headline (Whole t) start (begun_fused g.L.Disk (Whole t) c.new-2.result c.args.devices.log c.new-2.ensures start (λ w. keeps) tt) in
-    let e = ended_fused g.L.Disk g.V.Vault c.args.devices.vault c.run-status.new.vault (Whole t) c.run-status.result.1 c.into_inner.result c.into_inner.ensures start _ _ _ _ _ c.run-status.result.0 h in
-    asked (seen g.L.Disk (Whole t)) g.V.Vault start c.into_inner.result c.args.devices.vault c.run-status.new.vault _ _ _ _ _ c.run-status.result.0 g.L.Disk.tells e tt c.run-status.ensures.called
+    asked_fused g.L.Disk c.new-2.result c.args.devices.log c.new-2.ensures c.run-status.ensures.headline t last keeps c.run-status.ensures.called
     (λ is. source (c.run-status.ensures.cause.source is))
     (λ is. sink (c.run-status.ensures.cause.sink is))
     (λ is. own (subst (λ (n : ℕ). Rose (g.L.Disk.faults c.args.devices.log) n) (ap (λ (d : g.row.L.Denot). g.L.Disk.faults d) (sym c.into_inner.ensures)) (subst (λ (f : Fused g.row.L.Denot). Rose (g.L.Disk.faults f.inner) (g.L.Disk.faults c.run-status.result.1.inner)) c.new-2.ensures (c.run-status.ensures.cause.log is))))

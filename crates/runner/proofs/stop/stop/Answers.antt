@@ -1,6 +1,6 @@
-use Rattle.runner.specs.LogDisk.{seen}
+use Rattle.life_commands.specs.LogDisk.{seen}
 use Rattle.runner.proofs.Known.{known_behind}
-use Rattle.runner.proofs.Lives.{tells_of}
+use Rattle.life_commands.proofs.Lives.{tells_of}
 use Rattle.runner.proofs.Without.{did_stop}
 use Rattle.runner.proofs.stop.stop.Goals as goal
 

@@ -1,0 +1,13 @@
+//! What runs leave whose log disk refuses a call, or whose machine stops.
+//!
+//! The crate has tests alone. A fuse blows at each call of a commit and of a format, and a stop keeps each number of bytes; it
+//! blows at each call of lives with a split, an abort and losers, and of those that undo them. What the next life finds is
+//! written down beside the scripts.
+#![tactic(auto)]
+
+#[cfg(test)]
+mod commits;
+#[cfg(test)]
+mod cuts;
+#[cfg(test)]
+mod formats;
