@@ -1,9 +1,0 @@
-pub mod Counting
-pub mod Pages
-pub mod Stepping
-pub mod Finding
-pub mod Payload
-pub mod ReadBlocks
-pub mod Opening
-pub mod WholeLogs
-pub mod Examples
