@@ -18,12 +18,9 @@ const BEFORE_PRINTED: &str =
     A put g was none\nA put h was none\nA put i was none\nA put j was none\nA put k was none\nA put l was none\n\
     A put m was none\nA put n was none\nA put o was none\nA put p was none\n";
 
-/// A line of a script, what its answer begins with, and the rest of it.
-type Line<'a> = (&'a str, &'a str, &'a str);
-
-/// The lines behind them: the root grows and adopts in the first put, C's commit makes the writes of L and B durable, and D's
+/// The lines behind them, each with what its answer begins with, and the rest of it: the root grows and adopts in the first put, C's commit makes the writes of L and B durable, and D's
 /// commit the undo of B.
-const LINES: [Line<'_>; 11] = [
+const LINES: [(&str, &str, &str); 11] = [
     ("commit A", "A commit", " 1"),
     ("put L a 1", "L put a", " was = V"),
     ("put B b 1", "B put b", " was = V"),
@@ -37,26 +34,48 @@ const LINES: [Line<'_>; 11] = [
     ("put L p 1", "L put p", " was = V"),
 ];
 
+/// A line of a script, what its answer begins with, and the rest of it.
+#[derive(Drop)]
+struct Line {
+    asked: String,
+    head: String,
+    answer: String,
+}
+
+fn line_of(alloc: Global, asked: &str, head: &str, answer: &str) -> Result<Line, Fail> {
+    Ok(Line {
+        asked: String::from_str(alloc, asked)?,
+        head: String::from_str(alloc, head)?,
+        answer: String::from_str(alloc, answer)?,
+    })
+}
+
 /// A life: the lines before its fuse, those behind it, and the last durable record behind so many of their commits.
-#[derive(Clone, Copy)]
-struct Life<'a> {
-    before: &'a str,
-    before_printed: &'a str,
-    lines: &'a [Line<'a>],
+#[derive(Drop)]
+struct Life {
+    before: String,
+    before_printed: String,
+    lines: Vec<Line>,
     durable: [u64; 4],
     /// The commits of the first life that this one finds, where it is the second.
     left: Option<usize>,
 }
 
-/// The log has Format, then sixteen Writes, a Split and a Commit, then Grow, Adopt, four Writes and a Commit, then two Undos,
-/// an End, a Write and a Commit.
-const FIRST: Life<'_> = Life {
-    before: BEFORE,
-    before_printed: BEFORE_PRINTED,
-    lines: &LINES,
-    durable: [1, 19, 26, 31],
-    left: None,
-};
+/// The first life, with so many of its lines. The log has Format, then sixteen Writes, a Split and a Commit, then Grow, Adopt,
+/// four Writes and a Commit, then two Undos, an End, a Write and a Commit.
+fn first_life(alloc: Global, lines: usize) -> Result<Life, Fail> {
+    let mut taken = Vec::new(alloc);
+    for (asked, head, answer) in LINES.iter().take(lines) {
+        taken.push(line_of(alloc, asked, head, answer)?)?;
+    }
+    Ok(Life {
+        before: String::from_str(alloc, BEFORE)?,
+        before_printed: String::from_str(alloc, BEFORE_PRINTED)?,
+        lines: taken,
+        durable: [1, 19, 26, 31],
+        left: None,
+    })
+}
 
 /// What so many commits leave: losers, their writes, and pages. Before D's commit B is one of the losers.
 const LEFT: [(u64, u64, u64); 4] = [(0, 0, 1), (0, 0, 2), (2, 3, 3), (1, 1, 3)];
@@ -104,11 +123,11 @@ fn audit(alloc: Global, left: usize, second: usize) -> Result<String, Fail> {
     )?)
 }
 
-impl<'a> Life<'a> {
+impl Life {
     fn script(&self, alloc: Global, calls: u64, keep: u64) -> Result<String, Fail> {
         let mut script = format!(in alloc; "{}fuse log {calls}\n", self.before)?;
-        for (asked, _, _) in self.lines {
-            script.push_str(asked)?;
+        for line in &self.lines {
+            script.push_str(&line.asked)?;
             script.push_str("\n")?;
         }
         script.push_str(&format!(in alloc; "stop {keep}\n")?)?;
@@ -117,10 +136,10 @@ impl<'a> Life<'a> {
 
     /// How many of the first lines are commits.
     fn commits(&self, lines: usize) -> usize {
-        let (first, _) = self.lines.split_at(lines.min(self.lines.len()));
-        first
+        self.lines
             .iter()
-            .filter(|(asked, _, _)| asked.starts_with("commit"))
+            .take(lines)
+            .filter(|line| line.asked.starts_with("commit"))
             .count()
     }
 
@@ -128,10 +147,10 @@ impl<'a> Life<'a> {
     fn printed(&self, alloc: Global, calls: u64, blown: usize) -> Result<String, Fail> {
         let durable = self.durable.get(self.commits(blown)).copied().unwrap_or(0);
         let mut printed = format!(in alloc; "{}fuse log {calls}\n", self.before_printed)?;
-        for (place, (_, head, answer)) in self.lines.iter().enumerate() {
-            printed.push_str(head)?;
+        for (place, line) in self.lines.iter().enumerate() {
+            printed.push_str(&line.head)?;
             if place < blown {
-                printed.push_str(answer)?;
+                printed.push_str(&line.answer)?;
             } else if place == blown {
                 printed.push_str(" log failed")?;
             } else {
@@ -198,8 +217,10 @@ impl<'a> Life<'a> {
 
 #[test]
 fn a_stop_at_each_call_leaves_what_was_acknowledged(rt: HostRuntime) -> Result<(), Fail> {
+    let alloc = rt.alloc();
+    let life = first_life(alloc, LINES.len())?;
     for keep in [0, 4096] {
-        FIRST.try_each(&rt, rt.alloc(), &[], keep)?;
+        life.try_each(&rt, alloc, &[], keep)?;
     }
     Ok(())
 }
@@ -217,15 +238,14 @@ fn try_second<R: Wait>(
     let pairs = pairs_shown(alloc, left)?;
     let stat = stat_shown(alloc, left, undone, pages)?;
     let committed = format!(in alloc; " {}", left.saturating_add(1))?;
-    let lines: [Line<'_>; 3] = [
-        ("scan Q % %", "Q scan % %", &pairs),
-        ("stat", "stat", &stat),
-        ("commit Q", "Q commit", &committed),
-    ];
+    let mut lines = Vec::new(alloc);
+    lines.push(line_of(alloc, "scan Q % %", "Q scan % %", &pairs)?)?;
+    lines.push(line_of(alloc, "stat", "stat", &stat)?)?;
+    lines.push(line_of(alloc, "commit Q", "Q commit", &committed)?)?;
     let second = Life {
-        before: "open\nbegin Q\n",
-        before_printed: &before_printed,
-        lines: &lines,
+        before: String::from_str(alloc, "open\nbegin Q\n")?,
+        before_printed,
+        lines,
         durable: [durable; 4],
         left: Some(left),
     };
@@ -237,13 +257,10 @@ fn try_second<R: Wait>(
 fn a_stop_at_each_call_of_an_undo_leaves_the_same(rt: HostRuntime) -> Result<(), Fail> {
     let alloc = rt.alloc();
     for (lines, left, durable) in [(6, 2, 26), (11, 3, 31)] {
-        let first = Life {
-            lines: LINES.split_at(lines.min(LINES.len())).0,
-            ..FIRST
-        };
-        let script = first.script(alloc, 100, 0)?;
+        let life = first_life(alloc, lines)?;
+        let script = life.script(alloc, 100, 0)?;
         let ran = run(&rt, alloc, &script, MemDisk::new(alloc))?;
-        assert!(rt; is_done(alloc, &ran, &first.printed(alloc, 100, lines)?)?);
+        assert!(rt; is_done(alloc, &ran, &life.printed(alloc, 100, lines)?)?);
         try_second(&rt, alloc, ran.log.bytes(), left, durable)?;
     }
     Ok(())
