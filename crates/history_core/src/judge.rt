@@ -1,17 +1,17 @@
 //! The judge.
 ghost use Rattle.std.specs.Prelude.{◌≡◌, ◌↔◌, ℕ, List, None, false, IsTrue};
 ghost use Rattle.wal_record.specs.History.{Committed, Live, is_owner, phase};
-ghost use Rattle.wal_record.specs.Legal.{EntryRule, IsAllowed, MayAcknowledge, MayBegin, MayRepair, untold};
+ghost use Rattle.wal_record.specs.Legal.{EntryRule, IsAllowed, MayAcknowledge, MayBegin, MayRepair, split_leaf, untold};
 ghost use Rattle.wal_record.specs.declared.entry.Entry.{Entry};
 ghost use Rattle.wal_record.specs.declared.record.Record.{Record};
 ghost use Rattle.history_core.specs.Judging.{IsJudgeOf, is_record};
 
 use crate::tests_of::is_none;
 use lock_judge::TakenLocks;
-use log_index::Listing;
 use operators::Operators;
+use page_judge::Image;
 use phase_judge::Phases;
-use reply_judge::CurrentContents;
+use record_judge::RecordJudge;
 use store_model::{List, PageNo, TxId};
 use wal_record::{Entry, Loser, Record};
 
@@ -20,14 +20,13 @@ use wal_record::{Entry, Loser, Record};
 pub struct Judge {
     pub(crate) phases: Phases,
     pub(crate) locks: TakenLocks,
-    pub(crate) listing: Listing,
+    pub(crate) log: RecordJudge,
     /// The losers of the opening log.
     pub(crate) losers: List<Loser>,
-    pub(crate) contents: CurrentContents,
     /// The write that its transaction wasn't told of yet, where the last entry is one.
     pub(crate) untold: Option<Record>,
-    /// Whether the last entry split a leaf.
-    pub(crate) split: bool,
+    /// The leaf that the last entry split, as it was before, where it did.
+    pub(crate) split: Option<Image>,
 }
 
 impl Judge {
@@ -59,7 +58,7 @@ impl Judge {
     fn may_repair(&self, page: PageNo) -> bool
         ensures { (opening : List Record) → (h : List Entry) → IsJudgeOf opening h self.now → IsTrue result ↔ MayRepair opening h page }
     {
-        is_none(&self.untold) && self.listing.written_lsn(page) > 0
+        is_none(&self.untold) && self.log.listing.written_lsn(page) > 0
     }
 
     /// Whether the rule of its kind allows an entry that is no record.
@@ -93,10 +92,17 @@ impl Judge {
         }
     }
 
+    /// Whether the last entry split no leaf.
+    fn is_whole(&self) -> bool
+        ensures { (opening : List Record) → (h : List Entry) → IsJudgeOf opening h self.now → IsTrue result ↔ (split_leaf opening h ≡ None) }
+    {
+        self.split.is_none()
+    }
+
     /// Whether an entry that is no record is legal here.
-    pub fn allows(&self, operators: &Operators, entry: &Entry) -> bool
+    pub(crate) fn allows(&self, operators: &Operators, entry: &Entry) -> bool
         ensures { (opening : List Record) → (h : List Entry) → IsJudgeOf opening h self.now → is_record entry.now ≡ false → IsTrue result ↔ IsAllowed opening h entry.now }
     {
-        !self.split && self.keeps_rule(operators, entry)
+        self.is_whole() && self.keeps_rule(operators, entry)
     }
 }

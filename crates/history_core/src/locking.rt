@@ -47,7 +47,7 @@ impl Judge {
     fn is_unmet(&self, range: &KeyRange) -> bool
         ensures { (opening : List Record) → (h : List Entry) → IsJudgeOf opening h self.now → IsTrue result ↔ (find (has_open_in range.now (life_log opening h)) (losers opening) ≡ None) }
     {
-        is_none(first_in(self.losers.as_slice(), &self.listing, range))
+        is_none(first_in(self.losers.as_slice(), &self.log.listing, range))
     }
 
     /// Whether neither is in the way of a lock.

@@ -10,7 +10,7 @@ ghost use Rattle.wal_record.specs.Locks.{covers_write, taken_locks};
 ghost use Rattle.wal_record.specs.OpenWrites.{pending};
 ghost use Rattle.wal_record.specs.declared.entry.Entry.{Entry};
 ghost use Rattle.wal_record.specs.declared.record.Record.{Record};
-ghost use Rattle.history_core.specs.Judging.{IsJudgeOf};
+ghost use Rattle.history_core.specs.Judging.{IsFull, IsJudgeOf};
 
 use crate::judge::Judge;
 use operators::Operators;
@@ -45,21 +45,21 @@ impl Judge {
     {
         match why {
             Outcome::Full { pages, pending } => {
-                self.is_full(*pages, *pending) && writes(&self.contents, operators, request)
+                self.is_full(*pages, *pending) && writes(&self.log.contents, operators, request)
             }
-            Outcome::OpRefused => has_no_meaning(&self.contents, operators, request),
+            Outcome::OpRefused => has_no_meaning(&self.log.contents, operators, request),
             _ => false,
         }
     }
 
     /// Whether so many pages and pending writes stand, and a page and a write more don't.
     fn is_full(&self, told_pages: u32, told_pending: u32) -> bool
-        ensures { (opening : List Record) → (h : List Entry) → IsJudgeOf opening h self.now → IsTrue result ↔ ((told_pages ≡ pages (life_log opening h)) × (told_pending ≡ pending (life_log opening h)) × (limit_of (life_log opening h) < pages (life_log opening h) + pending (life_log opening h) + 2)) }
+        ensures { (opening : List Record) → (h : List Entry) → IsJudgeOf opening h self.now → IsTrue result ↔ IsFull (life_log opening h) told_pages told_pending }
     {
         is_full(
-            self.listing.limit(),
-            self.listing.pages() as u64,
-            self.listing.pending(),
+            self.log.listing.limit(),
+            self.log.listing.pages() as u64,
+            self.log.listing.pending(),
             told_pages,
             told_pending,
         )

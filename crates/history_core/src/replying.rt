@@ -33,7 +33,7 @@ impl Judge {
     fn is_answer(&self, tx: TxId, request: &Request, reply: &Reply) -> bool
         ensures { (opening : List Record) → (h : List Entry) → IsJudgeOf opening h self.now → IsTrue result ↔ (IsReadLocked (taken_locks h tx) request.now × IsAnswer (current (life_log opening h)) request.now reply.now) }
     {
-        self.is_locked_for(tx, request) && answers(&self.contents, request, reply)
+        self.is_locked_for(tx, request) && answers(&self.log.contents, request, reply)
     }
 
     /// Whether the reply is right, for a transaction that holds what it took.

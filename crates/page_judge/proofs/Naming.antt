@@ -3,6 +3,7 @@ use Rattle.std.proofs.Common.{◌≡◌, ℕ, zero, suc, eqb, ◌<◌, ◌≤◌
 use Rattle.std.specs.Prelude.{◌||◌, slice_get, IsTrue}
 use Rattle.std.specs.Option.{option_map, option_map_or}
 use Rattle.std.proofs.lemmas.Bool.Decides.{nat_tests}
+use Rattle.std.proofs.lemmas.List.{length-map, length-take}
 use Rattle.store_model.proofs.Bools.{or_left, or_right}
 use Rattle.wal_record.specs.Chains.{names, names_at, record_with}
 use Rattle.wal_record.specs.declared.record.Record.{Record}
@@ -118,3 +119,12 @@ module _ (log : List Record) (kept : List NamedPages) (is : kept ≡ map named_b
   kept_more r x now same push =
       let all : now ≡ map named_by (log ++ r ∷ []) = push ∙ (λ i. is i ++ same i ∷ []) ∙ sym (map_push log r) in
       take_whole now (length (log ++ r ∷ [])) (sym (ap length all ∙ map_length (log ++ r ∷ []))) ∙ all
+
+-- ---- how many
+
+pub few_named : (log : List Record) (xs : List NamedPages) → take (length log) xs ≡ map named_by log → length log ≤ length xs
+few_named log xs same =
+    let taken = length-take (length log) xs in
+    let size = ap length same in
+    let all = length-map log named_by in
+    omega (arith, taken, size, all)

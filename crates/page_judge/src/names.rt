@@ -1,5 +1,5 @@
 //! The pages that records name.
-ghost use Rattle.std.specs.Prelude.{◌≡◌, ◌≤◌, ◌+◌, ◌-◌, ◌∷◌, ◌++◌, [], List, length, take, OnOk};
+ghost use Rattle.std.specs.Prelude.{◌≡◌, ◌<◌, ◌≤◌, ◌+◌, ◌-◌, ◌^◌, ◌∷◌, ◌++◌, [], List, length, take, OnOk};
 ghost use Rattle.wal_record.specs.Chains.{names_at};
 ghost use Rattle.wal_record.specs.declared.record.Record.{Record};
 ghost use Rattle.page_judge.specs.Names as names;
@@ -104,6 +104,13 @@ impl PageNames {
             Some(named) => has_page(page, named),
             None => false,
         }
+    }
+
+    /// A log of which these are kept has fewer than 2^63 records, since more have no room.
+    pub fn length_law(&self)
+        ensures { (log : List Record) → AreNamesOf log self.now → length log < 2 ^ 63 }
+    {
+        let _count = self.named.as_slice().len();
     }
 
     /// The next record, with this LSN. These are then also those of the log before it, and where memory runs out no others.

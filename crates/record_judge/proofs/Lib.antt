@@ -1,0 +1,5 @@
+pub mod Beginning
+pub mod Rooms
+pub mod Deciding
+pub mod Taking
+pub mod OneMore
