@@ -26,7 +26,7 @@ use Rattle.wal_record.specs.Upkeep.{written_lsn}
 use Rattle.page_ops.specs.Outcomes.{IsFull, repairs}
 use Rattle.page_ops.specs.declared.group.Group.{Group}
 use Rattle.buffer_pool.specs.Repairs.{IsRepair, Repairs}
-use Rattle.buffer_pool.specs.Writes.{no_faults}
+use Rattle.buffer_pool.specs.Writes.{is_written, no_faults}
 use Rattle.page_repair.specs.Supplies.{is_restored}
 
 -- ---- kinds of entries
@@ -58,6 +58,9 @@ restored_kind (entries.Said session tx request reply) h = absurd (cc h)
 restored_kind (entries.Declined session tx request why) h = absurd (cc h)
 restored_kind (entries.Acked session tx) h = absurd (cc h)
 restored_kind (entries.Began session tx) h = absurd (cc h)
+
+pub none_written : (e : Entry) → is_none e ≡ true → is_written e ≡ true
+none_written e is = absurd (cc is)
 
 pub none_kind : (e : Entry) → is_none e ≡ true → is_upkeep e ≡ true
 none_kind e h = absurd (cc h)

@@ -28,6 +28,10 @@ written_entries page lsn (Ok true) at = entries.Rec at (written_of page lsn) ∷
 written_entries page lsn (Ok false) at = []
 written_entries page lsn (Err fault) at = []
 
+abbrev pub is_written : Entry → Bool
+is_written (entries.Rec lsn (kinds.Written w)) = true
+is_written _ = false
+
 -- that, and nothing else, was entered by this call
 pub record EntersWritten (opens : List Record → Type 0) (ledger sessions : LedgerName) (page lsn : ℕ) (result : Result Bool Fault) (old new : Known) : Type 0 where
   pub at : ℕ

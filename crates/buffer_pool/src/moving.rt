@@ -5,7 +5,7 @@ ghost use Rattle.page_ops.specs.Claims.{no_claims};
 ghost use Rattle.page_ops.specs.Desks.{KeepsFaults};
 ghost use Rattle.page_ops.specs.Seeing.{Upholds, is_upkeep, known};
 ghost use Rattle.buffer_pool.specs.Tables.{HasFrame, SendsHome, Stays, Stores, frame_of, is_dirty, is_full};
-ghost use Rattle.buffer_pool.specs.Writes.{no_faults};
+ghost use Rattle.buffer_pool.specs.Writes.{is_written, no_faults};
 
 use crate::bringing::{anew, brought};
 use crate::dropping::into_right;
@@ -124,7 +124,7 @@ pub(crate) fn store<N: Life, J: Entering<N>, I: Images<N>, R: Wait>(
     ensures clean { OnOk result (is_dirty (frame_of frames.new page) ≡ false) }
     ensures stored { OnOk result (Stores page frames.old frames.new) }
     ensures same { OnErr result (Stays frames.old frames.new) }
-    ensures entered { Upholds N.opens N.entries N.session_entries is_upkeep (known (J.account journal.old) pass.old no_claims) (known (J.account journal.new) pass.new no_claims) }
+    ensures entered { Upholds N.opens N.entries N.session_entries is_written (known (J.account journal.old) pass.old no_claims) (known (J.account journal.new) pass.new no_claims) }
     ensures open { OnOk result (MeetsNoEnd (J.account journal.old) (J.account journal.new)) }
     ensures refused { IfErr result (FailsToReserve N.opens N.log_faults N.made no_faults no_faults (J.account journal.old) (J.account journal.new) pass.new.log) }
 {

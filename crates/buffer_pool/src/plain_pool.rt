@@ -1,21 +1,23 @@
 //! The pool of one thread.
 ghost use Rattle.std.specs.Prelude.{◌≡◌, false, ℕ, None, IfErr, IfOk, IfSome, OnErr, OnOk};
 ghost use Rattle.media.specs.Cause.{HasCause};
+ghost use Rattle.media.specs.Counted.{Armed};
+ghost use Rattle.media.specs.Images.{SameImages};
 ghost use Rattle.page_index.specs.Index.{home_of};
 ghost use Rattle.page_ops.specs.Causes.{FailsToReserve, MeetsNoEnd};
 ghost use Rattle.page_ops.specs.Claims.{IsInRange, no_claims};
-ghost use Rattle.page_ops.specs.Seeing.{Upholds, is_upkeep, known};
+ghost use Rattle.page_ops.specs.Seeing.{Upholds, known};
 ghost use Rattle.buffer_pool.specs.Tables.{IsNextDirty, Loses, Stays, Stores, frame_of, is_dirty};
-ghost use Rattle.buffer_pool.specs.Writes.{no_faults};
+ghost use Rattle.buffer_pool.specs.Writes.{is_written, no_faults};
 ghost use Rattle.buffer_pool.specs.declared.frame.Frame.TheVariants.{Empty};
 
 use crate::frames::Frames;
 use crate::moving::{fetch, fetch_anew, store};
 use front::Pass;
-use media::Failed;
+use media::{Failed, PageDevice};
 use page_index::PageIndex;
 use page_ops::{Entering, Held, Life, Pages, Rights, Taken};
-use page_repair::{Images, Supply};
+use page_repair::{Images, OwnImages, Supply};
 use std::alloc::Global;
 use std::sync::Wait;
 use store_model::{Fault, PageNo};
@@ -97,7 +99,7 @@ impl<I: Images<N>, S, N: Life> PlainPool<I, S, N> {
         ensures stored { OnOk result (Stores page self.old.frames self.new.frames) }
         ensures same { OnErr result (Stays self.old.frames self.new.frames) }
         ensures others { (self.new.out ≡ self.old.out) × (self.new.reserves ≡ self.old.reserves) × (self.new.supply ≡ self.old.supply) }
-        ensures entered { Upholds N.opens N.entries N.session_entries is_upkeep (known (J.account journal.old) pass.old no_claims) (known (J.account journal.new) pass.new no_claims) }
+        ensures entered { Upholds N.opens N.entries N.session_entries is_written (known (J.account journal.old) pass.old no_claims) (known (J.account journal.new) pass.new no_claims) }
         ensures open { OnOk result (MeetsNoEnd (J.account journal.old) (J.account journal.new)) }
         ensures refused { IfErr result (FailsToReserve N.opens N.log_faults N.made no_faults no_faults (J.account journal.old) (J.account journal.new) pass.new.log) }
     {
@@ -123,6 +125,27 @@ impl<I: Images<N>, S, N: Life> PlainPool<I, S, N> {
     {
         self.frames.lose();
         self.images.replace(rt)
+    }
+}
+
+impl<'a, D: PageDevice, S, N: Life> PlainPool<OwnImages<'a, D, N>, S, N> {
+    /// Reads of the page from the data device fail verification until its next write. After `Failed` they may.
+    pub fn spoil(&mut self, page: PageNo) -> Result<(), Failed>
+        ensures damaged { D.tells → OnOk result (D.spoiled self.new.images page) }
+        ensures others { (self.new.frames ≡ self.old.frames) × (self.new.out ≡ self.old.out) × (self.new.reserves ≡ self.old.reserves) × (self.new.supply ≡ self.old.supply) }
+        ensures same { D.tells → SameImages D.told D.newest self.old.images self.new.images }
+        ensures cause { HasCause D.faults self.old.images self.new.images result }
+    {
+        self.images.spoil(page)
+    }
+
+    /// Arms the data device's fuse, which lets n more calls pass, or renews it.
+    pub fn fuse(&mut self, n: Option<u64>)
+        ensures others { (self.new.frames ≡ self.old.frames) × (self.new.out ≡ self.old.out) × (self.new.reserves ≡ self.old.reserves) × (self.new.supply ≡ self.old.supply) }
+        ensures same { D.tells → SameImages D.told D.newest self.old.images self.new.images }
+        ensures fuse { Armed D.fuses D.passes D.refused D.own n self.old.images self.new.images }
+    {
+        self.images.fuse(n);
     }
 }
 

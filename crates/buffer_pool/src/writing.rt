@@ -3,10 +3,10 @@ ghost use Rattle.std.specs.Prelude.{◌≡◌, ◌≤◌, false, IfOk, IfErr, Is
 ghost use Rattle.media.specs.Cause.{Rose};
 ghost use Rattle.page_ops.specs.Causes.{FailsToReserve, MeetsNoEnd};
 ghost use Rattle.page_ops.specs.Claims.{no_claims};
-ghost use Rattle.page_ops.specs.Seeing.{Upholds, is_none, is_upkeep, known};
+ghost use Rattle.page_ops.specs.Seeing.{Upholds, is_none, known};
 ghost use Rattle.page_repair.specs.Supplies.{IsHead};
 ghost use Rattle.wal_record.specs.Rules.{is_number, is_page};
-ghost use Rattle.buffer_pool.specs.Writes.{EntersWritten, IsWrittenAs, no_faults, written_group};
+ghost use Rattle.buffer_pool.specs.Writes.{EntersWritten, IsWrittenAs, is_written, no_faults, written_group};
 
 use front::Pass;
 use page_image::seal;
@@ -29,7 +29,7 @@ pub(crate) fn write_page<N: Life, J: Entering<N>, I: Images<N>, R: Wait>(
 ) -> Result<bool, Fault>
     ensures written { IsWrittenAs result held.old held.new }
     ensures enters { EntersWritten N.opens N.entries N.session_entries held.old.page held.old.lsn result (known (J.account journal.old) pass.old no_claims) (known (J.account journal.new) pass.new no_claims) }
-    ensures entered { Upholds N.opens N.entries N.session_entries is_upkeep (known (J.account journal.old) pass.old no_claims) (known (J.account journal.new) pass.new no_claims) }
+    ensures entered { Upholds N.opens N.entries N.session_entries is_written (known (J.account journal.old) pass.old no_claims) (known (J.account journal.new) pass.new no_claims) }
     ensures failed { IfOk result (λ done. done ≡ false → Rose (I.faults images.old) (I.faults images.new)) }
     ensures open { OnOk result (MeetsNoEnd (J.account journal.old) (J.account journal.new)) }
     ensures refused { IfErr result (FailsToReserve N.opens N.log_faults N.made no_faults no_faults (J.account journal.old) (J.account journal.new) pass.new.log) }
@@ -101,7 +101,7 @@ fn enter_written<N: Life, J: Entering<N>, R: Wait>(
     requires named { IsHead N.opens pass.old.log page lsn }
     ensures done { IfOk result (λ done. IsTrue done) }
     ensures enters { EntersWritten N.opens N.entries N.session_entries page lsn result (known (J.account journal.old) pass.old no_claims) (known (J.account journal.new) pass.new no_claims) }
-    ensures entered { Upholds N.opens N.entries N.session_entries is_upkeep (known (J.account journal.old) pass.old no_claims) (known (J.account journal.new) pass.new no_claims) }
+    ensures entered { Upholds N.opens N.entries N.session_entries is_written (known (J.account journal.old) pass.old no_claims) (known (J.account journal.new) pass.new no_claims) }
     ensures open { OnOk result (MeetsNoEnd (J.account journal.old) (J.account journal.new)) }
     ensures refused { IfErr result (FailsToReserve N.opens N.log_faults N.made no_faults no_faults (J.account journal.old) (J.account journal.new) pass.new.log) }
 {

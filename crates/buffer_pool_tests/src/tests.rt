@@ -25,8 +25,12 @@ pub(crate) enum Step {
     Write,
     /// The data device is lost, and with it all that was written.
     Lose,
+    /// Reads of the page from the data device fail verification until its next write.
+    Damage,
     /// The page is taken and put back.
     Look,
+    /// The page is taken, and brought anew.
+    Renew,
 }
 
 /// What came of one page.
@@ -70,11 +74,18 @@ fn take<N: Life, R: Wait>(rt: &R, alloc: Global, begun: &mut Begun<N>, step: Ste
             journal.written = 0;
             pool.lose(rt).is_ok()
         }
+        Step::Damage => pool.spoil(1).is_ok(),
         Step::Look => match Pages::<N, Telling<N>>::try_take(pool, rt, 1) {
             Taken::Page(held) => {
                 Pages::<N, Telling<N>>::put_back(pool, rt, &mut Some(held));
                 true
             }
+            _ => false,
+        },
+        Step::Renew => match Pages::<N, Telling<N>>::try_take(pool, rt, 1) {
+            Taken::Page(held) => pool
+                .renew(rt, alloc, journal, &mut Some(held), pass)
+                .is_ok(),
             _ => false,
         },
     }
@@ -169,6 +180,9 @@ const WRITE: [Step; 4] = [Step::Bring, Step::Write, Step::Look, Step::Bring];
 /// The page is brought, and again.
 pub(crate) const AGAIN: [Step; 4] = [Step::Bring, Step::Look, Step::Bring, Step::Look];
 
+/// The page is brought and renewed.
+const RENEW: [Step; 4] = [Step::Bring, Step::Renew, Step::Look, Step::Bring];
+
 /// The device is lost behind the bring, and the page brought again.
 const LOSE: [Step; 4] = [Step::Bring, Step::Lose, Step::Look, Step::Bring];
 
@@ -199,7 +213,15 @@ const REPAIRED: Seen = Seen {
     ..OLDER
 };
 
-/// The same, where no image of it was written since the last loss.
+/// The same, and not written out.
+const UNWRITTEN: Seen = Seen {
+    dirty: [Some(1); 2],
+    writes: 0,
+    flushed: 0,
+    ..REPAIRED
+};
+
+/// The same, written out, where no image of it was written since the last loss.
 const REDONE: Seen = Seen {
     repairs: 0,
     ..REPAIRED
@@ -237,35 +259,80 @@ fn an_image_serves_from_the_written_lsn_to_the_head(rt: HostRuntime) -> Result<(
     Ok(())
 }
 
-/// Each byte of the digest, of the head and of the first fields of the state, and every 63rd of those behind.
+/// Each byte in turn, of an image that is sealed once.
 #[test]
 fn an_image_with_a_changed_byte_is_repaired(rt: HostRuntime) -> Result<(), Fail> {
     let alloc = rt.alloc();
+    let Some(state) = leaf_state(alloc) else {
+        return Err(Fail::new("no leaf"));
+    };
+    let mut bytes = seal(&state, 1, HEAD);
     for at in 0..4096 {
-        if at < 64 || at % 63 == 0 {
-            let device = device_with(alloc, 1, HEAD, Some(at), Vec::new(alloc))?;
-            let seen = run_with(&rt, alloc, device, written_as(HEAD, WRITE))?;
-            assert_eq!(rt; seen, REPAIRED, "at {at}");
-        }
+        bytes[at] ^= 1;
+        let mut device = MemPages::new(alloc);
+        device.write(1, &bytes).ok();
+        bytes[at] ^= 1;
+        let seen = run_with(&rt, alloc, device, written_as(HEAD, AGAIN))?;
+        assert_eq!(rt; seen, UNWRITTEN, "at {at}");
     }
     Ok(())
 }
 
-/// The second call of the device reads the page, the third writes it, and where that failed the fourth reads it again.
+/// The page is brought behind the damage, and written out.
+#[test]
+fn a_damaged_page_is_repaired(rt: HostRuntime) -> Result<(), Fail> {
+    let alloc = rt.alloc();
+    let device = device_with(alloc, 1, HEAD, None, Vec::new(alloc))?;
+    let steps = [Step::Damage, Step::Bring, Step::Write, Step::Look];
+    let expected = Seen {
+        dirty: [None; 2],
+        ..REPAIRED
+    };
+    assert_eq!(rt;
+        run_with(&rt, alloc, device, written_as(HEAD, steps))?,
+        expected
+    );
+    Ok(())
+}
+
+/// The second call of the device reads the page, the third writes it, and where that failed the fourth reads it again. Each of
+/// them fails, alone and with each other one.
 #[test]
 fn a_device_call_that_fails_is_no_fault_of_the_pool(rt: HostRuntime) -> Result<(), Fail> {
     let alloc = rt.alloc();
+    // The image on the device stays as it was.
     let dropped = Seen {
         done: [true, true, false, true],
-        dirty: [Some(1), Some(1)],
+        dirty: [Some(1); 2],
         from_base: 2,
         writes: 0,
         ..OLDER
     };
-    for (failing, expected) in [(2, REPAIRED), (3, dropped), (4, OLDER)] {
-        let device = device_with(alloc, 1, 3, None, vec![in alloc; failing]?)?;
+    let repaired_once = Seen {
+        from_base: 1,
+        from_nothing: 1,
+        repairs: 1,
+        ..dropped
+    };
+    let repaired_twice = Seen {
+        from_base: 0,
+        from_nothing: 2,
+        repairs: 2,
+        ..dropped
+    };
+    for (failing, expected) in [
+        ([0, 0, 0], OLDER),
+        ([2, 0, 0], REPAIRED),
+        ([0, 3, 0], dropped),
+        ([0, 0, 4], OLDER),
+        ([2, 3, 0], repaired_once),
+        ([2, 0, 4], REPAIRED),
+        ([0, 3, 4], repaired_once),
+        ([2, 3, 4], repaired_twice),
+    ] {
+        let device = device_with(alloc, 1, 3, None, Vec::from_array(alloc, failing)?)?;
         let seen = run_with(&rt, alloc, device, written_as(3, WRITE))?;
-        assert_eq!(rt; seen, expected);
+        assert_eq!(rt; seen, expected, "{failing:?}");
     }
     Ok(())
 }
@@ -306,6 +373,38 @@ fn a_bring_that_wants_memory_leaves_the_right_at_home(rt: HostRuntime) -> Result
     Ok(())
 }
 
+/// The device has the page as it is at its head, and isn't asked by a renewal, which counts as a repair. The rebuild or the
+/// entry of the repair may want memory; the page is then away, and its right at home.
+#[test]
+fn a_page_is_renewed_without_its_image(rt: HostRuntime) -> Result<(), Fail> {
+    let alloc = rt.alloc();
+    let renewed = Seen {
+        dirty: [None, Some(1)],
+        from_nothing: 1,
+        repairs: 1,
+        ..CURRENT
+    };
+    let refused = Seen {
+        done: [true, false, false, true],
+        from_base: 2,
+        ..CURRENT
+    };
+    let rebuilt_and_refused = Seen {
+        from_nothing: 1,
+        ..refused
+    };
+    for (refuse_at, expected) in [(0, renewed), (3, refused), (4, rebuilt_and_refused)] {
+        let device = device_with(alloc, 1, HEAD, None, Vec::new(alloc))?;
+        let case = Case {
+            written: HEAD,
+            refuse_at,
+            steps: RENEW,
+        };
+        assert_eq!(rt; run_with(&rt, alloc, device, case)?, expected);
+    }
+    Ok(())
+}
+
 /// The image is written, and written again.
 #[test]
 fn a_write_that_cannot_be_entered_leaves_the_page_dirty(rt: HostRuntime) -> Result<(), Fail> {
@@ -324,7 +423,8 @@ fn a_write_that_cannot_be_entered_leaves_the_page_dirty(rt: HostRuntime) -> Resu
     Ok(())
 }
 
-/// The third call of the device replaces it.
+/// The second call of the device reads the page, the third replaces the device, and the fourth reads the page again. Each of
+/// them fails, alone and with each other one. No image counts as written behind the loss, so nothing is repaired there.
 #[test]
 fn a_lost_device_takes_the_pages_along(rt: HostRuntime) -> Result<(), Fail> {
     let alloc = rt.alloc();
@@ -334,16 +434,49 @@ fn a_lost_device_takes_the_pages_along(rt: HostRuntime) -> Result<(), Fail> {
         from_nothing: 1,
         ..CURRENT
     };
+    let repaired_and_lost = Seen {
+        dirty: [Some(1); 2],
+        from_base: 0,
+        from_nothing: 2,
+        repairs: 1,
+        ..lost
+    };
     // The old image stays, and serves.
     let stays = Seen {
         done: [true, false, false, true],
         from_base: 2,
         ..CURRENT
     };
-    for (failing, expected) in [(0, lost), (3, stays)] {
-        let device = device_with(alloc, 1, HEAD, None, vec![in alloc; failing]?)?;
+    let repaired_and_stays = Seen {
+        dirty: [Some(1), None],
+        from_base: 1,
+        from_nothing: 1,
+        repairs: 1,
+        ..stays
+    };
+    let stays_unread = Seen {
+        dirty: [None, Some(1)],
+        from_base: 1,
+        from_nothing: 1,
+        ..stays
+    };
+    let never_read = Seen {
+        done: stays.done,
+        ..repaired_and_lost
+    };
+    for (failing, expected) in [
+        ([0, 0, 0], lost),
+        ([2, 0, 0], repaired_and_lost),
+        ([0, 3, 0], stays),
+        ([0, 0, 4], lost),
+        ([2, 3, 0], repaired_and_stays),
+        ([2, 0, 4], repaired_and_lost),
+        ([0, 3, 4], stays_unread),
+        ([2, 3, 4], never_read),
+    ] {
+        let device = device_with(alloc, 1, HEAD, None, Vec::from_array(alloc, failing)?)?;
         let seen = run_with(&rt, alloc, device, written_as(HEAD, LOSE))?;
-        assert_eq!(rt; seen, expected);
+        assert_eq!(rt; seen, expected, "{failing:?}");
     }
     Ok(())
 }

@@ -32,15 +32,15 @@ use Rattle.transcript.specs.Lines.{ended_line, failed_line, refused_line, stat_l
 use Rattle.transcript.specs.declared.upkeep.Stat.{Stat}
 use Rattle.transcript.specs.declared.upkeep.Upkeep.TheVariants as upkeeps
 use Rattle.life_commands.specs.Figures.{IsStat}
-use Rattle.life_commands.specs.LogDisk.{Keeps, Leaves}
+use Rattle.life_commands.specs.LogDisk.{Keeps}
 use Rattle.life_commands.specs.Living.{Adds, IsArmed, IsDiskOf, Within}
-use Rattle.life_commands.specs.Refusals.{CutAt, IsNotBuilt, RefusesAt}
-use Rattle.life_commands.specs.Rows.{Calls as CallsDevice, FitsAt, IsBeside, IsCutOff, IsEnd, IsInWayOf, IsOfLife, MayEnter, WroteInRoom, is_lawful, no_life}
+use Rattle.life_commands.specs.Refusals.{CutAt, IsNotBuilt, LeftAs, RefusesAt}
+use Rattle.life_commands.specs.Rows.{Calls as CallsDevice, FitsAt, IsBeside, IsCutOff, IsEnd, IsInWayOf, IsNoClose, IsOfLife, MayEnter, WroteInRoom, is_lawful, no_life}
 use Rattle.life_commands.specs.Text.{answer_lines, head}
-use Rattle.life_commands.specs.Turns.{turn, Turn, Life, Fuses, with_entries, Stage, Done, TooMany, LogFault, Ended, Cut, Numbered, Counted, history_of, lives, lives_of, last_after, IsRightLife, done, failed_stage, stage_step, longer, log_of_life}
+use Rattle.life_commands.specs.Turns.{turn, Turn, Life, Fuses, with_entries, Stage, Done, TooMany, LogFault, Ended, Cut, Numbered, Counted, history_of, lives, lives_of, last_after, IsRightLife, close_over, done, failed_stage, last_turn, stage_step, longer, log_of_life}
 use Rattle.life_commands.specs.declared.status.Status.TheVariants as statuses
 use Rattle.life_commands.proofs.Entered.{all_taken, among_last, among_map, beside_map, answer_own, enters_among, enters_own, room_declined, undoes}
-use Rattle.life_commands.proofs.Lives.{life_keeps, right_more}
+use Rattle.life_commands.proofs.Lives.{has_life, life_keeps, right_more}
 
 -- ---- the fuse
 
@@ -58,9 +58,15 @@ failed_is s (commands.Ask name request) es at kind calls = refl
 failed_is s (commands.Commit name) es at kind calls = refl
 failed_is s (commands.Abort name) es at kind calls = refl
 failed_is s commands.Checkpoint es at kind calls = refl
+failed_is s commands.Close es at kind calls = refl
 failed_is s (commands.Begin name) es at kind calls = absurd calls
 failed_is s commands.Stat es at kind calls = absurd calls
 failed_is s _ es at kind calls = absurd kind
+
+-- a close alone ends a life that has ended before, or fails
+not_over : (c : Command) (kept : ℕ) (s : Stage) → IsNoClose c → close_over c kept s ≡ s
+not_over commands.Close kept s stays = absurd stays
+not_over _ kept s stays = refl
 
 module _ {D : Type 0} (L : Ghosts D) (opens : List Record → Type 0) (x : LifeState) (s : Stage) (h : Within L opens x s) where
   abbrev In : LifeState → Stage → Type 0
@@ -95,38 +101,51 @@ module _ {D : Type 0} (L : Ghosts D) (opens : List Record → Type 0) (x : LifeS
   did_nothing out is = record { turn = turn commands.Nothing [] Done; is = refl; fits = record { goes = h.goes; lawful = refl; row = (tt, enters_own L.tells s commands.Nothing [] tt refl, tt) }; holds = h; lines = is }
 
   -- the life has ended
-  pub did_end : (c : Command) (n : ℕ) (out : List ℕ) → x.ended ≡ Some n → is_lawful s c ≡ true → IsOfLife c → out ≡ ended_line (head c) n → Adds L.tells (In x) s c out
-  did_end c n out ended lawful kind is = record { turn = turn c [] (Ended n); is = refl; fits = record { goes = h.goes; lawful = lawful; row = (h.ended ∙ ended, kind, refl) }; holds = h; lines = is }
+  pub did_end : (c : Command) (n : ℕ) (out : List ℕ) → x.ended ≡ Some n → is_lawful s c ≡ true → IsOfLife c → IsNoClose c → out ≡ ended_line (head c) n → Adds L.tells (In x) s c out
+  did_end c n out ended lawful kind stays is = record {
+    turn = turn c [] (Ended n);
+    is = refl;
+    fits = record { goes = h.goes; lawful = lawful; row = (h.ended ∙ ended, kind, refl) };
+    holds = subst (In x) (sym (not_over c 0 s stays)) h;
+    lines = is;
+  }
 
   -- ---- the disk that the life hands out
 
-  module _ (disk : D) (of : IsDiskOf L opens x disk) where
-    pub leaves_here : Leaves L disk s
-    leaves_here t = subst (λ (o : Option Life). Keeps L (last_after o s.last) disk) (sym h.life) (life_keeps L opens x h.here disk (h.begins t) h.history of)
+  -- nothing was entered
+  left_still : (y : LifeState) (kept : ℕ) (disk : D) → y.history ≡ x.history → IsDiskOf L opens y kept disk → LeftAs L kept disk opens y.history s
+  left_still y kept disk same of = record {
+    leaves = λ t. subst (λ (o : Option Life). Keeps L (last_after o s.last kept) disk) (sym h.life) (life_keeps L opens y h.here kept disk (h.begins t) (h.history ∙ sym same) of);
+    life = has_life L.tells opens y.history h.here s h.life h.begins (h.history ∙ sym same);
+  }
+
+  module _ (kept : ℕ) (disk : D) (of : IsDiskOf L opens x kept disk) where
+    pub left_here : LeftAs L kept disk opens x.history s
+    left_here = left_still x kept disk refl of
 
     -- a line that isn't lawful
-    pub unlawful : (c : Command) (line : ℕ) → is_lawful s c ≡ false → RefusesAt L disk s c line (statuses.Script line)
-    unlawful c line is = (refl, is, leaves_here)
+    pub unlawful : (c : Command) (line : ℕ) → is_lawful s c ≡ false → RefusesAt L kept disk opens x.history s c line (statuses.Script line)
+    unlawful c line is = (refl, is, left_here)
 
-    pub no_memory : (c : Command) (line : ℕ) → RefusesAt L disk s c line statuses.Memory
-    no_memory c line = inl leaves_here
+    pub no_memory : (c : Command) (line : ℕ) → RefusesAt L kept disk opens x.history s c line statuses.Memory
+    no_memory c line = inl left_here
 
-    pub not_built : (c : Command) (line : ℕ) → is_lawful s c ≡ true → IsNotBuilt c → RefusesAt L disk s c line (statuses.NotBuilt line)
-    not_built c line lawful not = (refl, lawful, not, leaves_here)
+    pub not_built : (c : Command) (line : ℕ) → is_lawful s c ≡ true → IsNotBuilt c → RefusesAt L kept disk opens x.history s c line (statuses.NotBuilt line)
+    not_built c line lawful not = (refl, lawful, not, left_here)
 
   -- ---- a turn with these entries, behind which the life is so
 
   module _ (y : LifeState) (es : List Entry) (grew : y.history ≡ x.history ++ es) (right : (opening : List Record) → opens opening → IsRight opening y.history) where
-    abbrev here : Life
+    abbrev pub here : Life
     here = record { opening = h.here.opening; history = h.here.history ++ es }
 
-    history_is : here.history ≡ y.history
+    pub history_is : here.history ≡ y.history
     history_is = ap (λ (l : List Entry). l ++ es) h.history ∙ sym grew
 
-    longer_is : longer s.life es ≡ Some here
+    pub longer_is : longer s.life es ≡ Some here
     longer_is = ap (λ (o : Option Life). longer o es) h.life
 
-    here_right : L.tells → IsRightLife here
+    pub here_right : L.tells → IsRightLife here
     here_right t = subst (IsRight h.here.opening) (sym history_is) (right h.here.opening (h.begins t))
 
     next : (s' : Stage) → s'.past ≡ s.past → s'.life ≡ longer s.life es → s'.active ≡ y.active → s'.ended ≡ y.ended → s'.cut ≡ s.cut → s'.armed ≡ s.armed → IsArmed L.fuses y.calls s.armed.log → In y s'
@@ -144,18 +163,21 @@ module _ {D : Type 0} (L : Ghosts D) (opens : List Record → Type 0) (x : LifeS
     }
 
     -- what holds then wherever the run ends
-    all_right : (s' : Stage) → s'.past ≡ s.past → s'.life ≡ longer s.life es → L.tells → All IsRightLife (lives s')
+    pub all_right : (s' : Stage) → s'.past ≡ s.past → s'.life ≡ longer s.life es → L.tells → All IsRightLife (lives s')
     all_right s' past life t = subst (λ (o : Option Life). All IsRightLife (lives_of o s'.past)) (sym (life ∙ longer_is)) (right_more L s'.past here (subst (All IsRightLife) (sym past) (h.past t)) (here_right t))
 
-    all_left : (s' : Stage) (disk : D) → IsDiskOf L opens y disk → s'.life ≡ longer s.life es → Leaves L disk s'
-    all_left s' disk of life t = subst (λ (o : Option Life). Keeps L (last_after o s'.last) disk) (sym (life ∙ longer_is)) (life_keeps L opens y here disk (h.begins t) history_is of)
+    all_left : (s' : Stage) (kept : ℕ) (disk : D) → IsDiskOf L opens y kept disk → s'.life ≡ longer s.life es → LeftAs L kept disk opens y.history s'
+    all_left s' kept disk of life = record {
+      leaves = λ t. subst (λ (o : Option Life). Keeps L (last_after o s'.last kept) disk) (sym (life ∙ longer_is)) (life_keeps L opens y here kept disk (h.begins t) history_is of);
+      life = has_life L.tells opens y.history here s' (life ∙ longer_is) h.begins history_is;
+    }
 
     -- ---- a command that is done
 
     module _ (c : Command) (kind : IsOfLife c) (t : Turn) (is : t.command ≡ c) (fits : FitsAt L.tells s t) (past : (stage_step s t).past ≡ s.past) (life : (stage_step s t).life ≡ longer s.life es) where
       -- its lines want memory
-      pub lacks_lines : (disk : D) → IsDiskOf L opens y disk → (line : ℕ) → RefusesAt L disk s c line statuses.Memory
-      lacks_lines disk of line = inr (record { here = h.here; life = h.life; kind = kind; turn = t; is = is; fits = fits; right = all_right (stage_step s t) past life; leaves = all_left (stage_step s t) disk of life })
+      pub lacks_lines : (kept : ℕ) (disk : D) → IsDiskOf L opens y kept disk → (line : ℕ) → RefusesAt L kept disk opens y.history s c line statuses.Memory
+      lacks_lines kept disk of line = inr (record { here = h.here; life = h.life; kind = kind; turn = t; is = is; fits = fits; there = here; stays = life ∙ longer_is; right = all_right (stage_step s t) past life; left = all_left (stage_step s t) kept disk of life })
 
     -- ---- a command that was cut off
 
@@ -169,36 +191,41 @@ module _ {D : Type 0} (L : Ghosts D) (opens : List Record → Type 0) (x : LifeS
       cut_life : (stage_step s (turn c es Cut)).life ≡ longer s.life es
       cut_life = ap (λ (z : Stage). z.life) (failed_is s c es None kind calls)
 
-      cut_at : (disk : D) → IsDiskOf L opens y disk → CutAt L disk s c
-      cut_at disk of = record { entries = es; fits = cut_fits; right = all_right (stage_step s (turn c es Cut)) cut_past cut_life; leaves = all_left (stage_step s (turn c es Cut)) disk of cut_life }
+      cut_at : (kept : ℕ) (disk : D) → IsDiskOf L opens y kept disk → CutAt L kept disk opens y.history s c
+      cut_at kept disk of = record { entries = es; fits = cut_fits; right = all_right (stage_step s (turn c es Cut)) cut_past cut_life; left = all_left (stage_step s (turn c es Cut)) kept disk of cut_life }
 
-      pub cut_memory : (disk : D) → IsDiskOf L opens y disk → (line : ℕ) → RefusesAt L disk s c line statuses.Memory
-      cut_memory disk of line = lacks_lines c kind (turn c es Cut) refl cut_fits cut_past cut_life disk of line
+      pub cut_memory : (kept : ℕ) (disk : D) → IsDiskOf L opens y kept disk → (line : ℕ) → RefusesAt L kept disk opens y.history s c line statuses.Memory
+      cut_memory kept disk of line = lacks_lines c kind (turn c es Cut) refl cut_fits cut_past cut_life kept disk of line
 
-      pub cut_fault : (disk : D) → IsDiskOf L opens y disk → (line : ℕ) → RefusesAt L disk s c line statuses.LogFault
-      cut_fault disk of line = cut_at disk of
+      pub cut_fault : (kept : ℕ) (disk : D) → IsDiskOf L opens y kept disk → (line : ℕ) → RefusesAt L kept disk opens y.history s c line statuses.LogFault
+      cut_fault kept disk of line = cut_at kept disk of
 
-      pub cut_bad : (disk : D) → IsDiskOf L opens y disk → (line block byte : ℕ) → IsUntold opens → RefusesAt L disk s c line (statuses.BlockBad block byte)
-      cut_bad disk of line block byte untold = (cut_at disk of, λ t. untold h.here.opening (h.begins t))
+      pub cut_bad : (kept : ℕ) (disk : D) → IsDiskOf L opens y kept disk → (line block byte : ℕ) → IsUntold opens → RefusesAt L kept disk opens y.history s c line (statuses.BlockBad block byte)
+      cut_bad kept disk of line block byte untold = (cut_at kept disk of, λ t. untold h.here.opening (h.begins t))
 
       -- a fuse refused a call
-      pub did_fail : BreaksOff opens x y → y.active ≡ x.active → x.calls.refused < y.calls.refused → (out : List ℕ) → out ≡ failed_line (head c) Log → Adds L.tells (In y) s c out
-      did_fail b active refused out text =
-          let at = failed_is s c es (Some b.at) kind calls in
+      -- so many records of the log are durable then, where the command is a close
+      pub fail_fits : (kept : ℕ) (b : BreaksOff opens x y) → x.calls.refused < y.calls.refused → FitsAt L.tells s (last_turn c es kept (LogFault b.at))
+      fail_fits kept b refused = record {
+        goes = h.goes;
+        lawful = lawful;
+        row = (
+          armed_by L.fuses (Unit {0}) x.calls y.calls s.armed.log b.calls h.fused refused,
+          calls,
+          off,
+          λ u. subst (λ (z : Stage). IsEnd z.life z.ended) (sym (failed_is s c es (Some b.at) kind calls))
+              (subst (λ (o : Option Life). IsEnd o (Some b.at)) (sym longer_is) (subst (λ (l : List Entry). IsDurableUpto h.here.opening l b.at) (sym history_is) (b.durable h.here.opening (h.begins u)))),
+        );
+      }
+
+      pub did_fail : IsNoClose c → (b : BreaksOff opens x y) → y.active ≡ x.active → x.calls.refused < y.calls.refused → (out : List ℕ) → out ≡ failed_line (head c) Log → Adds L.tells (In y) s c out
+      did_fail stays b active refused out text =
+          let at = not_over c 0 (failed_stage s c es (Some b.at)) stays ∙ failed_is s c es (Some b.at) kind calls in
           let t : Turn = turn c es (LogFault b.at) in
           record {
             turn = t;
             is = refl;
-            fits = record {
-              goes = h.goes;
-              lawful = lawful;
-              row = (
-                armed_by L.fuses (Unit {0}) x.calls y.calls s.armed.log b.calls h.fused refused,
-                calls,
-                off,
-                λ u. subst (λ (z : Stage). IsEnd z.life z.ended) (sym at) (subst (λ (o : Option Life). IsEnd o (Some b.at)) (sym longer_is) (subst (λ (l : List Entry). IsDurableUpto h.here.opening l b.at) (sym history_is) (b.durable h.here.opening (h.begins u)))),
-              );
-            };
+            fits = fail_fits 0 b refused;
             holds = next (stage_step s t) (ap (λ (z : Stage). z.past) at) (ap (λ (z : Stage). z.life) at) (ap (λ (z : Stage). z.active) at ∙ h.active ∙ sym active) (ap (λ (z : Stage). z.ended) at ∙ sym b.ended) (ap (λ (z : Stage). z.cut) at) (ap (λ (z : Stage). z.armed) at)
                 (armed_next L.fuses (Unit {0}) x.calls y.calls s.armed.log b.calls h.fused);
             lines = text;
@@ -238,8 +265,8 @@ module _ {D : Type 0} (L : Ghosts D) (opens : List Record → Type 0) (x : LifeS
       still y same active ended fused = record { past = h.past; here = h.here; life = h.life; active = h.active ∙ sym active; ended = ended; goes = h.goes; fused = fused; history = h.history ∙ sym same; begins = h.begins; right = h.right }
 
   -- the same life, of which a disk is handed out
-  pub as_before : (y : LifeState) (disk : D) → y.history ≡ x.history → IsDiskOf L opens y disk → (c : Command) (line : ℕ) → RefusesAt L disk s c line statuses.Memory
-  as_before y disk same of c line = inl (λ t. subst (λ (o : Option Life). Keeps L (last_after o s.last) disk) (sym h.life) (life_keeps L opens y h.here disk (h.begins t) (h.history ∙ sym same) of))
+  pub as_before : (y : LifeState) (kept : ℕ) (disk : D) → y.history ≡ x.history → IsDiskOf L opens y kept disk → (c : Command) (line : ℕ) → RefusesAt L kept disk opens y.history s c line statuses.Memory
+  as_before y kept disk same of c line = inl (left_still y kept disk same of)
 
   -- ---- requests
 
@@ -288,8 +315,8 @@ module _ {D : Type 0} (L : Ghosts D) (opens : List Record → Type 0) (x : LifeS
                 lines = text ∙ sym (answer_own (WasInWay opens x.history (lock_of request)) a.tx (lock_of request) s.active name request own es among);
               }
 
-          pub answer_lacks : (disk : D) → IsDiskOf L opens y disk → (line : ℕ) → RefusesAt L disk s (commands.Ask name request) line statuses.Memory
-          answer_lacks disk of line = lacks_lines y es grew right (commands.Ask name request) tt (turn (commands.Ask name request) es Done) refl ask_fits refl refl disk of line
+          pub answer_lacks : (kept : ℕ) (disk : D) → IsDiskOf L opens y kept disk → (line : ℕ) → RefusesAt L kept disk opens y.history s (commands.Ask name request) line statuses.Memory
+          answer_lacks kept disk of line = lacks_lines y es grew right (commands.Ask name request) tt (turn (commands.Ask name request) es Done) refl ask_fits refl refl kept disk of line
 
         -- nothing of its own was entered
         pub ask_cut : x.ended ≡ None → All Was es → IsCutOff L.tells s (commands.Ask name request) es
@@ -328,8 +355,8 @@ module _ {D : Type 0} (L : Ghosts D) (opens : List Record → Type 0) (x : LifeS
               lines = text;
             }
 
-        pub commit_lacks : (disk : D) → IsDiskOf L opens y disk → (line : ℕ) → RefusesAt L disk s (commands.Commit name) line statuses.Memory
-        commit_lacks disk of line = lacks_lines y es grew right (commands.Commit name) tt (done (commands.Commit name) es (Numbered number)) refl commit_fits refl refl disk of line
+        pub commit_lacks : (kept : ℕ) (disk : D) → IsDiskOf L opens y kept disk → (line : ℕ) → RefusesAt L kept disk opens y.history s (commands.Commit name) line statuses.Memory
+        commit_lacks kept disk of line = lacks_lines y es grew right (commands.Commit name) tt (done (commands.Commit name) es (Numbered number)) refl commit_fits refl refl kept disk of line
 
       -- ---- abort
 

@@ -4,7 +4,6 @@ use Rattle.std.specs.Prelude.{◌+◌, ◌-◌, codes, min}
 use Rattle.std.specs.Fmt.{decimal}
 use Rattle.std.specs.List.{All}
 use Rattle.std.proofs.lemmas.List.FromFn.{length-range_with_len, length-map-range_with_len}
-use Rattle.media.specs.Counted.{Armed}
 use Rattle.media.specs.declared.disk.Disk.{Ghosts}
 use Rattle.store_model.specs.declared.fault.Fault.{Fault}
 use Rattle.store_model.specs.declared.fault.Fault.TheVariants as faults
@@ -18,6 +17,7 @@ use Rattle.wal_record.specs.declared.record.Record.{Record}
 use Rattle.wal_record.specs.declared.entry.Entry.{Entry}
 use Rattle.wal_record.specs.declared.entry.Entry.TheVariants.{Rec}
 use Rattle.log_laws.specs.Right.{IsRight}
+use Rattle.journal.specs.State.{ArmsDisk}
 use Rattle.page_ops.specs.Outcomes.{IsSurvey, losers_left}
 use Rattle.page_ops.specs.Seeing.{Calls}
 use Rattle.page_ops.specs.declared.outcome.Committed.{Committed}
@@ -29,7 +29,7 @@ use Rattle.own_life.specs.State.{BeginsAs, BreaksOff, Fails, FailsToFlush, GoesO
 use Rattle.script.specs.declared.command.Command.{Command}
 use Rattle.script.specs.declared.command.Command.TheVariants as commands
 use Rattle.script.specs.declared.command.Device.{Device}
-use Rattle.script.specs.declared.command.Device.TheVariants.{Log}
+use Rattle.script.specs.declared.command.Device.TheVariants.{Log, Data, Vault}
 use Rattle.transcript.specs.Lines.{device_text, ended_line, failed_line, refused_line, stat_line, upkeep_line}
 use Rattle.transcript.specs.declared.upkeep.Upkeep.TheVariants as upkeeps
 use Rattle.life_commands.specs.Faults.{FailsAs, counts_of}
@@ -38,9 +38,9 @@ use Rattle.life_commands.specs.Living.{IsArmed, IsDiskOf, Within}
 use Rattle.life_commands.specs.LogDisk.{View, IsWhole, seen}
 use Rattle.life_commands.specs.Promises.{Did, Refused}
 use Rattle.life_commands.specs.Refusals.{RefusesAt}
-use Rattle.life_commands.specs.Rows.{Calls as CallsDevice, IsCutOff, IsNoStop, IsOfLife, is_lawful, no_life}
+use Rattle.life_commands.specs.Rows.{Calls as CallsDevice, IsCutOff, IsNoClose, IsNoStop, IsOfLife, is_lawful, no_life}
 use Rattle.life_commands.specs.Text.{head}
-use Rattle.life_commands.specs.Turns.{Done, IsRightLife, Life, Stage, stage_step, turn, with_fuse}
+use Rattle.life_commands.specs.Turns.{Done, Fuses, IsRightLife, Life, Stage, stage_step, turn, with_fuse}
 use Rattle.life_commands.specs.declared.status.Status.{Status}
 use Rattle.life_commands.specs.declared.status.Status.TheVariants as statuses
 use Rattle.life_commands.proofs.Commands as c
@@ -60,33 +60,36 @@ pub record IsCut {D : Type 0} (L : Ghosts D) (y x : LifeState) (s : Stage) (c : 
 module _ {D : Type 0} (L : Ghosts D) (opens : List Record → Type 0) (x y : LifeState) (names : y.active ≡ x.active) (right : (opening : List Record) → opens opening → IsRight opening y.history)
     (command : Command) (kind : IsOfLife command) (calls : CallsDevice command Log) (cut : (v : View L.tells) (s : Stage) → Within (seen L v) opens x s → IsCut (seen L v) y x s command) where
   -- a fuse refused a call
-  pub fails_line : BreaksOff opens x y → x.calls.refused < y.calls.refused → (out : List ℕ) → out ≡ failed_line (head command) Log → Did L opens x y command out
-  fails_line b more out text = λ v s h. let k = cut v s h in c.did_fail (seen L v) opens x s h y k.entries k.added right command kind calls k.lawful k.off b names more out text
+  pub fails_line : IsNoClose command → BreaksOff opens x y → x.calls.refused < y.calls.refused → (out : List ℕ) → out ≡ failed_line (head command) Log → Did L opens x y command out
+  fails_line stays b more out text = λ v s h. let k = cut v s h in c.did_fail (seen L v) opens x s h y k.entries k.added right command kind calls k.lawful k.off stays b names more out text
+
+  abbrev Ends : ℕ → View L.tells → Stage → ℕ → D → Status → Type 0
+  Ends line v s kept disk z = RefusesAt (seen L v) kept disk opens y.history s command line z
 
   pub ends_run : (before now : ℕ) (fault : Fault) → Fails opens x y fault → (status : Status) → FailsAs before now fault status → (line : ℕ) → Refused L opens x y command line status
-  ends_run before now fault p status says line = λ v s h disk of. by fault p says v s h disk (disk_seen L v opens y disk of)
+  ends_run before now fault p status says line = λ v s h kept disk of. by fault p says v s h kept disk (disk_seen L v opens y kept disk of)
     where
-      to : (v : View L.tells) (s : Stage) (disk : D) (wanted : Status) → status ≡ wanted → RefusesAt (seen L v) disk s command line wanted → RefusesAt (seen L v) disk s command line status
-      to v s disk wanted e h = subst (λ (z : Status). RefusesAt (seen L v) disk s command line z) (sym e) h
+      to : (v : View L.tells) (s : Stage) (kept : ℕ) (disk : D) (wanted : Status) → status ≡ wanted → Ends line v s kept disk wanted → Ends line v s kept disk status
+      to v s kept disk wanted e h = subst (Ends line v s kept disk) (sym e) h
 
-      by : (f : Fault) → Fails opens x y f → FailsAs before now f status → (v : View L.tells) (s : Stage) (h : Within (seen L v) opens x s) (disk : D) → IsDiskOf (seen L v) opens y disk → RefusesAt (seen L v) disk s command line status
-      by faults.Memory q e v s h disk of = let k = cut v s h in to v s disk statuses.Memory e (c.cut_memory (seen L v) opens x s h y k.entries k.added right command kind calls k.lawful k.off disk of line)
-      by faults.LogFault q e v s h disk of = let k = cut v s h in to v s disk statuses.LogFault e.0 (c.cut_fault (seen L v) opens x s h y k.entries k.added right command kind calls k.lawful k.off disk of line)
-      by (faults.LogBad block byte) q e v s h disk of = let k = cut v s h in to v s disk (statuses.BlockBad block byte) e (c.cut_bad (seen L v) opens x s h y k.entries k.added right command kind calls k.lawful k.off disk of line block byte q.1)
-      by _ q e v s h disk of = absurd q
+      by : (f : Fault) → Fails opens x y f → FailsAs before now f status → (v : View L.tells) (s : Stage) (h : Within (seen L v) opens x s) (kept : ℕ) (disk : D) → IsDiskOf (seen L v) opens y kept disk → Ends line v s kept disk status
+      by faults.Memory q e v s h kept disk of = let k = cut v s h in to v s kept disk statuses.Memory e (c.cut_memory (seen L v) opens x s h y k.entries k.added right command kind calls k.lawful k.off kept disk of line)
+      by faults.LogFault q e v s h kept disk of = let k = cut v s h in to v s kept disk statuses.LogFault e.0 (c.cut_fault (seen L v) opens x s h y k.entries k.added right command kind calls k.lawful k.off kept disk of line)
+      by (faults.LogBad block byte) q e v s h kept disk of = let k = cut v s h in to v s kept disk (statuses.BlockBad block byte) e (c.cut_bad (seen L v) opens x s h y k.entries k.added right command kind calls k.lawful k.off kept disk of line block byte q.1)
+      by _ q e v s h kept disk of = absurd q
 
 -- ---- the same life, or one that has ended before
 
 module _ {D : Type 0} (L : Ghosts D) (opens : List Record → Type 0) (x : LifeState) where
-  pub ended_before : (command : Command) (n : ℕ) (out : List ℕ) → x.ended ≡ Some n → ((v : View L.tells) (s : Stage) → Within (seen L v) opens x s → is_lawful s command ≡ true) → IsOfLife command → out ≡ ended_line (head command) n → Did L opens x x command out
-  ended_before command n out ended lawful kind text = λ v s h. c.did_end (seen L v) opens x s h command n out ended (lawful v s h) kind text
+  pub ended_before : (command : Command) (n : ℕ) (out : List ℕ) → x.ended ≡ Some n → ((v : View L.tells) (s : Stage) → Within (seen L v) opens x s → is_lawful s command ≡ true) → IsOfLife command → IsNoClose command → out ≡ ended_line (head command) n → Did L opens x x command out
+  ended_before command n out ended lawful kind stays text = λ v s h. c.did_end (seen L v) opens x s h command n out ended (lawful v s h) kind stays text
 
   -- want of memory, where nothing was entered
   pub lacks_memory : (y : LifeState) → y.history ≡ x.history → (command : Command) (line : ℕ) → Refused L opens x y command line statuses.Memory
-  lacks_memory y same command line = λ v s h disk of. c.as_before (seen L v) opens x s h y disk same (disk_seen L v opens y disk of) command line
+  lacks_memory y same command line = λ v s h kept disk of. c.as_before (seen L v) opens x s h y kept disk same (disk_seen L v opens y kept disk of) command line
 
   pub bad_line : (command : Command) (line : ℕ) → ((v : View L.tells) (s : Stage) → Within (seen L v) opens x s → is_lawful s command ≡ false) → Refused L opens x x command line (statuses.Script line)
-  bad_line command line not = λ v s h disk of. c.unlawful (seen L v) opens x s h disk (disk_seen L v opens x disk of) command line (not v s h)
+  bad_line command line not = λ v s h kept disk of. c.unlawful (seen L v) opens x s h kept disk (disk_seen L v opens x kept disk of) command line (not v s h)
 
   -- which names may be asked for
   pub named_is : (name : List ℕ) (b : Bool) → is_active x.active name ≡ b → (v : View L.tells) (s : Stage) → Within (seen L v) opens x s → is_active s.active name ≡ b
@@ -125,8 +128,8 @@ module _ {D : Type 0} (L : Ghosts D) (opens : List Record → Type 0) (x y : Lif
       c.did_commit (seen L v) opens x s h name this.0 this.1 y d.own d.added right none d.made answer.number d.number goes active out text
 
   pub commit_lacks : (answer : Committed) → ((a : Active) → active_of x.active name ≡ Some a → IsCommitted opens a.session a.tx (Ok answer) x.history y.history) → (line : ℕ) → Refused L opens x y (commands.Commit name) line statuses.Memory
-  commit_lacks answer made line = λ v s h disk of. let d = made this.0 this.1 in
-      c.commit_lacks (seen L v) opens x s h name this.0 this.1 y d.own d.added right none d.made answer.number d.number disk (disk_seen L v opens y disk of) line
+  commit_lacks answer made line = λ v s h kept disk of. let d = made this.0 this.1 in
+      c.commit_lacks (seen L v) opens x s h name this.0 this.1 y d.own d.added right none d.made answer.number d.number kept disk (disk_seen L v opens y kept disk of) line
 
   pub commit_cut : (fault : Fault) → ((a : Active) → active_of x.active name ≡ Some a → IsCommitted opens a.session a.tx (Err fault) x.history y.history) → (v : View L.tells) (s : Stage) → Within (seen L v) opens x s → IsCut (seen L v) y x s (commands.Commit name)
   commit_cut fault made v s h = ⊎_elim
@@ -172,7 +175,7 @@ module _ {D : Type 0} (L : Ghosts D) (opens : List Record → Type 0) (x y : Lif
     checkpoint_fails fault is entered p more out text =
         let e = subst (λ (f : Fault). IsCheckpointed (Err f) x.history y.history) is entered in
         let b = subst (λ (f : Fault). FailsToFlush opens x y f) is p in
-        fails_line L opens x y active right commands.Checkpoint tt refl (checkpoint_cut e.0 e.1) b more out text
+        fails_line L opens x y active right commands.Checkpoint tt refl (checkpoint_cut e.0 e.1) tt b more out text
 
     pub checkpoint_ends : (before now : ℕ) (fault : Fault) → IsCheckpointed (Err fault) x.history y.history → FailsToFlush opens x y fault → (status : Status) → FailsAs before now fault status → (line : ℕ) → Refused L opens x y commands.Checkpoint line status
     checkpoint_ends before now faults.Memory same p status says line = subst (λ (z : Status). Refused L opens x y commands.Checkpoint line z) (sym says) (lacks_memory L opens x y same commands.Checkpoint line)
@@ -216,53 +219,72 @@ module _ {D : Type 0} (L : Ghosts D) (opens : List Record → Type 0) (x y : Lif
     right = h.right;
   }
 
-  pub fuses : (device : Device) (n : ℕ) → device ≡ Log → (out : List ℕ) → out ≡ codes "fuse log " ++ decimal n ++ codes "\n" → Did L opens x y (commands.Fuse device n) out
-  fuses device n log out text = λ v s h.
-      let t = turn (commands.Fuse device n) [] Done in
-      record {
-        turn = t;
-        is = refl;
-        fits = record { goes = h.goes; lawful = refl; row = (log, enters_own (IsWhole v) s (commands.Fuse device n) [] tt refl, tt) };
-        holds = still v s (stage_step s t) h refl refl refl refl refl (subst (λ (d : Device). IsArmed L.fuses y.calls (with_fuse d true s.armed).log) (sym log) (record { fuse = h.fused.fuse; renewed = λ e. absurd cc }));
-        lines = text ∙ ap (λ (d : Device). codes "fuse " ++ device_text d ++ codes " " ++ decimal n ++ codes "\n") (sym log);
-      }
+  -- the log disk's fuse is armed where the command is of the log disk
+  armed_so : (n : Option ℕ) (armed : Bool) → (armed ≡ false → n ≡ None) → (device : Device) → (device ≡ Log → ArmsDisk L.fuses n x.calls y.calls) → (device ≢ Log → y.calls ≡ x.calls) → (f : Fuses) → IsArmed L.fuses x.calls f.log → IsArmed L.fuses y.calls (with_fuse device armed f).log
+  armed_so n armed none Log log other f h = record { fuse = h.fuse; renewed = λ e. (log refl).armed h.fuse ∙ none e }
+  armed_so n armed none Data log other f h = subst (λ (k : Calls). IsArmed L.fuses k f.log) (sym (other (λ e. absurd cc))) h
+  armed_so n armed none Vault log other f h = subst (λ (k : Calls). IsArmed L.fuses k f.log) (sym (other (λ e. absurd cc))) h
 
-  pub renews : (device : Device) → device ≡ Log → Armed L.fuses (λ (k : Calls). k.passes) (λ (k : Calls). k.refused) (λ (k : Calls). k.own) None x.calls y.calls → (out : List ℕ) → out ≡ codes "renew log\n" → Did L opens x y (commands.Renew device) out
-  renews device log armed out text = λ v s h.
-      let t = turn (commands.Renew device) [] Done in
-      record {
-        turn = t;
-        is = refl;
-        fits = record { goes = h.goes; lawful = refl; row = (log, enters_own (IsWhole v) s (commands.Renew device) [] tt refl, tt) };
-        holds = still v s (stage_step s t) h refl refl refl refl refl (subst (λ (d : Device). IsArmed L.fuses y.calls (with_fuse d false s.armed).log) (sym log) (record { fuse = h.fused.fuse; renewed = λ e. armed.armed h.fused.fuse }));
-        lines = text ∙ ap (λ (d : Device). codes "renew " ++ device_text d ++ codes "\n") (sym log);
-      }
+  module _ (device : Device) (built : device ≢ Vault) (other : device ≢ Log → y.calls ≡ x.calls) where
+    pub fuses : (n : ℕ) → (device ≡ Log → ArmsDisk L.fuses (Some n) x.calls y.calls) → (out : List ℕ) → out ≡ codes "fuse " ++ device_text device ++ codes " " ++ decimal n ++ codes "\n" → Did L opens x y (commands.Fuse device n) out
+    fuses n log out text = λ v s h.
+        let t = turn (commands.Fuse device n) [] Done in
+        record {
+          turn = t;
+          is = refl;
+          fits = record { goes = h.goes; lawful = refl; row = (built, enters_own (IsWhole v) s (commands.Fuse device n) [] tt refl, tt) };
+          holds = still v s (stage_step s t) h refl refl refl refl refl (armed_so (Some n) true (λ e. absurd cc) device log other s.armed h.fused);
+          lines = text;
+        }
 
--- the fuse of another device
+    pub renews : (device ≡ Log → ArmsDisk L.fuses None x.calls y.calls) → (out : List ℕ) → out ≡ codes "renew " ++ device_text device ++ codes "\n" → Did L opens x y (commands.Renew device) out
+    renews log out text = λ v s h.
+        let t = turn (commands.Renew device) [] Done in
+        record {
+          turn = t;
+          is = refl;
+          fits = record { goes = h.goes; lawful = refl; row = (built, enters_own (IsWhole v) s (commands.Renew device) [] tt refl, tt) };
+          holds = still v s (stage_step s t) h refl refl refl refl refl (armed_so None false (λ e. refl) device log other s.armed h.fused);
+          lines = text;
+        }
+
 module _ {D : Type 0} (L : Ghosts D) (opens : List Record → Type 0) (x : LifeState) where
-  pub other_fuse : (device : Device) (n line : ℕ) → device ≢ Log → Refused L opens x x (commands.Fuse device n) line (statuses.NotBuilt line)
-  other_fuse device n line other = λ v s h disk of. c.not_built (seen L v) opens x s h disk (disk_seen L v opens x disk of) (commands.Fuse device n) line refl other
+  -- a page of the data device is spoiled
+  pub damages : (page : ℕ) (out : List ℕ) → out ≡ codes "damage " ++ decimal page ++ codes "\n" → Did L opens x x (commands.Damage page) out
+  damages page out text = λ v s h. record {
+    turn = turn (commands.Damage page) [] Done;
+    is = refl;
+    fits = record { goes = h.goes; lawful = refl; row = (tt, enters_own (IsWhole v) s (commands.Damage page) [] tt refl, tt) };
+    holds = h;
+    lines = text;
+  }
 
-  pub other_renew : (device : Device) (line : ℕ) → device ≢ Log → Refused L opens x x (commands.Renew device) line (statuses.NotBuilt line)
-  other_renew device line other = λ v s h disk of. c.not_built (seen L v) opens x s h disk (disk_seen L v opens x disk of) (commands.Renew device) line refl other
+  -- the vault's fuse
+  pub other_fuse : (device : Device) (n line : ℕ) → device ≡ Vault → Refused L opens x x (commands.Fuse device n) line (statuses.NotBuilt line)
+  other_fuse device n line vault = λ v s h kept disk of. c.not_built (seen L v) opens x s h kept disk (disk_seen L v opens x kept disk of) (commands.Fuse device n) line refl vault
+
+  pub other_renew : (device : Device) (line : ℕ) → device ≡ Vault → Refused L opens x x (commands.Renew device) line (statuses.NotBuilt line)
+  other_renew device line vault = λ v s h kept disk of. c.not_built (seen L v) opens x s h kept disk (disk_seen L v opens x kept disk of) (commands.Renew device) line refl vault
 
 -- ---- what is no command of a life
 
 pub other_lawful : (s : Stage) → no_life s.life ≡ false → (c : Command) → (c ≡ commands.Nothing → ⊥) → ((x : List ℕ) → c ≡ commands.Begin x → ⊥) → ((x : List ℕ) (r : Request) → c ≡ commands.Ask x r → ⊥) → ((x : List ℕ) → c ≡ commands.Commit x → ⊥)
-    → ((x : List ℕ) → c ≡ commands.Abort x → ⊥) → (c ≡ commands.Checkpoint → ⊥) → (c ≡ commands.Stat → ⊥) → ((d : Device) (n : ℕ) → c ≡ commands.Fuse d n → ⊥) → ((d : Device) → c ≡ commands.Renew d → ⊥) → IsNoStop c → is_lawful s c ≡ false
-other_lawful s living commands.Nothing nothing begins asks commit abort checkpoint stat fuse renew stop = absurd (nothing refl)
-other_lawful s living (commands.Format limit) nothing begins asks commit abort checkpoint stat fuse renew stop = rw (living) refl
-other_lawful s living commands.Open nothing begins asks commit abort checkpoint stat fuse renew stop = living
-other_lawful s living (commands.Begin x) nothing begins asks commit abort checkpoint stat fuse renew stop = absurd (begins x refl)
-other_lawful s living (commands.Ask x r) nothing begins asks commit abort checkpoint stat fuse renew stop = absurd (asks x r refl)
-other_lawful s living (commands.Commit x) nothing begins asks commit abort checkpoint stat fuse renew stop = absurd (commit x refl)
-other_lawful s living (commands.Abort x) nothing begins asks commit abort checkpoint stat fuse renew stop = absurd (abort x refl)
-other_lawful s living commands.Checkpoint nothing begins asks commit abort checkpoint stat fuse renew stop = absurd (checkpoint refl)
-other_lawful s living commands.Stat nothing begins asks commit abort checkpoint stat fuse renew stop = absurd (stat refl)
-other_lawful s living (commands.Stop keep) nothing begins asks commit abort checkpoint stat fuse renew stop = absurd stop
-other_lawful s living (commands.Fuse d n) nothing begins asks commit abort checkpoint stat fuse renew stop = absurd (fuse d n refl)
-other_lawful s living (commands.Renew d) nothing begins asks commit abort checkpoint stat fuse renew stop = absurd (renew d refl)
-other_lawful s living _ nothing begins asks commit abort checkpoint stat fuse renew stop = refl
+    → ((x : List ℕ) → c ≡ commands.Abort x → ⊥) → (c ≡ commands.Checkpoint → ⊥) → (c ≡ commands.Stat → ⊥) → ((p : ℕ) → c ≡ commands.Damage p → ⊥) → ((d : Device) (n : ℕ) → c ≡ commands.Fuse d n → ⊥) → ((d : Device) → c ≡ commands.Renew d → ⊥) → IsNoStop c → IsNoClose c → is_lawful s c ≡ false
+other_lawful s living commands.Nothing nothing begins asks commit abort checkpoint stat damage fuse renew stop close = absurd (nothing refl)
+other_lawful s living (commands.Format limit) nothing begins asks commit abort checkpoint stat damage fuse renew stop close = rw (living) refl
+other_lawful s living commands.Open nothing begins asks commit abort checkpoint stat damage fuse renew stop close = living
+other_lawful s living (commands.Begin x) nothing begins asks commit abort checkpoint stat damage fuse renew stop close = absurd (begins x refl)
+other_lawful s living (commands.Ask x r) nothing begins asks commit abort checkpoint stat damage fuse renew stop close = absurd (asks x r refl)
+other_lawful s living (commands.Commit x) nothing begins asks commit abort checkpoint stat damage fuse renew stop close = absurd (commit x refl)
+other_lawful s living (commands.Abort x) nothing begins asks commit abort checkpoint stat damage fuse renew stop close = absurd (abort x refl)
+other_lawful s living commands.Checkpoint nothing begins asks commit abort checkpoint stat damage fuse renew stop close = absurd (checkpoint refl)
+other_lawful s living commands.Stat nothing begins asks commit abort checkpoint stat damage fuse renew stop close = absurd (stat refl)
+other_lawful s living (commands.Damage p) nothing begins asks commit abort checkpoint stat damage fuse renew stop close = absurd (damage p refl)
+other_lawful s living commands.Close nothing begins asks commit abort checkpoint stat damage fuse renew stop close = absurd close
+other_lawful s living (commands.Stop keep) nothing begins asks commit abort checkpoint stat damage fuse renew stop close = absurd stop
+other_lawful s living (commands.Fuse d n) nothing begins asks commit abort checkpoint stat damage fuse renew stop close = absurd (fuse d n refl)
+other_lawful s living (commands.Renew d) nothing begins asks commit abort checkpoint stat damage fuse renew stop close = absurd (renew d refl)
+other_lawful s living _ nothing begins asks commit abort checkpoint stat damage fuse renew stop close = refl
 
 pub in_life : {D : Type 0} (L : Ghosts D) (opens : List Record → Type 0) (x : LifeState) (v : View L.tells) (s : Stage) → Within (seen L v) opens x s → no_life s.life ≡ false
 in_life L opens x v s h = c.living (seen L v) opens x s h

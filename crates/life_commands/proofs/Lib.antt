@@ -1,7 +1,9 @@
+pub mod Closes
 pub mod Commands
 pub mod Ends
 pub mod Entered
 pub mod Faults
+pub mod Images
 pub mod Lives
 pub mod Requests
 pub mod Told

@@ -1,5 +1,5 @@
 -- What holds at any place of a run: lives are right, and the log disk keeps a log that may be found.
-use Rattle.std.proofs.Common.{◌≡◌, ℕ, ◌≤◌, List, [], ◌∷◌, ◌++◌, Option, refl, sym, subst, inl, inr}
+use Rattle.std.proofs.Common.{◌≡◌, ℕ, ◌≤◌, List, [], ◌∷◌, ◌++◌, Option, Some, refl, sym, ap, subst, ◌∙◌, inl, inr}
 use Rattle.std.specs.List.{All}
 use Rattle.std.proofs.lemmas.List.Elements.{All-cons, All-nil, All-append}
 use Rattle.media.specs.Crash.{Only, NoMore, LeavesOnly}
@@ -13,6 +13,7 @@ use Rattle.own_life.specs.State.{LifeState}
 use Rattle.life_commands.specs.Bytes.{Known}
 use Rattle.life_commands.specs.LogDisk.{seen, View, Whole, Form, IsWhole, Keeps, HoldsOne}
 use Rattle.life_commands.specs.Living.{IsDiskOf, Safe, Within}
+use Rattle.life_commands.specs.Refusals.{HasLife}
 use Rattle.life_commands.specs.Turns.{Last, Found, Unsynced, Formatted, Unformatted, Stopped, Life, Stage, LeftBy, IsLeftBy, MayFind, MayBeLeft, IsRightLife, lives_of, last_after, bytes_after}
 
 -- ---- views
@@ -30,7 +31,7 @@ left_too (Unsynced log before) rs h = inl h
 left_too (Formatted limit) rs h = h
 left_too (Unformatted before limit) rs (inl h) = inl (left_too before rs h)
 left_too (Unformatted before limit) rs (inr h) = inr h
-left_too (LeftBy l) rs h = h
+left_too (LeftBy l kept) rs h = h
 left_too (Stopped before) rs h = h
 
 pub holds_map : (P Q : List Record → Type 0) (k : Kept) → ((rs : List Record) → P rs → Q rs) → HoldsOne P k → HoldsOne Q k
@@ -54,11 +55,11 @@ crashed L old new P only counts c left = only.each c (counts (L.moment old) c on
 
 -- ---- what the kept bytes stand for
 
--- a member of what a stop may leave of a life
-left_stands : (l : Life) (h : List Entry) (least : ℕ) (k : Kept) → l.history ≡ h → StandsForLeft l.opening h least k → HoldsOne (IsLeftBy l) k
-left_stands l h least k same z = (
+-- a member of what a stop may leave of a life, with so many records
+left_stands : (l : Life) (h : List Entry) (kept : ℕ) (k : Kept) → l.history ≡ h → StandsForLeft l.opening h kept k → HoldsOne (IsLeftBy l kept) k
+left_stands l h kept k same z = (
   l.opening ++ z.own,
-  (z.own, subst (λ (x : List Entry). IsLeft l.opening x z.own) (sym same) z.left, refl),
+  (z.own, subst (λ (x : List Entry). IsLeft l.opening x z.own) (sym same) z.left, refl, z.no_fewer),
   record { sound = z.left.sound; bs = z.stands.bs; stands = z.stands.stands; records = z.stands.records },
 )
 
@@ -66,12 +67,12 @@ left_stands l h least k same z = (
 
 module _ {D : Type 0} (L : Ghosts D) where
   -- the disk of a life that has stopped
-  pub life_keeps : (opens : List Record → Type 0) (x : LifeState) (l : Life) (disk : D) → opens l.opening → l.history ≡ x.history → IsDiskOf L opens x disk → Keeps L (LeftBy l) disk
-  life_keeps opens x l disk may same d =
+  pub life_keeps : (opens : List Record → Type 0) (x : LifeState) (l : Life) (kept : ℕ) (disk : D) → opens l.opening → l.history ≡ x.history → IsDiskOf L opens x kept disk → Keeps L (LeftBy l kept) disk
+  life_keeps opens x l kept disk may same d =
       let left = d.left l.opening may in
       record {
-        now = left_stands l x.history d.least (L.told disk) same left.now;
-        crash = λ c m. left_stands l x.history d.least c same (left.crash c m);
+        now = left_stands l x.history kept (L.told disk) same left.now;
+        crash = λ c m. left_stands l x.history kept c same (left.crash c m);
       }
 
   -- the lives with one more
@@ -83,15 +84,24 @@ module _ {D : Type 0} (L : Ghosts D) where
     pub known_in : (disk : D) → Known T L (bytes_after s.life s.bytes) disk
     known_in disk = subst (λ (o : Option Life). Known T L (bytes_after o s.bytes) disk) (sym h.life) tt
 
-    pub safe_in : (disk : D) → IsDiskOf L opens x disk → Safe T L disk s
-    safe_in disk d = record {
+    pub safe_in : (kept : ℕ) (disk : D) → IsDiskOf L opens x kept disk → Safe T L kept disk s
+    safe_in kept disk d = record {
       right = λ t. subst (λ (o : Option Life). All IsRightLife (lives_of o s.past)) (sym h.life) (right_more s.past h.here (h.past t) (h.right t));
-      leaves = λ t. subst (λ (o : Option Life). Keeps L (last_after o s.last) disk) (sym h.life) (life_keeps opens x h.here disk (h.begins t) h.history d);
+      leaves = λ t. subst (λ (o : Option Life). Keeps L (last_after o s.last kept) disk) (sym h.life) (life_keeps opens x h.here kept disk (h.begins t) h.history d);
       bytes = known_in disk;
       goes = h.goes;
       fuse = h.fused.fuse;
     }
 
 -- the disk is the same in each view
-pub disk_seen : {D : Type 0} (L : Ghosts D) (v : View L.tells) (opens : List Record → Type 0) (x : LifeState) (disk : D) → IsDiskOf L opens x disk → IsDiskOf (seen L v) opens x disk
-disk_seen L v opens x disk of = record { least = of.least; left = of.left; calls = of.calls }
+pub disk_seen : {D : Type 0} (L : Ghosts D) (v : View L.tells) (opens : List Record → Type 0) (x : LifeState) (kept : ℕ) (disk : D) → IsDiskOf L opens x kept disk → IsDiskOf (seen L v) opens x kept disk
+disk_seen L v opens x kept disk of = record { left = of.left; calls = of.calls }
+
+-- the life that is open is this one
+pub has_life : (tells : Type 0) (opens : List Record → Type 0) (h : List Entry) (here : Life) (s : Stage) → s.life ≡ Some here → (tells → opens here.opening) → here.history ≡ h → HasLife tells opens h s
+has_life tells opens h here s is may same = λ l e.
+    let eq : here ≡ l = some_same here l (sym is ∙ e) in
+    (λ t. subst (λ (z : Life). opens z.opening) eq (may t), ap (λ (z : Life). z.history) (sym eq) ∙ same)
+  where
+    some_same : (a b : Life) → Some a ≡ Some b → a ≡ b
+    some_same a b e = cc

@@ -74,8 +74,8 @@ module _ {D : Type 0} (L : Ghosts D) (opens : List Record → Type 0) (x y : Lif
       answered : GoesOn x y → (out : List ℕ) → out ≡ answer_lines s.active name request asks.own → DidNow out
       answered goes out text = c.did_answer (seen L v) opens x s h name a act request y asks.entries asks.added right none asks.own outcome are among room goes names out text
 
-      lacking : (disk : D) → IsDiskOf (seen L v) opens y disk → (line : ℕ) → RefusesAt (seen L v) disk s (commands.Ask name request) line statuses.Memory
-      lacking disk of line = c.answer_lacks (seen L v) opens x s h name a act request y asks.entries asks.added right none asks.own outcome are among room disk of line
+      lacking : (kept : ℕ) (disk : D) → IsDiskOf (seen L v) opens y kept disk → (line : ℕ) → RefusesAt (seen L v) kept disk opens y.history s (commands.Ask name request) line statuses.Memory
+      lacking kept disk of line = c.answer_lacks (seen L v) opens x s h name a act request y asks.entries asks.added right none asks.own outcome are among room kept disk of line
 
     -- ---- a reply
 
@@ -90,10 +90,10 @@ module _ {D : Type 0} (L : Ghosts D) (opens : List Record → Type 0) (x y : Lif
           let f = first_of a.session a.tx request answer.reply asks.own asks.are in
           answered (Ok answer) asks (outcomes.Replied answer.reply) asks.are f.0 f.1 f.2 told_room goes out (text ∙ reply_is s.active name a.session a.tx request answer.reply asks.own asks.are)
 
-      reply_lacks : (disk : D) → IsDiskOf (seen L v) opens y disk → (line : ℕ) → RefusesAt (seen L v) disk s (commands.Ask name request) line statuses.Memory
-      reply_lacks disk of line =
+      reply_lacks : (kept : ℕ) (disk : D) → IsDiskOf (seen L v) opens y kept disk → (line : ℕ) → RefusesAt (seen L v) kept disk opens y.history s (commands.Ask name request) line statuses.Memory
+      reply_lacks kept disk of line =
           let f = first_of a.session a.tx request answer.reply asks.own asks.are in
-          lacking (Ok answer) asks (outcomes.Replied answer.reply) asks.are f.0 f.1 f.2 told_room disk of line
+          lacking (Ok answer) asks (outcomes.Replied answer.reply) asks.are f.0 f.1 f.2 told_room kept disk of line
 
     -- ---- a refusal
 
@@ -125,27 +125,27 @@ module _ {D : Type 0} (L : Ghosts D) (opens : List Record → Type 0) (x y : Lif
           (room_by asks.own asks.entries _ asks.are (room_declined (IsWhole v) s.life name request request a.session a.tx outcomes.OpRefused asks.entries))
           p.1 out (text ∙ ap (λ (l : List Entry). answer_lines s.active name request l) (sym asks.are))
       declined faults.LogFault asks p out (is, rose) =
-          c.did_fail (seen L v) opens x s h y asks.entries asks.added right (commands.Ask name request) tt refl (c.is_named (seen L v) opens x s h name true named) (cut faults.LogFault asks asks.are) p names (more rose) out (is ∙ failed_is)
+          c.did_fail (seen L v) opens x s h y asks.entries asks.added right (commands.Ask name request) tt refl (c.is_named (seen L v) opens x s h name true named) (cut faults.LogFault asks asks.are) tt p names (more rose) out (is ∙ failed_is)
       declined _ asks p out line = absurd line
 
-      ends : (fault : Fault) (asks : AsksFor (Err fault)) → FailsToAnswer may opens x y fault → (status : Status) → FailsAs before now fault status → (disk : D) → IsDiskOf (seen L v) opens y disk → (line : ℕ)
-          → RefusesAt (seen L v) disk s (commands.Ask name request) line status
-      ends (faults.Conflict holder range at) asks p status says disk of line = subst (λ (z : Status). RefusesAt (seen L v) disk s (commands.Ask name request) line z) (sym says)
+      ends : (fault : Fault) (asks : AsksFor (Err fault)) → FailsToAnswer may opens x y fault → (status : Status) → FailsAs before now fault status → (kept : ℕ) (disk : D) → IsDiskOf (seen L v) opens y kept disk → (line : ℕ)
+          → RefusesAt (seen L v) kept disk opens y.history s (commands.Ask name request) line status
+      ends (faults.Conflict holder range at) asks p status says kept disk of line = subst (λ (z : Status). RefusesAt (seen L v) kept disk opens y.history s (commands.Ask name request) line z) (sym says)
           (lacking (Err (faults.Conflict holder range at)) asks (outcomes.Conflict holder range) asks.are (Refused a.tx (lock_of request).range (lock_of request).mode holder) [] asks.are
-          (room_by asks.own asks.entries _ asks.are (room_refused (IsWhole v) s.life name request a.tx holder (lock_of request).range (lock_of request).mode asks.entries)) disk of line)
-      ends (faults.Full pages pending at) asks p status says disk of line = subst (λ (z : Status). RefusesAt (seen L v) disk s (commands.Ask name request) line z) (sym says)
+          (room_by asks.own asks.entries _ asks.are (room_refused (IsWhole v) s.life name request a.tx holder (lock_of request).range (lock_of request).mode asks.entries)) kept disk of line)
+      ends (faults.Full pages pending at) asks p status says kept disk of line = subst (λ (z : Status). RefusesAt (seen L v) kept disk opens y.history s (commands.Ask name request) line z) (sym says)
           (lacking (Err (faults.Full pages pending at)) asks (outcomes.Full pages pending) asks.are (Declined a.session a.tx request (outcomes.Full pages pending)) [] asks.are
-          (room_by asks.own asks.entries _ asks.are (room_declined (IsWhole v) s.life name request request a.session a.tx (outcomes.Full pages pending) asks.entries)) disk of line)
-      ends (faults.OpRefused at) asks p status says disk of line = subst (λ (z : Status). RefusesAt (seen L v) disk s (commands.Ask name request) line z) (sym says)
+          (room_by asks.own asks.entries _ asks.are (room_declined (IsWhole v) s.life name request request a.session a.tx (outcomes.Full pages pending) asks.entries)) kept disk of line)
+      ends (faults.OpRefused at) asks p status says kept disk of line = subst (λ (z : Status). RefusesAt (seen L v) kept disk opens y.history s (commands.Ask name request) line z) (sym says)
           (lacking (Err (faults.OpRefused at)) asks outcomes.OpRefused asks.are (Declined a.session a.tx request outcomes.OpRefused) [] asks.are
-          (room_by asks.own asks.entries _ asks.are (room_declined (IsWhole v) s.life name request request a.session a.tx outcomes.OpRefused asks.entries)) disk of line)
-      ends faults.LogFault asks p status says disk of line = subst (λ (z : Status). RefusesAt (seen L v) disk s (commands.Ask name request) line z) (sym says.0)
-          (c.cut_fault (seen L v) opens x s h y asks.entries asks.added right (commands.Ask name request) tt refl (c.is_named (seen L v) opens x s h name true named) (cut faults.LogFault asks asks.are) disk of line)
-      ends (faults.LogBad block byte) asks p status says disk of line = subst (λ (z : Status). RefusesAt (seen L v) disk s (commands.Ask name request) line z) (sym says)
-          (c.cut_bad (seen L v) opens x s h y asks.entries asks.added right (commands.Ask name request) tt refl (c.is_named (seen L v) opens x s h name true named) (cut (faults.LogBad block byte) asks asks.are) disk of line block byte p.1)
-      ends faults.Memory asks p status says disk of line = subst (λ (z : Status). RefusesAt (seen L v) disk s (commands.Ask name request) line z) (sym says)
-          (c.cut_memory (seen L v) opens x s h y asks.entries asks.added right (commands.Ask name request) tt refl (c.is_named (seen L v) opens x s h name true named) (cut faults.Memory asks asks.are) disk of line)
-      ends _ asks p status says disk of line = absurd p
+          (room_by asks.own asks.entries _ asks.are (room_declined (IsWhole v) s.life name request request a.session a.tx outcomes.OpRefused asks.entries)) kept disk of line)
+      ends faults.LogFault asks p status says kept disk of line = subst (λ (z : Status). RefusesAt (seen L v) kept disk opens y.history s (commands.Ask name request) line z) (sym says.0)
+          (c.cut_fault (seen L v) opens x s h y asks.entries asks.added right (commands.Ask name request) tt refl (c.is_named (seen L v) opens x s h name true named) (cut faults.LogFault asks asks.are) kept disk of line)
+      ends (faults.LogBad block byte) asks p status says kept disk of line = subst (λ (z : Status). RefusesAt (seen L v) kept disk opens y.history s (commands.Ask name request) line z) (sym says)
+          (c.cut_bad (seen L v) opens x s h y asks.entries asks.added right (commands.Ask name request) tt refl (c.is_named (seen L v) opens x s h name true named) (cut (faults.LogBad block byte) asks asks.are) kept disk of line block byte p.1)
+      ends faults.Memory asks p status says kept disk of line = subst (λ (z : Status). RefusesAt (seen L v) kept disk opens y.history s (commands.Ask name request) line z) (sym says)
+          (c.cut_memory (seen L v) opens x s h y asks.entries asks.added right (commands.Ask name request) tt refl (c.is_named (seen L v) opens x s h name true named) (cut faults.Memory asks asks.are) kept disk of line)
+      ends _ asks p status says kept disk of line = absurd p
 
   -- ---- whatever the turns before
 
@@ -157,7 +157,7 @@ module _ {D : Type 0} (L : Ghosts D) (opens : List Record → Type 0) (x y : Lif
 
     pub ask_lacks : (answer : Answered) → ((a : Active) → active_of x.active name ≡ Some a → Asks opens a.session a.tx request (Ok answer) x.history y.history)
         → ((a : Active) → active_of x.active name ≡ Some a → IsTold opens a.session a.tx request y.history answer) → (line : ℕ) → IsRefused L opens x y (commands.Ask name request) line statuses.Memory
-    ask_lacks answer asks told line = λ v s h disk of. let p = some_of (active_of x.active name) on in reply_lacks p.0 p.1 v s h answer (asks p.0 p.1) (told p.0 p.1) disk (disk_seen L v opens y disk of) line
+    ask_lacks answer asks told line = λ v s h kept disk of. let p = some_of (active_of x.active name) on in reply_lacks p.0 p.1 v s h answer (asks p.0 p.1) (told p.0 p.1) kept disk (disk_seen L v opens y kept disk of) line
 
     pub ask_declined : (may : Fault → Type 0) (failed : List ℕ) → failed ≡ failed_line (request_head name request) Log → (before now : ℕ) → (before < now → x.calls.refused < y.calls.refused) → (fault : Fault)
         → ((a : Active) → active_of x.active name ≡ Some a → Asks opens a.session a.tx request (Err fault) x.history y.history) → FailsToAnswer may opens x y fault
@@ -167,4 +167,4 @@ module _ {D : Type 0} (L : Ghosts D) (opens : List Record → Type 0) (x y : Lif
     pub ask_ends : (may : Fault → Type 0) (failed : List ℕ) → failed ≡ failed_line (request_head name request) Log → (before now : ℕ) → (before < now → x.calls.refused < y.calls.refused) → (fault : Fault)
         → ((a : Active) → active_of x.active name ≡ Some a → Asks opens a.session a.tx request (Err fault) x.history y.history) → FailsToAnswer may opens x y fault
         → (status : Status) → FailsAs before now fault status → (line : ℕ) → IsRefused L opens x y (commands.Ask name request) line status
-    ask_ends may failed failed_is before now more fault asks p status says line = λ v s h disk of. let q = some_of (active_of x.active name) on in ends q.0 q.1 v s h may failed failed_is before now more fault (asks q.0 q.1) p status says disk (disk_seen L v opens y disk of) line
+    ask_ends may failed failed_is before now more fault asks p status says line = λ v s h kept disk of. let q = some_of (active_of x.active name) on in ends q.0 q.1 v s h may failed failed_is before now more fault (asks q.0 q.1) p status says kept disk (disk_seen L v opens y kept disk of) line

@@ -41,9 +41,10 @@ pub record KeepsLast {D : Type 0} (told : D → Kept) (may_leave : D → Kept �
 abbrev pub Keeps : {D : Type 0} → Ghosts D → Last → D → Type 0
 Keeps L last disk = KeepsLast L.told L.may_leave last disk
 
--- behind these turns the disk keeps a log that may be found: of an open life a member of what a stop may leave
-abbrev pub Leaves : {D : Type 0} → Ghosts D → D → Stage → Type 0
-Leaves L disk s = L.tells → Keeps L (last_after s.life s.last) disk
+-- behind these turns the disk keeps a log that may be found: of an open life a member of what a stop may leave, where so many
+-- of its records are durable
+abbrev pub Leaves : {D : Type 0} → Ghosts D → ℕ → D → Stage → Type 0
+Leaves L kept disk s = L.tells → Keeps L (last_after s.life s.last kept) disk
 
 -- the LSN of the first record of these blocks, 1 where there is none
 abbrev pub lsn_from : List Place → ℕ

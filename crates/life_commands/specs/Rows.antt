@@ -1,5 +1,6 @@
 -- Which turn may stand where: what each command needs, what it enters, and how it may end.
 use Rattle.std.specs.Prelude.{◌≡◌, ◌≢◌, ◌<◌, ◌⊎◌, ℕ, List, [], ◌∷◌, ◌++◌, length, Option, Some, None, Bool, true, false, not, if◌then◌else◌, IsTrue}
+use Rattle.std.specs.List.{All}
 use Rattle.store_model.specs.Along.{AllAlong}
 use Rattle.store_model.specs.declared.limits.TheConstants.{MOST_ACTIVE}
 use Rattle.store_model.specs.declared.reply.Outcome.{Outcome}
@@ -16,6 +17,7 @@ use Rattle.command_laws.specs.Names.{Active, active_of, is_active}
 use Rattle.engine.specs.Answers.{HadRoom}
 use Rattle.engine.specs.Beside.{IsInWay}
 use Rattle.engine.specs.Requests.{lock_of}
+use Rattle.own_life.specs.Pages.{IsWrittenEntry}
 use Rattle.script.specs.declared.command.Device.{Device}
 use Rattle.script.specs.declared.command.Device.TheVariants.{Log, Vault}
 use Rattle.script.specs.declared.command.Command.{Command}
@@ -27,6 +29,10 @@ use Rattle.life_commands.specs.Turns.{Done, TooMany, LogFault, VaultFault, Ended
 abbrev pub no_life : Option Life → Bool
 no_life None = true
 no_life (Some l) = false
+
+abbrev pub no_name : List Active → Bool
+no_name [] = true
+no_name (a ∷ active) = false
 
 -- The command may stand after these turns. Those of words that aren't built, here and below, may stand nowhere.
 abbrev pub is_lawful : Stage → Command → Bool
@@ -45,9 +51,9 @@ is_lawful s commands.Recycle = false
 is_lawful s commands.Lose = false
 is_lawful s (commands.Help steps) = false
 is_lawful s commands.Stat = not (no_life s.life)
-is_lawful s commands.Close = false
+is_lawful s commands.Close = if no_life s.life then false else no_name s.active
 is_lawful s (commands.Stop keep) = true
-is_lawful s (commands.Damage page) = false
+is_lawful s (commands.Damage page) = true
 is_lawful s (commands.Fuse device calls) = true
 is_lawful s (commands.Renew device) = true
 is_lawful s (commands.Parallel workers retries show) = false
@@ -55,10 +61,14 @@ is_lawful s (commands.Worker transactions) = false
 is_lawful s (commands.Step request) = false
 is_lawful s commands.End = false
 
--- no stop, which ends a life
+-- neither a stop nor a close, which end a life
 abbrev pub IsNoStop : Command → Type 0
 IsNoStop (commands.Stop keep) = ⊥
 IsNoStop _ = Unit {0}
+
+abbrev pub IsNoClose : Command → Type 0
+IsNoClose commands.Close = ⊥
+IsNoClose _ = Unit {0}
 
 -- a command of a life, which looks into it or adds to its history
 abbrev pub IsOfLife : Command → Type 0
@@ -77,7 +87,7 @@ IsOfLife commands.Recycle = ⊥
 IsOfLife commands.Lose = ⊥
 IsOfLife (commands.Help steps) = ⊥
 IsOfLife commands.Stat = Unit {0}
-IsOfLife commands.Close = ⊥
+IsOfLife commands.Close = Unit {0}
 IsOfLife (commands.Stop keep) = ⊥
 IsOfLife (commands.Damage page) = ⊥
 IsOfLife (commands.Fuse device calls) = ⊥
@@ -110,9 +120,9 @@ IsOwn tells s commands.Recycle own = ⊥
 IsOwn tells s commands.Lose own = ⊥
 IsOwn tells s (commands.Help steps) own = ⊥
 IsOwn tells s commands.Stat own = own ≡ []
-IsOwn tells s commands.Close own = ⊥
+IsOwn tells s commands.Close own = All IsWrittenEntry own
 IsOwn tells s (commands.Stop keep) own = own ≡ []
-IsOwn tells s (commands.Damage page) own = ⊥
+IsOwn tells s (commands.Damage page) own = own ≡ []
 IsOwn tells s (commands.Fuse device calls) own = own ≡ []
 IsOwn tells s (commands.Renew device) own = own ≡ []
 IsOwn tells s (commands.Parallel workers retries show) own = ⊥
@@ -187,11 +197,11 @@ MayBeDone tells s commands.Recycle found = ⊥
 MayBeDone tells s commands.Lose found = ⊥
 MayBeDone tells s (commands.Help steps) found = ⊥
 MayBeDone tells s commands.Stat found = s.ended ≡ None
-MayBeDone tells s commands.Close found = ⊥
+MayBeDone tells s commands.Close found = s.ended ≡ None
 MayBeDone tells s (commands.Stop keep) found = Unit {0}
-MayBeDone tells s (commands.Damage page) found = ⊥
-MayBeDone tells s (commands.Fuse device calls) found = device ≡ Log
-MayBeDone tells s (commands.Renew device) found = device ≡ Log
+MayBeDone tells s (commands.Damage page) found = Unit {0}
+MayBeDone tells s (commands.Fuse device calls) found = device ≢ Vault
+MayBeDone tells s (commands.Renew device) found = device ≢ Vault
 MayBeDone tells s (commands.Parallel workers retries show) found = ⊥
 MayBeDone tells s (commands.Worker transactions) found = ⊥
 MayBeDone tells s (commands.Step request) found = ⊥
@@ -216,7 +226,7 @@ Calls commands.Recycle device = ⊥
 Calls commands.Lose device = ⊥
 Calls (commands.Help steps) device = ⊥
 Calls commands.Stat device = ⊥
-Calls commands.Close device = ⊥
+Calls commands.Close device = device ≡ Log
 Calls (commands.Stop keep) device = ⊥
 Calls (commands.Damage page) device = ⊥
 Calls (commands.Fuse fused calls) device = ⊥
@@ -226,9 +236,11 @@ Calls (commands.Worker transactions) device = ⊥
 Calls (commands.Step request) device = ⊥
 Calls commands.End device = ⊥
 
--- Where nothing is left to enter, nothing was entered; but a Checkpoint is entered before it is made durable.
+-- Where nothing is left to enter, nothing was entered; but a Checkpoint is entered before it is made durable, and a close makes the
+-- log durable behind its last write of a page.
 abbrev pub IsLeftOut : Command → List Entry → List Entry → Type 0
 IsLeftOut commands.Checkpoint es rest = Unit {0}
+IsLeftOut commands.Close es rest = Unit {0}
 IsLeftOut _ es rest = rest ≡ [] → es ≡ []
 
 -- a command of a life that goes on, or without one, was cut off: a first part of what it enters was entered

@@ -1,5 +1,5 @@
 -- Turns: a command of the script, what it added to the history of its life, and how it ended; and what turns leave.
-use Rattle.std.specs.Prelude.{◌≡◌, ◌⊎◌, ℕ, List, [], ◌∷◌, ◌++◌, fold, unwrap_or, Option, Some, None, Bool, true, false}
+use Rattle.std.specs.Prelude.{◌≡◌, ◌≤◌, ◌⊎◌, ℕ, List, [], ◌∷◌, ◌++◌, length, fold, unwrap_or, Option, Some, None, Bool, true, false}
 use Rattle.wal_record.specs.History.{life_log}
 use Rattle.wal_record.specs.Left.{IsLeft}
 use Rattle.wal_record.specs.declared.record.Record.{Record}
@@ -32,11 +32,12 @@ pub data Figures : Type 0 where
   Numbered : ℕ → Figures
   Counted : Stat → Figures
 
--- an `open` that is done has found a log
+-- An `open` that is done has found a log. Where a command ends its life, so many records of the log are known to be durable then.
 pub record Turn : Type 0 where
   pub command : Command
   pub entries : List Entry
   pub found : List Record
+  pub kept : ℕ
   pub figures : Figures
   pub end : End
 
@@ -48,19 +49,19 @@ pub record Life : Type 0 where
 -- ---- which log an opening may find
 
 -- What the disk was used for last: it holds this log, and nothing waits for a sync; it holds this log, and what is
--- synced is of an earlier use; a format made the log of a store with this limit, or failed; this life is over; or the
--- machine has stopped.
+-- synced is of an earlier use; a format made the log of a store with this limit, or failed; this life is over, of whose log
+-- at least so many records are durable; or the machine has stopped.
 pub data Last : Type 0 where
   Found : List Record → Last
   Unsynced : List Record → Last → Last
   Formatted : ℕ → Last
   Unformatted : Last → ℕ → Last
-  LeftBy : Life → Last
+  LeftBy : Life → ℕ → Last
   Stopped : Last → Last
 
--- what a stop may leave of a life
-abbrev pub IsLeftBy : Life → List Record → Type 0
-IsLeftBy l rs = (own : List Record) × IsLeft l.opening l.history own × (rs ≡ l.opening ++ own)
+-- what a stop may leave of a life, at least so many records
+abbrev pub IsLeftBy : Life → ℕ → List Record → Type 0
+IsLeftBy l kept rs = (own : List Record) × IsLeft l.opening l.history own × (rs ≡ l.opening ++ own) × (kept ≤ length rs)
 
 abbrev mutual
   -- the logs that the disk may hold then; a format that failed has made its log where none was, or nothing
@@ -69,7 +70,7 @@ abbrev mutual
   MayFind (Unsynced log before) rs = rs ≡ log
   MayFind (Formatted limit) rs = rs ≡ first_log limit
   MayFind (Unformatted before limit) rs = MayFind before rs ⊎ (MayFind before [] × (rs ≡ first_log limit))
-  MayFind (LeftBy l) rs = IsLeftBy l rs
+  MayFind (LeftBy l kept) rs = IsLeftBy l kept rs
   MayFind (Stopped before) rs = MayBeLeft before rs
 
   -- the logs that the disk may hold behind a stop
@@ -78,12 +79,13 @@ abbrev mutual
   MayBeLeft (Unsynced log before) rs = (rs ≡ log) ⊎ MayBeLeft before rs
   MayBeLeft (Formatted limit) rs = rs ≡ first_log limit
   MayBeLeft (Unformatted before limit) rs = MayBeLeft before rs ⊎ (MayFind before [] × (rs ≡ first_log limit))
-  MayBeLeft (LeftBy l) rs = IsLeftBy l rs
+  MayBeLeft (LeftBy l kept) rs = IsLeftBy l kept rs
   MayBeLeft (Stopped before) rs = MayBeLeft before rs
 
-abbrev pub last_after : Option Life → Last → Last
-last_after None last = last
-last_after (Some l) last = LeftBy l
+-- where an open life is over then, of whose log so many records are durable
+abbrev pub last_after : Option Life → Last → ℕ → Last
+last_after None last kept = last
+last_after (Some l) last kept = LeftBy l kept
 
 -- how the log disk was handed in: what it was used for, and what is known of its bytes
 pub record Start : Type 0 where
@@ -149,46 +151,59 @@ abbrev pub lives_of : Option Life → List Life → List Life
 lives_of None past = past
 lives_of (Some l) past = past ++ l ∷ []
 
--- a stop ends the life, and renews the fuses
-abbrev pub stopped : Stage → Stage
-stopped s = record {
-  last = Stopped (last_after s.life s.last);
+-- the log of a life so far
+abbrev pub log_of_life : Option Life → List Record
+log_of_life None = []
+log_of_life (Some l) = life_log l.opening l.history
+
+-- the life is over, and the disk was used so last; the machine hasn't stopped
+abbrev pub over : Stage → Last → Stage
+over s last = record {
+  last = last;
   bytes = bytes_after s.life s.bytes;
   past = lives_of s.life s.past;
   life = None;
   active = [];
-  cycled = true;
-  armed = renewed;
+  cycled = s.cycled;
+  armed = s.armed;
   ended = None;
   cut = s.cut;
 }
 
+-- a close ends the life, and its whole log is durable
+abbrev pub closed : Stage → Stage
+closed s = over s (Found (log_of_life s.life))
+
+-- a stop ends the life, and renews the fuses
+abbrev pub stopped : Stage → ℕ → Stage
+stopped s kept = record (over s (Stopped (last_after s.life s.last kept))) { cycled = true; armed = renewed }
+
 -- Behind a command that is done. Those of words that aren't built, here and below, are done nowhere.
-abbrev pub done_stage : Stage → Command → List Entry → List Record → Stage
-done_stage s commands.Nothing es found = s
-done_stage s (commands.Format limit) es found = record s { last = Formatted (room_of limit) }
-done_stage s commands.Open es found = record s { life = Some (record { opening = found; history = [] }) }
-done_stage s (commands.Begin name) es found = record (with_entries s es) { active = s.active ++ began name es }
-done_stage s (commands.Ask name request) es found = with_entries s es
-done_stage s (commands.Commit name) es found = record (with_entries s es) { active = without s.active name }
-done_stage s (commands.Abort name) es found = record (with_entries s es) { active = without s.active name }
-done_stage s commands.Checkpoint es found = with_entries s es
-done_stage s commands.Backup es found = s
-done_stage s commands.Archive es found = s
-done_stage s commands.Merge es found = s
-done_stage s commands.Recycle es found = s
-done_stage s commands.Lose es found = s
-done_stage s (commands.Help steps) es found = s
-done_stage s commands.Stat es found = s
-done_stage s commands.Close es found = s
-done_stage s (commands.Stop keep) es found = stopped s
-done_stage s (commands.Damage page) es found = s
-done_stage s (commands.Fuse device calls) es found = record s { armed = with_fuse device true s.armed }
-done_stage s (commands.Renew device) es found = record s { armed = with_fuse device false s.armed }
-done_stage s (commands.Parallel workers retries show) es found = s
-done_stage s (commands.Worker transactions) es found = s
-done_stage s (commands.Step request) es found = s
-done_stage s commands.End es found = s
+abbrev pub done_stage : Stage → Command → List Entry → List Record → ℕ → Stage
+done_stage s commands.Nothing es found kept = s
+done_stage s (commands.Format limit) es found kept = record s { last = Formatted (room_of limit) }
+done_stage s commands.Open es found kept = record s { life = Some (record { opening = found; history = [] }) }
+done_stage s (commands.Begin name) es found kept = record (with_entries s es) { active = s.active ++ began name es }
+done_stage s (commands.Ask name request) es found kept = with_entries s es
+done_stage s (commands.Commit name) es found kept = record (with_entries s es) { active = without s.active name }
+done_stage s (commands.Abort name) es found kept = record (with_entries s es) { active = without s.active name }
+done_stage s commands.Checkpoint es found kept = with_entries s es
+done_stage s commands.Backup es found kept = s
+done_stage s commands.Archive es found kept = s
+done_stage s commands.Merge es found kept = s
+done_stage s commands.Recycle es found kept = s
+done_stage s commands.Lose es found kept = s
+done_stage s (commands.Help steps) es found kept = s
+done_stage s commands.Stat es found kept = s
+done_stage s commands.Close es found kept = closed (with_entries s es)
+done_stage s (commands.Stop keep) es found kept = stopped s kept
+done_stage s (commands.Damage page) es found kept = s
+done_stage s (commands.Fuse device calls) es found kept = record s { armed = with_fuse device true s.armed }
+done_stage s (commands.Renew device) es found kept = record s { armed = with_fuse device false s.armed }
+done_stage s (commands.Parallel workers retries show) es found kept = s
+done_stage s (commands.Worker transactions) es found kept = s
+done_stage s (commands.Step request) es found kept = s
+done_stage s commands.End es found kept = s
 
 -- The log failed in a command: in a life that ends it, and the log is durable up to this LSN where a fuse refused the call.
 abbrev pub failed_stage : Stage → Command → List Entry → Option ℕ → Stage
@@ -207,7 +222,7 @@ failed_stage s commands.Recycle es at = s
 failed_stage s commands.Lose es at = s
 failed_stage s (commands.Help steps) es at = s
 failed_stage s commands.Stat es at = s
-failed_stage s commands.Close es at = s
+failed_stage s commands.Close es at = record (with_entries s es) { ended = at }
 failed_stage s (commands.Stop keep) es at = s
 failed_stage s (commands.Damage page) es at = s
 failed_stage s (commands.Fuse device calls) es at = s
@@ -217,31 +232,35 @@ failed_stage s (commands.Worker transactions) es at = s
 failed_stage s (commands.Step request) es at = s
 failed_stage s commands.End es at = s
 
-abbrev pub stage_after : Stage → Command → List Entry → List Record → End → Stage
-stage_after s c es found Done = done_stage s c es found
-stage_after s c es found TooMany = s
-stage_after s c es found (LogFault n) = failed_stage s c es (Some n)
-stage_after s c es found VaultFault = with_entries s es
-stage_after s c es found (Ended n) = s
-stage_after s c es found Cut = record (failed_stage s c es None) { cut = true }
+-- A close that was answered ends the life, also where the log failed in it or before; so many records of the log are durable then.
+abbrev pub close_over : Command → ℕ → Stage → Stage
+close_over commands.Close kept s = over s (last_after s.life s.last kept)
+close_over _ kept s = s
+
+abbrev pub stage_after : Stage → Command → List Entry → List Record → ℕ → End → Stage
+stage_after s c es found kept Done = done_stage s c es found kept
+stage_after s c es found kept TooMany = s
+stage_after s c es found kept (LogFault n) = close_over c kept (failed_stage s c es (Some n))
+stage_after s c es found kept VaultFault = with_entries s es
+stage_after s c es found kept (Ended n) = close_over c kept s
+stage_after s c es found kept Cut = record (failed_stage s c es None) { cut = true }
 
 abbrev pub turn : Command → List Entry → End → Turn
-turn c es end = record { command = c; entries = es; found = []; figures = Plain; end = end }
+turn c es end = record { command = c; entries = es; found = []; kept = 0; figures = Plain; end = end }
+
+-- one that ends a life, of whose log so many records are known to be durable then
+abbrev pub last_turn : Command → List Entry → ℕ → End → Turn
+last_turn c es kept end = record { command = c; entries = es; found = []; kept = kept; figures = Plain; end = end }
 
 -- one that is done, with these figures
 abbrev pub done : Command → List Entry → Figures → Turn
-done c es figures = record { command = c; entries = es; found = []; figures = figures; end = Done }
+done c es figures = record { command = c; entries = es; found = []; kept = 0; figures = figures; end = Done }
 
 abbrev pub stage_step : Stage → Turn → Stage
-stage_step s t = stage_after s t.command t.entries t.found t.end
+stage_step s t = stage_after s t.command t.entries t.found t.kept t.end
 
 unfoldable pub stage : Start → List Turn → Stage
 stage start turns = fold stage_step (begin_stage start) turns
-
--- the log of a life so far
-abbrev pub log_of_life : Option Life → List Record
-log_of_life None = []
-log_of_life (Some l) = life_log l.opening l.history
 
 abbrev pub history_of : Option Life → List Entry
 history_of None = []

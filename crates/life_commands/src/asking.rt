@@ -8,7 +8,7 @@ ghost use Rattle.life_commands.specs.Promises.{Did, Refused};
 
 use crate::failing::{MOST, fail};
 use crate::status::Status;
-use media::Disk;
+use media::{Disk, PageDevice};
 use own_life::{LifePages, OwnLife};
 use page_ops::Life;
 use script::{Device, Name};
@@ -17,7 +17,7 @@ use std::sync::Wait;
 use store_model::{Fault, Request};
 
 /// A request of an active transaction.
-pub fn ask_open<'a, N: Life, L: Disk, P: LifePages<N>, R: Wait>(
+pub fn ask_open<'a, N: Life, L: Disk, D: PageDevice, P: LifePages<N, D>, R: Wait>(
     rt: &R,
     alloc: Global,
     life: &mut OwnLife<'a, L, N>,

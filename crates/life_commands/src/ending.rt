@@ -7,7 +7,7 @@ ghost use Rattle.life_commands.specs.Promises.{Did, Refused};
 
 use crate::failing::{MOST, fail};
 use crate::status::Status;
-use media::Disk;
+use media::{Disk, PageDevice};
 use own_life::{LifePages, OwnLife};
 use page_ops::Life;
 use script::{Device, Name};
@@ -42,7 +42,7 @@ pub fn commit_open<'a, N: Life, L: Disk, R: Wait>(
 }
 
 /// An active transaction is undone, and ends.
-pub fn abort_open<'a, N: Life, L: Disk, P: LifePages<N>, R: Wait>(
+pub fn abort_open<'a, N: Life, L: Disk, D: PageDevice, P: LifePages<N, D>, R: Wait>(
     rt: &R,
     alloc: Global,
     life: &mut OwnLife<'a, L, N>,

@@ -1,7 +1,7 @@
 //! The commands of a life, and the lines that answer them.
 //!
 //! [`step`] carries a command of the script out on a life that one thread owns (`own_life`), and gives its lines, as `transcript`
-//! spells them; or it says with which [`Status`] the run ends there.
+//! spells them; or it says with which [`Status`] the run ends there. [`close`] is the command that ends a life.
 //!
 //! The model is a script's turns (`specs/Turns`): each a command with the entries that it adds to the history of its life, and
 //! how it ended. Which turn may stand behind which, with which entries, is a table (`specs/Rows`), and so is its text
@@ -11,18 +11,21 @@
 //! What is promised (`specs/Promises`), of every row of turns that the life may stand for (`Within` in `specs/Living`):
 //!
 //! 1. Lines are given only with one turn more, of this command, that fits behind those turns; the life stands for them all
-//!    then, and these are its lines.
+//!    then, and these are its lines. Behind a close no life is open, and the devices that the life hands out stand for them.
 //! 2. A status comes only for its cause (`specs/Refusals`), and whatever disk the life hands out then keeps a log that may be
 //!    found. A fault of the log disk comes only where that disk failed by itself (`specs/Causes`); one that an armed fuse made is
-//!    a line.
+//!    a line. No fault of the data device is told.
 #![tactic(auto)]
 
 mod asking;
+mod closing;
+mod devices;
 mod ending;
 mod failing;
 mod life;
 mod status;
 mod upkeep;
 
+pub use closing::close;
 pub use life::step;
 pub use status::Status;

@@ -5,24 +5,25 @@ ghost use Rattle.script.specs.declared.command.Command.TheVariants as commands;
 ghost use Rattle.store_model.specs.declared.fault.Fault.TheVariants as faults;
 ghost use Rattle.life_commands.specs.Causes.{LifeCause};
 ghost use Rattle.life_commands.specs.Promises.{Did, Refused};
-ghost use Rattle.life_commands.specs.Rows.{IsNoStop};
+ghost use Rattle.life_commands.specs.Rows.{IsNoClose, IsNoStop};
 ghost use Rattle.life_commands.specs.declared.status.Status.TheVariants as statuses;
 
 use crate::asking::ask_open;
+use crate::devices::{damage, fuse, renew};
 use crate::ending::{abort_open, commit_open};
 use crate::status::Status;
 use crate::upkeep::{checkpoint_open, stat_open};
-use media::Disk;
+use media::{Disk, PageDevice};
 use own_life::{LifePages, OwnLife};
 use page_ops::Life;
-use script::{Command, Device, Name};
+use script::{Command, Name};
 use std::alloc::Global;
 use std::sync::Wait;
 use store_model::{Fault, Request};
 use transcript::Upkeep;
 
 /// Carries a command out, and gives the lines that answer it.
-pub fn step<'a, N: Life, L: Disk, P: LifePages<N>, R: Wait>(
+pub fn step<'a, N: Life, L: Disk, D: PageDevice, P: LifePages<N, D>, R: Wait>(
     rt: &R,
     alloc: Global,
     life: &mut OwnLife<'a, L, N>,
@@ -31,6 +32,7 @@ pub fn step<'a, N: Life, L: Disk, P: LifePages<N>, R: Wait>(
     line: u64,
 ) -> Result<Vec<u8>, Status>
     requires stop { IsNoStop command.now }
+    requires close { IsNoClose command.now }
     requires idle { P.idle pages.old }
     ensures idle { P.idle pages.new }
     ensures ok { IfOk result (λ lines. Did L.Disk N.opens life.old life.new command.now lines.items) }
@@ -46,8 +48,9 @@ pub fn step<'a, N: Life, L: Disk, P: LifePages<N>, R: Wait>(
         Command::Abort(name) => abort(rt, alloc, life, pages, name, line),
         Command::Checkpoint => checkpoint(rt, alloc, life),
         Command::Stat => stat(rt, alloc, life),
-        Command::Fuse { device, calls } => fuse(alloc, life, *device, *calls, line),
-        Command::Renew { device } => renew(alloc, life, *device, line),
+        Command::Damage { page } => damage(alloc, pages, *page),
+        Command::Fuse { device, calls } => fuse(alloc, life, pages, *device, *calls, line),
+        Command::Renew { device } => renew(alloc, life, pages, *device, line),
         _ => Err(Status::Script { line }),
     }
 }
@@ -108,7 +111,7 @@ fn refuse_begin(fault: Fault, refused: Vec<u8>) -> Result<Vec<u8>, Status>
     }
 }
 
-fn ask<'a, N: Life, L: Disk, P: LifePages<N>, R: Wait>(
+fn ask<'a, N: Life, L: Disk, D: PageDevice, P: LifePages<N, D>, R: Wait>(
     rt: &R,
     alloc: Global,
     life: &mut OwnLife<'a, L, N>,
@@ -154,7 +157,7 @@ fn commit<'a, N: Life, L: Disk, R: Wait>(
     }
 }
 
-fn abort<'a, N: Life, L: Disk, P: LifePages<N>, R: Wait>(
+fn abort<'a, N: Life, L: Disk, D: PageDevice, P: LifePages<N, D>, R: Wait>(
     rt: &R,
     alloc: Global,
     life: &mut OwnLife<'a, L, N>,
@@ -208,43 +211,4 @@ fn stat<'a, N: Life, L: Disk, R: Wait>(
         Some(at) => Ok(transcript::stat_ended(alloc, at)?),
         None => stat_open(rt, alloc, life),
     }
-}
-
-fn fuse<'a, N: Life, L: Disk>(
-    alloc: Global,
-    life: &mut OwnLife<'a, L, N>,
-    device: Device,
-    calls: u64,
-    line: u64,
-) -> Result<Vec<u8>, Status>
-    ensures ok { IfOk result (λ lines. Did L.Disk N.opens life.old life.new (commands.Fuse device calls) lines.items) }
-    ensures err { IfErr result (Refused L.Disk N.opens life.old life.new (commands.Fuse device calls) line) }
-    ensures cause { IfErr result (LifeCause life.old.calls.own life.new.calls.own) }
-    ensures later { life.old.calls.own ≤ life.new.calls.own }
-{
-    if device != Device::Log {
-        return Err(Status::NotBuilt { line });
-    }
-    let out = transcript::fuse_line(alloc, calls)?;
-    life.fuse(Some(calls));
-    Ok(out)
-}
-
-fn renew<'a, N: Life, L: Disk>(
-    alloc: Global,
-    life: &mut OwnLife<'a, L, N>,
-    device: Device,
-    line: u64,
-) -> Result<Vec<u8>, Status>
-    ensures ok { IfOk result (λ lines. Did L.Disk N.opens life.old life.new (commands.Renew device) lines.items) }
-    ensures err { IfErr result (Refused L.Disk N.opens life.old life.new (commands.Renew device) line) }
-    ensures cause { IfErr result (LifeCause life.old.calls.own life.new.calls.own) }
-    ensures later { life.old.calls.own ≤ life.new.calls.own }
-{
-    if device != Device::Log {
-        return Err(Status::NotBuilt { line });
-    }
-    let out = transcript::renew_line(alloc)?;
-    life.fuse(None);
-    Ok(out)
 }

@@ -4,7 +4,9 @@ use Rattle.script.specs.Word.{word, behind, same_text}
 
 -- a word about the store, and one about a transaction
 abbrev pub is_store_word : List ℕ → Bool
-is_store_word text = same_text text (codes "format") || same_text text (codes "open") || same_text text (codes "checkpoint") || same_text text (codes "stat") || same_text text (codes "stop")
+is_store_word text =
+    same_text text (codes "format") || same_text text (codes "open") || same_text text (codes "checkpoint") || same_text text (codes "stat")
+    || same_text text (codes "close") || same_text text (codes "stop") || same_text text (codes "damage")
 
 abbrev pub is_transaction_word : List ℕ → Bool
 is_transaction_word text =
@@ -21,7 +23,7 @@ has_fuse text = same_text text (codes "fuse") || same_text text (codes "renew")
 -- what stands behind the first word begins with a device whose fuse is built
 abbrev pub is_built_device : Option (List ℕ) → Bool
 is_built_device None = false
-is_built_device (Some rest) = same_text (word rest) (codes "log")
+is_built_device (Some rest) = same_text (word rest) (codes "log") || same_text (word rest) (codes "data")
 
 -- an empty line, a comment, or one that begins with a word that is built
 unfoldable pub is_built : List ℕ → Bool

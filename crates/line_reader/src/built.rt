@@ -34,7 +34,9 @@ fn is_store_word(word: &[u8]) -> bool
         || word == b"open".as_slice()
         || word == b"checkpoint".as_slice()
         || word == b"stat".as_slice()
+        || word == b"close".as_slice()
         || word == b"stop".as_slice()
+        || word == b"damage".as_slice()
 }
 
 /// Whether it asks for something of a transaction.
@@ -66,7 +68,7 @@ fn is_built_device(rest: Option<&[u8]>) -> bool
         None => false,
         Some(rest) => {
             let (word, _) = cut(rest);
-            word == b"log".as_slice()
+            word == b"log".as_slice() || word == b"data".as_slice()
         }
     }
 }

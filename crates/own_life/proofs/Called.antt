@@ -1,12 +1,12 @@
 -- What a call of the layers below makes of a life that went on: by its answer the life goes on, or a fault of the log disk was
 -- counted and its end is known.
-use Rattle.std.proofs.Common.{◌≡◌, ℕ, ◌<◌, List, Option, Some, None, true, Result, Ok, Err, sym, ap, subst, ◌∙◌, arith, inl, inr}
+use Rattle.std.proofs.Common.{◌≡◌, ℕ, ◌<◌, ◌≤◌, List, Option, Some, None, true, Result, Ok, Err, sym, ap, subst, ◌∙◌, arith, inl, inr}
 use Rattle.std.specs.Prelude.{◌⊎◌, IfErr, IfSome, OnOk, is_some}
 use Rattle.store_model.specs.declared.fault.Fault.{Fault}
 use Rattle.store_model.specs.declared.fault.Fault.TheVariants as faults
 use Rattle.wal_record.specs.declared.entry.Entry.{Entry}
 use Rattle.wal_record.specs.declared.record.Record.{Record}
-use Rattle.page_ops.specs.Causes.{Ends, EndsBy, FailsToBring, FailsToEnter, FailsToFlush as MayFlush, FindsEnd, IsOpen, MeetsNoEnd, NoOther, OrTooMany}
+use Rattle.page_ops.specs.Causes.{Ends, EndsBy, FailsToBring, FailsToEnter, FailsToFlush as MayFlush, FailsToReserve, FindsEnd, IsOpen, MeetsNoEnd, NoOther, OrTooMany}
 use Rattle.page_ops.specs.Names.{LedgerName}
 use Rattle.page_ops.specs.Seeing.{Account, Calls, Keeps}
 use Rattle.buffer_pool.specs.Writes.{no_faults}
@@ -26,6 +26,7 @@ pub record Called (opens : List Record → Type 0) (log_faults : LedgerName) (ol
   pub keeps : Keeps (told a c) (told b d)
   pub why : IfSome b.ended (λ at. HasCause log_faults b.log_faults)
   pub calls : old.calls ≡ c
+  pub later : old.durable ≤ new.durable
   pub ended_now : new.ended ≡ b.ended
   pub calls_now : new.calls ≡ d
   pub durable : (opening : List Record) → opens opening → IfSome b.ended (IsDurableUpto opening new.history)
@@ -46,7 +47,7 @@ module _ {opens : List Record → Type 0} {log_faults : LedgerName} {old new : L
       (record { unarmed = q.keeps.calls.unarmed; refused = q.keeps.calls.refused; own = q.keeps.calls.own; cause = λ f. q.keeps.calls.cause (more f) }))
 
   goes : IsOpen b → GoesOn old new
-  goes runs = record { ended = q.ended_now ∙ runs.0; calls = calls_by ⊥ (λ no. absurd no) }
+  goes runs = record { ended = q.ended_now ∙ runs.0; later = q.later; calls = calls_by ⊥ (λ no. absurd no) }
 
   breaks : is_some b.ended ≡ true → a.log_faults.amount < b.log_faults.amount → BreaksOff opens old new
   breaks some more = go b.ended (λ i. b.ended) some
@@ -56,6 +57,7 @@ module _ {opens : List Record → Type 0} {log_faults : LedgerName} {old new : L
       go (Some at) is known = record {
         at = at;
         ended = q.ended_now ∙ is;
+        later = q.later;
         durable = λ opening stands. subst (λ (o : Option ℕ). IfSome o (IsDurableUpto opening new.history)) is (q.durable opening stands);
         calls = calls_by (Unit {0}) (λ _. more);
       }
@@ -101,6 +103,19 @@ module _ {opens : List Record → Type 0} {log_faults : LedgerName} {old new : L
     pub brings : {T : Type 0} (r : Result T Fault) → OnOk r (MeetsNoEnd (told a c) (told b d)) → IfErr r (FailsToBring opens log_faults made no_faults no_faults (told a c) (told b d) h) → GoesOrFails a b
     brings (Ok x) o e = inl (still o)
     brings (Err f) o e = brings_fault f e
+
+    reserves_fault : (f : Fault) → FailsToReserve opens log_faults made no_faults no_faults (told a c) (told b d) h f → GoesOrFails a b
+    reserves_fault faults.VaultFault e = absurd e
+    reserves_fault (faults.LogBad block byte) e = absurd e
+    reserves_fault (faults.VaultBad object byte) e = absurd e
+    reserves_fault faults.Memory e = brings_fault faults.Memory e
+    reserves_fault faults.LogFault e = brings_fault faults.LogFault e
+    reserves_fault (faults.Ended at) e = brings_fault (faults.Ended at) e
+    reserves_fault _ e = absurd e
+
+    pub reserves : {T : Type 0} (r : Result T Fault) → OnOk r (MeetsNoEnd (told a c) (told b d)) → IfErr r (FailsToReserve opens log_faults made no_faults no_faults (told a c) (told b d) h) → GoesOrFails a b
+    reserves (Ok x) o e = inl (still o)
+    reserves (Err f) o e = reserves_fault f e
 
     asks_fault : (may : Fault → Type 0) (f : Fault) → FailsToAsk may opens log_faults made no_faults no_faults (told a c) (told b d) h f → GoesOrFails a b
     asks_fault may (faults.Conflict holder range at) e = inl e.2
@@ -152,6 +167,28 @@ module _ {opens : List Record → Type 0} {log_faults : LedgerName} {old new : L
     pub flush_refused : {T : Type 0} (r : Result T Fault) → IfErr r FailsToCheckpoint → Ends opens log_faults made (told a c) (told b d) h r → IfErr r (FailsToFlush opens old new)
     flush_refused (Ok x) may e = tt
     flush_refused (Err f) may e = flush_fault f may e
+
+    flushed_fault : (f : Fault) → MayFlush f → EndsBy opens log_faults made (told a c) (told b d) h f → FailsToFlush opens old new f
+    flushed_fault faults.LogFault may e = breaks e.1 e.2
+    flushed_fault (faults.Ended at) may e = absurd (never made h at e)
+    flushed_fault _ may e = absurd may
+
+    pub flushed_refused : {T : Type 0} (r : Result T Fault) → IfErr r MayFlush → Ends opens log_faults made (told a c) (told b d) h r → IfErr r (FailsToFlush opens old new)
+    flushed_refused (Ok x) may e = tt
+    flushed_refused (Err f) may e = flushed_fault f may e
+
+    reserve_fault : (f : Fault) → FailsToReserve opens log_faults made no_faults no_faults (told a c) (told b d) h f → Fails opens old new f
+    reserve_fault faults.VaultFault e = absurd e
+    reserve_fault (faults.LogBad block byte) e = absurd e
+    reserve_fault (faults.VaultBad object byte) e = absurd e
+    reserve_fault faults.Memory e = goes (still e)
+    reserve_fault faults.LogFault e = breaks e.0 (counted e.1)
+    reserve_fault (faults.Ended at) e = absurd (never made h at e)
+    reserve_fault _ e = absurd e
+
+    pub reserve_refused : {T : Type 0} (r : Result T Fault) → IfErr r (FailsToReserve opens log_faults made no_faults no_faults (told a c) (told b d) h) → IfErr r (Fails opens old new)
+    reserve_refused (Ok x) e = tt
+    reserve_refused (Err f) e = reserve_fault f e
 
     commit_fault : (f : Fault) → MayFlush f → EndsBy opens log_faults made (told a c) (told b d) h f → FailsToCommit opens old new f
     commit_fault faults.LogFault may e = breaks e.1 e.2

@@ -1,5 +1,5 @@
 -- What holds of a life between its calls, and how refusals of the layers below are told.
-use Rattle.std.specs.Prelude.{◌≡◌, List, None, Result, Ok, Err, IfSome}
+use Rattle.std.specs.Prelude.{◌≡◌, ◌≤◌, List, None, Result, Ok, Err, IfSome}
 use Rattle.store_model.specs.declared.fault.Fault.{Fault}
 use Rattle.store_model.specs.declared.fault.Fault.TheVariants as faults
 use Rattle.wal_record.specs.declared.entry.Entry.{Entry}
@@ -31,6 +31,7 @@ pub record Sees {N : Type 0} (opens : List Record → Type 0) (entries log_fault
   pub names : new_life.named.items ≡ old_life.named.items
   pub history : new_life.pass.log ≡ old_life.pass.log
   pub whole : new_life.pass.log ≡ new_journal.history
+  pub later : old_life.pass.durable ≤ new_life.pass.durable
   pub durable : (opening : List Record) → opens opening → IfSome old_counts.ended (IsDurableUpto opening new_life.pass.log)
   pub cause : IfSome old_counts.ended (λ at. HasCause log_faults old_counts.log_faults)
 

@@ -3,6 +3,8 @@ use Rattle.std.specs.Prelude.{◌≡◌, ◌⊎◌, ◌==◌, ◌≤◌, ℕ, Li
 use Rattle.std.specs.List.{find}
 use Rattle.std.specs.Option.{option_map}
 use Rattle.media.specs.Cause.{Rose}
+use Rattle.media.specs.declared.disk.Disk as disks
+use Rattle.media.specs.declared.pages.PageDevice as pages
 use Rattle.store_model.specs.declared.fault.Fault.{Fault}
 use Rattle.store_model.specs.declared.fault.Fault.TheVariants as faults
 use Rattle.wal_record.specs.Checkpoints.{commits}
@@ -13,14 +15,17 @@ use Rattle.wal_record.specs.declared.record.Record.{Record}
 use Rattle.page_ops.specs.Causes.{IsUntold}
 use Rattle.page_ops.specs.Seeing.{Calls}
 use Rattle.page_ops.specs.declared.outcome.Committed.{Committed}
-use Rattle.journal.specs.Stops.{IsDurableUpto}
+use Rattle.page_repair.specs.Images.{AreWritten}
+use Rattle.journal.specs.State.{calls_of}
+use Rattle.journal.specs.Stops.{IsDurableUpto, Leaves}
 use Rattle.command_laws.specs.Commands.{Begins, Commits, commit_record}
 use Rattle.command_laws.specs.Names.{Active}
 
--- its history, the active transactions in the order of their beginning, the LSN up to which the log was durable as the life
--- ended, if it has, and what the log disk tells of its calls
+-- its history, an LSN up to which the log is known to be durable, the active transactions in the order of their beginning, the
+-- LSN up to which the log was durable as the life ended, if it has, and what the log disk tells of its calls
 pub record LifeState : Type 0 where
   pub history : List Entry
+  pub durable : ℕ
   pub active : List Active
   pub ended : Option ℕ
   pub calls : Calls
@@ -28,6 +33,14 @@ pub record LifeState : Type 0 where
 -- the name of the first active transaction with this number
 abbrev pub name_by : ℕ → List Active → Option (List ℕ)
 name_by tx active = option_map (λ (a : Active). a.name) (find (λ (a : Active). a.tx == tx) active)
+
+-- nothing has happened yet in it, and the log with which it began is durable
+pub record HasJustBegun (opens : List Record → Type 0) (told : Calls) (x : LifeState) : Type 0 where
+  pub history : x.history ≡ []
+  pub durable : (opening : List Record) → opens opening → length opening ≤ x.durable
+  pub active : x.active ≡ []
+  pub ended : x.ended ≡ None
+  pub calls : x.calls ≡ told
 
 -- ---- calls of the log disk
 
@@ -44,12 +57,14 @@ pub record CallsGoOn (failed : Type 0) (old new : Calls) : Type 0 where
 -- it goes on; that no call of the log disk failed isn't said
 pub record GoesOn (old new : LifeState) : Type 0 where
   pub ended : new.ended ≡ None
+  pub later : old.durable ≤ new.durable
   pub calls : CallsGoOn ⊥ old.calls new.calls
 
 -- A call of the log disk failed, which has ended the life. The opening log and each acknowledged commit are durable.
 pub record BreaksOff (opens : List Record → Type 0) (old new : LifeState) : Type 0 where
   pub at : ℕ
   pub ended : new.ended ≡ Some at
+  pub later : old.durable ≤ new.durable
   pub durable : (opening : List Record) → opens opening → IsDurableUpto opening new.history at
   pub calls : CallsGoOn (Unit {0}) old.calls new.calls
 
@@ -114,3 +129,15 @@ MayBeDone tx h h' = (h' ≡ h) ⊎ ((lsn : ℕ) × (prev : ℕ) × (h' ≡ h ++ 
 abbrev pub IsCommitted : (List Record → Type 0) → ℕ → ℕ → Result Committed Fault → List Entry → List Entry → Type 0
 IsCommitted opens session tx (Ok answer) h h' = IsDone opens session tx answer h h'
 IsCommitted opens session tx (Err fault) h h' = MayBeDone tx h h'
+
+-- ---- what a life leaves
+
+-- What the log disk keeps as the life ends, and what it keeps after a crash that comes then, stands for a log that a stop may
+-- leave of the life, with so many records at least; and each image of the data device is made of so many of the life's
+-- records at most. So it is in each such log.
+pub record AreLeft {D E : Type 0} (L : disks.Ghosts D) (P : pages.Ghosts E) (opens : List Record → Type 0) (x : LifeState) (disk : D) (device : E) : Type 0 where
+  pub kept : ℕ
+  pub durable : x.durable ≤ kept
+  pub left : Leaves opens L.told L.may_leave x.history kept disk
+  pub images : P.tells → AreWritten opens P.told (record { log = x.history; durable = kept }) device
+  pub calls : calls_of L.passes L.refused L.own disk ≡ x.calls

@@ -1,12 +1,12 @@
 //! A life that one thread owns.
-ghost use Rattle.std.specs.Prelude.{◌≡◌, ◌==◌, ◌<◌, ◌-◌, ◌^◌, ℕ, None, Some, List, ◌++◌, Err, IfErr, IfOk, IfSome, OnOk, false, true, length, min, position};
+ghost use Rattle.std.specs.Prelude.{◌≡◌, ◌==◌, ◌<◌, ◌≤◌, ◌-◌, ◌^◌, ℕ, None, Some, List, ◌++◌, Err, IfErr, IfOk, IfSome, OnOk, false, true, length, min, position};
 ghost use Rattle.std.specs.Option.{option_map};
 ghost use Rattle.command_laws.specs.Names.{Active, active_of, is_active};
 ghost use Rattle.engine.specs.Applies.{GivesNone};
 ghost use Rattle.engine.specs.Requests.{IsRefusal, lock_of};
 ghost use Rattle.engine.specs.Writes.{LacksRoom};
-ghost use Rattle.journal.specs.State.{ArmsDisk, calls_of};
-ghost use Rattle.journal.specs.Stops.{IsDurableUpto, Leaves};
+ghost use Rattle.journal.specs.State.{ArmsDisk};
+ghost use Rattle.journal.specs.Stops.{IsDurableUpto};
 ghost use Rattle.log_laws.specs.Right.{IsRight};
 ghost use Rattle.page_ops.specs.Outcomes.{IsConflict, IsSurvey};
 ghost use Rattle.store_model.specs.declared.fault.Fault.TheVariants as faults;
@@ -16,12 +16,12 @@ ghost use Rattle.wal_record.specs.declared.record.Record.{Record};
 ghost use Rattle.store_life.specs.SoFar.{left_by};
 ghost use Rattle.store_life.specs.Turns.{Asks, EndsBy, IsCheckpointed, IsTold};
 ghost use Rattle.own_life.specs.Kept.{without_crowd, without_vault};
-ghost use Rattle.own_life.specs.State.{BeginsAs, Fails, FailsToAnswer, FailsToBegin, FailsToCommit, FailsToFlush, FailsToLook, GoesOn, IsCommitted, name_by};
+ghost use Rattle.own_life.specs.State.{AreLeft, BeginsAs, Fails, FailsToAnswer, FailsToBegin, FailsToCommit, FailsToFlush, FailsToLook, GoesOn, IsCommitted, name_by};
 
-use crate::pages::LifePages;
+use crate::life_pages::LifePages;
 use crate::seeing::see_whole;
 use engine::Answered;
-use media::Disk;
+use media::{Disk, PageDevice};
 use own_journal::OwnJournal;
 use page_ops::{Committed, Life, Survey};
 use script::Name;
@@ -31,8 +31,8 @@ use std::sync::Wait;
 use store_life::StoreLife;
 use store_model::{Fault, Lsn, MOST_ACTIVE, Pos, Request, TxId};
 
-/// A life with its journal and its named transactions. Contracts see it as its history, its active names, its end, and what the
-/// log disk tells of its calls. Its pages are lent to each call that wants them.
+/// A life with its journal and its named transactions. Contracts see it as its history, how much of the log is known to be durable,
+/// its active names, its end, and what the log disk tells of its calls. Its pages are lent to each call that wants them.
 #[derive(Drop)]
 pub struct OwnLife<'a, L: Disk, N: Life> {
     pub(crate) journal: OwnJournal<'a, L, N>,
@@ -47,12 +47,19 @@ impl<'a, L: Disk, N: Life> Model for OwnLife<'a, L, N> {
 
     ghost Value = { LifeState };
 
-    ghost view = { λ l. record { history = l.life.pass.log; active = actives l.life.named.items; ended = l.journal.counts.ended; calls = l.journal.journal.calls } };
+    ghost view = { λ l. record { history = l.life.pass.log; durable = l.life.pass.durable; active = actives l.life.named.items; ended = l.journal.counts.ended; calls = l.journal.journal.calls } };
 
     ghost invariant = { λ l. IsKept N.opens N.entries N.log_faults (told l.journal.counts l.journal.journal.calls) l.journal.journal.history l.life };
 }
 
 impl<'a, L: Disk, N: Life> OwnLife<'a, L, N> {
+    /// How many transactions are active.
+    pub fn active(&self) -> usize
+        ensures { result ≡ length self.now.active }
+    {
+        self.life.named.len()
+    }
+
     /// Whether a transaction of this name is active.
     pub fn is_active(&self, name: &Name) -> bool
         ensures { result ≡ is_active self.now.active name.now }
@@ -113,7 +120,7 @@ impl<'a, L: Disk, N: Life> OwnLife<'a, L, N> {
     }
 
     /// Asks for the active transaction of this name.
-    pub fn ask<P: LifePages<N>, R: Wait>(
+    pub fn ask<D: PageDevice, P: LifePages<N, D>, R: Wait>(
         &mut self,
         rt: &R,
         alloc: Global,
@@ -158,7 +165,7 @@ impl<'a, L: Disk, N: Life> OwnLife<'a, L, N> {
 
     /// Undoes the active transaction of this name and ends it: it is active no more. After a refusal what was undone stays so,
     /// the transaction has no End yet, and the name stays active.
-    pub fn abort<P: LifePages<N>, R: Wait>(
+    pub fn abort<D: PageDevice, P: LifePages<N, D>, R: Wait>(
         &mut self,
         rt: &R,
         alloc: Global,
@@ -180,10 +187,11 @@ impl<'a, L: Disk, N: Life> OwnLife<'a, L, N> {
         unvaulted(ended)
     }
 
-    /// Takes a Checkpoint, and gives its LSN. It flushes the log up to it; no clause here says how much is then durable.
+    /// Takes a Checkpoint, makes the log durable up to it, and gives its LSN.
     pub fn checkpoint<R: Wait>(&mut self, rt: &R, alloc: Global) -> Result<Lsn, Fault>
         requires open { self.old.ended ≡ None }
         ensures entered { IsCheckpointed result self.old.history self.new.history }
+        ensures flushed { IfOk result (λ lsn. (opening : List Record) → N.opens opening → lsn ≤ self.new.durable) }
         ensures names { self.new.active ≡ self.old.active }
         ensures goes { OnOk result (GoesOn self.old self.new) }
         ensures refused { IfErr result (FailsToFlush N.opens self.old self.new) }
@@ -210,7 +218,7 @@ impl<'a, L: Disk, N: Life> OwnLife<'a, L, N> {
 
     /// Arms the log disk's fuse, which lets n more calls pass, or renews it.
     pub fn fuse(&mut self, n: Option<u64>)
-        ensures same { (self.new.history ≡ self.old.history) × (self.new.active ≡ self.old.active) × (self.new.ended ≡ self.old.ended) }
+        ensures same { (self.new.history ≡ self.old.history) × (self.new.durable ≡ self.old.durable) × (self.new.active ≡ self.old.active) × (self.new.ended ≡ self.old.ended) }
         ensures calls { ArmsDisk L.fuses n self.old.calls self.new.calls }
     {
         self.journal.fuse(n);
@@ -223,14 +231,15 @@ impl<'a, L: Disk, N: Life> OwnLife<'a, L, N> {
         self.journal.refused()
     }
 
-    /// The life has stopped: its log disk, as it is. What it keeps, and what it keeps after a crash that comes now, stands for a
-    /// log that a stop may leave of the life.
-    pub fn into_device(self) -> L
-        ensures left { (least : ℕ) × Leaves N.opens L.told L.may_leave self.entry.history least result }
-        ensures calls { calls_of L.passes L.refused L.own result ≡ self.entry.calls }
+    /// The life has stopped: its log disk and its data device, as they are. What the log disk keeps, and what it keeps after a crash
+    /// that comes now, stands for a log that a stop may leave of the life, and each image of the data device is made of that log.
+    pub fn into_devices<D: PageDevice, P: LifePages<N, D>>(self, pages: P) -> (L, D)
+        ensures left { AreLeft L.Disk D.PageDevice N.opens self.entry result.0 result.1 }
     {
         let OwnLife { journal, mut life } = self;
-        journal.into_device(&mut life.pass)
+        let device = pages.into_device(&mut life.pass);
+        let log = journal.into_device(&mut life.pass);
+        (log, device)
     }
 }
 

@@ -1,7 +1,11 @@
 //! The data device of a store of one thread.
-ghost use Rattle.std.specs.Prelude.{◌≡◌, ◌⊎◌, ℕ, List};
-ghost use Rattle.page_ops.specs.Causes.{IsUntold};
+ghost use Rattle.std.specs.Prelude.{◌≡◌, ◌≤◌, ℕ, List, OnOk};
+ghost use mathlib.Core.List.{IsPrefix};
+ghost use Rattle.media.specs.Cause.{HasCause};
+ghost use Rattle.media.specs.Counted.{Armed};
+ghost use Rattle.media.specs.Images.{Keeps, SameImages};
 ghost use Rattle.page_repair.specs.Images.{AreWritten};
+ghost use Rattle.wal_record.specs.declared.record.Record.{Record};
 
 use crate::images::Images;
 use front::Pass;
@@ -22,22 +26,22 @@ pub struct OwnImages<'a, D: PageDevice, N: Life> {
 }
 
 impl<'a, D: PageDevice, N: Life> Model for OwnImages<'a, D, N> {
-    ghost use Rattle.std.specs.Prelude.{◌⊎◌};
-    ghost use Rattle.page_ops.specs.Causes.{IsUntold};
+    ghost use Rattle.std.specs.Prelude.{List};
     ghost use Rattle.page_repair.specs.Images.{AreWritten};
+    ghost use Rattle.wal_record.specs.declared.record.Record.{Record};
 
     ghost Value = { D };
 
     ghost view = { λ i. i.device };
 
-    ghost invariant = { λ i. (D.tells ⊎ IsUntold N.opens) × (D.tells → AreWritten N.opens D.told i.pass i.device) };
+    ghost invariant = { λ i. ((opening : List Record) → N.opens opening → D.tells) × (D.tells → AreWritten N.opens D.told i.pass i.device) };
 }
 
 impl<'a, D: PageDevice, N: Life> OwnImages<'a, D, N> {
-    /// The device of a life, whose images are made of what this pass has seen. A device that doesn't tell is that of a life
-    /// of which no opening log is known.
+    /// The device of a life, whose images are made of what this pass has seen. Where an opening log of the life is known, the
+    /// device tells what was written.
     pub fn new(ground: &'a Ground<N>, device: D, pass: Pass<Entry, N>) -> OwnImages<'a, D, N>
-        requires told { D.tells ⊎ IsUntold N.opens }
+        requires told { (opening : List Record) → N.opens opening → D.tells }
         requires written { D.tells → AreWritten N.opens D.told pass device }
         ensures { result ≡ device }
     {
@@ -48,11 +52,38 @@ impl<'a, D: PageDevice, N: Life> OwnImages<'a, D, N> {
         }
     }
 
-    /// The device.
-    pub fn into_device(self) -> D
-        ensures { result ≡ self.entry }
+    /// Reads of the page fail verification until its next write. After `Failed` they may.
+    pub fn spoil(&mut self, page: PageNo) -> Result<(), Failed>
+        ensures damaged { D.tells → OnOk result (D.spoiled self.new page) }
+        ensures same { D.tells → SameImages D.told D.newest self.old self.new }
+        ensures spoiled { D.tells → Keeps D.spoiled self.old self.new }
+        ensures cause { HasCause D.faults self.old self.new result }
     {
-        let OwnImages { device, .. } = self;
+        self.device.spoil(page)
+    }
+
+    /// Arms the device's fuse, which lets n more calls pass, or renews it.
+    pub fn fuse(&mut self, n: Option<u64>)
+        ensures same { D.tells → SameImages D.told D.newest self.old self.new }
+        ensures spoiled { D.tells → Keeps D.spoiled self.old self.new }
+        ensures faults { D.faults self.new ≡ D.faults self.old }
+        ensures fuse { Armed D.fuses D.passes D.refused D.own n self.old self.new }
+    {
+        self.device.fuse(n);
+    }
+
+    /// The device, as it is. The caller's pass then has seen what its images are made of.
+    pub fn into_device(self, pass: &mut Pass<Entry, N>) -> D
+        ensures device { result ≡ self.entry }
+        ensures written { D.tells → AreWritten N.opens D.told pass.new result }
+        ensures seen { IsPrefix pass.old.log pass.new.log × (pass.old.durable ≤ pass.new.durable) }
+    {
+        let OwnImages {
+            ground,
+            device,
+            pass: written,
+        } = self;
+        pass.meet(&ground.board, written);
         device
     }
 }

@@ -1,11 +1,10 @@
 //! A store is opened.
-ghost use Rattle.std.specs.Prelude.{◌≡◌, ◌⊎◌, ◌<◌, ◌≤◌, ℕ, List, [], None, false, length, IfErr, IfOk};
+ghost use Rattle.std.specs.Prelude.{◌≡◌, ◌<◌, ◌≤◌, ℕ, List, [], None, false, length, IfErr, IfOk};
 ghost use Rattle.buffer_pool.specs.Tables.{frame_of};
 ghost use Rattle.buffer_pool.specs.declared.frame.Frame.TheVariants.{Empty};
 ghost use Rattle.journal.specs.State.{calls_of};
 ghost use Rattle.opening.specs.Begins.{MayBegin, all_parts};
 ghost use Rattle.opening_rights.specs.Opened.{AreAtHome};
-ghost use Rattle.page_ops.specs.Causes.{IsUntold};
 ghost use Rattle.wal_record.specs.declared.record.Record.{Record};
 ghost use Rattle.plain_store.specs.Opens.{AreEarlier};
 
@@ -39,7 +38,7 @@ pub fn open_store<'a, L: Disk, P: PageDevice, S, N: Life>(
     requires opens { (opening : List Record) → N.opens opening → MayBegin L.tells L.told L.may_leave log.log log.listing opening }
     requires goes { log.log.log.ended ≡ None }
     // A log with which the life may have begun is known only where the data device tells what was written.
-    requires told { P.tells ⊎ IsUntold N.opens }
+    requires told { (opening : List Record) → N.opens opening → P.tells }
     // Images that an earlier life wrote are taken over.
     requires images { P.tells → AreEarlier N.opens P.told device }
     requires parts { (0 < N.entries.parts) × (0 < N.session_entries.parts) × (0 < N.log_faults.parts) × (0 < N.made.parts) }
@@ -83,7 +82,8 @@ pub fn open_store<'a, L: Disk, P: PageDevice, S, N: Life>(
         Ok(pages) => pages,
         Err(parts) => {
             let PoolRefused { images, supply } = parts;
-            return Err(refused(log, images.into_device(), supply));
+            let device = images.into_device(&mut tokens.pass);
+            return Err(refused(log, device, supply));
         }
     };
     let Begun {

@@ -1,7 +1,8 @@
 //! A store of one thread.
-ghost use Rattle.std.specs.Prelude.{◌≡◌};
+ghost use Rattle.std.specs.Prelude.{◌≡◌, ◌≤◌, ℕ};
 ghost use Rattle.journal.specs.State.{calls_of};
 ghost use Rattle.journal.specs.Stops.{Leaves};
+ghost use Rattle.page_repair.specs.Images.{AreWritten};
 
 use books::MaintRight;
 use buffer_pool::PlainPool;
@@ -27,9 +28,11 @@ pub struct PlainStore<'a, L: Disk, P: PageDevice, S, N: Life> {
 
 impl<'a, L: Disk, P: PageDevice, S, N: Life> PlainStore<'a, L, P, S, N> {
     /// The life has stopped: its log disk, its data device and its supply, as they are. What the log disk keeps, and what it
-    /// keeps after a crash that comes now, stands for a log that a stop may leave of the life.
+    /// keeps after a crash that comes now, stands for a log that a stop may leave of the life; it has so many records that each
+    /// image of the data device is made of them alone.
     pub fn into_devices(self) -> (L, P, S)
-        ensures log { Leaves N.opens L.told L.may_leave self.entry.journal.journal.history self.entry.pass.durable result.0 }
+        ensures left { (kept : ℕ) × (self.entry.pass.durable ≤ kept) × Leaves N.opens L.told L.may_leave self.entry.journal.journal.history kept result.0
+            × (P.tells → AreWritten N.opens P.told (record { log = self.entry.journal.journal.history; durable = kept }) result.1) }
         ensures calls { calls_of L.passes L.refused L.own result.0 ≡ self.entry.journal.journal.calls }
         ensures device { result.1 ≡ self.entry.pages.images }
         ensures supply { result.2 ≡ self.entry.pages.supply }
@@ -40,8 +43,9 @@ impl<'a, L: Disk, P: PageDevice, S, N: Life> PlainStore<'a, L, P, S, N> {
             mut pass,
             ..
         } = self;
-        let log = journal.into_device(&mut pass);
         let (images, supply) = pages.into_parts();
-        (log, images.into_device(), supply)
+        let device = images.into_device(&mut pass);
+        let log = journal.into_device(&mut pass);
+        (log, device, supply)
     }
 }

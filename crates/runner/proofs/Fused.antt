@@ -4,6 +4,7 @@ use Rattle.std.proofs.lemmas.List.Elements.{All-nil}
 use Rattle.media.specs.Kept.{Kept}
 use Rattle.media.specs.Fused.{Fused}
 use Rattle.media.specs.declared.disk.Disk.{Ghosts}
+use Rattle.media.specs.declared.pages.PageDevice as pages
 use Rattle.media.specs.declared.vault.Vault as vaults
 use Rattle.log_manager.specs.Devices.{DevicesStandFor}
 use Rattle.wal_record.specs.declared.record.Record.{Record}
@@ -11,10 +12,13 @@ use Rattle.life_commands.specs.declared.status.Status.{Status}
 use Rattle.life_commands.specs.declared.status.Status.TheVariants as statuses
 use Rattle.life_commands.specs.Bytes.{Bytes, Unknown, Gated, Bad, Known}
 use Rattle.runner.specs.Causes.{IsAsked}
-use Rattle.life_commands.specs.Turns.{Last, Start, Turn, Found, MayFind, IsRightLife, begin_stage}
-use Rattle.runner.specs.Clause.{Ended, Headline}
+use Rattle.life_commands.specs.Images.{AreImagesOf}
+use Rattle.life_commands.specs.Living.{Out}
 use Rattle.life_commands.specs.LogDisk.{View, IsWhole, Whole, seen, Keeps, HoldsOne}
-use Rattle.runner.specs.Machine.{Out}
+use Rattle.life_commands.specs.Turns.{Last, Stage, Start, Found, MayFind, IsRightLife, begin_stage, bytes_after, last_after, stage}
+use Rattle.runner.specs.Clause.{HandsBack, Headline}
+use Rattle.runner.specs.Devices.{Imaged}
+use Rattle.runner.proofs.Vaults.{vault_first}
 use Rattle.life_commands.proofs.Lives.{keeps_only}
 
 -- what a fuse round a device says
@@ -55,44 +59,29 @@ out_at T T' L F e d told may fuse none start keeps known = record {
 
 -- ---- the end
 
-module _ {D E : Type 0} (T : Type 0) (L : Ghosts D) (F : Ghosts E) (e : E) (d : D) (told : F.told e ≡ L.told d) (may : (c : Kept) → L.may_leave d c → F.may_leave e c) where
-  keeps_inner : (last : Last) → Keeps (record F { tells = T }) last e → Keeps (record L { tells = T }) last d
-  keeps_inner last k = record { now = subst (HoldsOne (MayFind last)) told k.now; crash = λ c m. k.crash c (may c m) }
+keeps_inner : {D E : Type 0} (T : Type 0) (L : Ghosts D) (F : Ghosts E) (e : E) (d : D) (told : F.told e ≡ L.told d) (may : (c : Kept) → L.may_leave d c → F.may_leave e c) (last : Last) → Keeps (record F { tells = T }) last e → Keeps (record L { tells = T }) last d
+keeps_inner T L F e d told may last k = record { now = subst (HoldsOne (MayFind last)) told k.now; crash = λ c m. k.crash c (may c m) }
 
-  ended_inner : (start : Start) (status : Status) (turns : List Turn) (read rest written : List ℕ) (left : Option (List ℕ)) → Ended (record F { tells = T }) start status turns read rest written left → Ended (record L { tells = T }) start status turns read rest written left
-  ended_inner start statuses.Done turns read rest written left h = h
-  ended_inner start statuses.Memory turns read rest written left h = h
-  ended_inner start statuses.Usage turns read rest written left h = h
-  ended_inner start statuses.NoGenerator turns read rest written left h = h
-  ended_inner start (statuses.Script n) turns read rest written left h = h
-  ended_inner start statuses.SourceFault turns read rest written left h = h
-  ended_inner start statuses.SinkFault turns read rest written left h = h
-  ended_inner start statuses.LogFault turns read rest written left h = h
-  ended_inner start (statuses.LogBad block byte) turns read rest written left h = h
-  ended_inner start (statuses.BlockBad block byte) turns read rest written left h = h
-  ended_inner start statuses.NotFormatted turns read rest written left h = h
-  ended_inner start statuses.AlreadyFormatted turns read rest written left h = h
-  ended_inner start (statuses.NotBuilt n) turns read rest written left h = h
-
-  unfused : {G : Type 0} (T' : Type 0) (V : vaults.Ghosts G) (first vault : G) → ((b : Bytes) → Known T' F b e → Known T' L b d) → (start : Start) (left0 : Option (List ℕ)) (pending : List ℕ) (left told0 told1 : Option (List ℕ)) (status : Status) → Headline T' (record F { tells = T }) V start e first vault left0 pending left told0 told1 status → Headline T' (record L { tells = T }) V start d first vault left0 pending left told0 told1 status
-  unfused T' V first vault known start left0 pending left told0 told1 status h = record {
-    turns = h.turns;
-    read = h.read;
-    rest = h.rest;
-    written = h.written;
-    taken = h.taken;
-    within = h.within;
-    most = h.most;
-    ran = h.ran;
-    cut = h.cut;
-    wrote = h.wrote;
-    ended = ended_inner start status h.turns h.read h.rest h.written _ h.ended;
-    back = record { leaves = λ t. keeps_inner _ (h.back.leaves t); bytes = known _ h.back.bytes; stored = h.back.stored };
-  }
+-- what is handed back otherwise
+back_as : {tells : Type 0} {start : Start} {B B' : Stage → Type 0} {left0 : Option (List ℕ)} {pending : List ℕ} {left told0 told : Option (List ℕ)} {status : Status} → ((s : Stage) → B s → B' s) → Headline tells start B left0 pending left told0 told status → Headline tells start B' left0 pending left told0 told status
+back_as {start = start} through h = record {
+  turns = h.turns;
+  read = h.read;
+  rest = h.rest;
+  written = h.written;
+  taken = h.taken;
+  within = h.within;
+  most = h.most;
+  ran = h.ran;
+  cut = h.cut;
+  wrote = h.wrote;
+  ended = h.ended;
+  back = through (stage start h.turns) h.back;
+}
 
 -- ---- completeness
 
-asked : {D E : Type 0} {T : Type 0} {L : Ghosts D} {V : vaults.Ghosts E} {start : Start} {disk : D} {first vault : E} {left0 left told0 told : Option (List ℕ)} {pending : List ℕ} (status : Status) → Headline T L V start disk first vault left0 pending left told0 told status → L.tells
+asked : {tells : Type 0} {start : Start} {B : Stage → Type 0} {left0 left told0 told : Option (List ℕ)} {pending : List ℕ} (status : Status) → Headline tells start B left0 pending left told0 told status → tells
     → (status ≢ statuses.Usage) × (status ≢ statuses.NoGenerator) → status ≢ statuses.SourceFault → status ≢ statuses.SinkFault → status ≢ statuses.LogFault → IsAsked status
 asked statuses.Usage h t usage source sink fault = usage.0 refl
 asked statuses.NoGenerator h t usage source sink fault = usage.1 refl
@@ -114,19 +103,55 @@ known_inner L e Unknown h = tt
 known_inner L e Gated (t, g) = (t, record { now = g.now; crash = g.crash })
 known_inner L e (Bad k) (t, b) = (t, record { now = b.now; only = b.only; block = b.block; byte = b.byte; bad = b.bad })
 
--- a run round a fused disk is one round the disk
-pub begun_fused : {D : Type 0} (L : Ghosts D) (v : View L.tells) (e : Fused D) (d : D) → e ≡ record { inner = d; left = None; refused = 0 } → (start : Start) → (IsWhole v → Keeps L start.last d) → Known L.tells L start.bytes d → Out L.tells (seen (fuse_of L) v) e (begin_stage start)
-begun_fused {D} L v e d is start keeps known =
-    let fresh : Fused D = record { inner = d; left = None; refused = 0 } in
-    subst (λ (x : Fused _). Out L.tells (seen (fuse_of L) v) x (begin_stage start)) (sym is) (out_at (IsWhole v) L.tells L (fuse_of L) fresh d refl (λ c m. m) tt refl start keeps (known_fused L fresh start.bytes known))
+-- what a fuse round a data device says
+abbrev pub images_fuse : {D : Type 0} → pages.Ghosts D → pages.Ghosts (Fused D)
+images_fuse D = record {
+  tells = D.tells;
+  told = λ f p image. D.told f.inner p image;
+  newest = λ f p. D.newest f.inner p;
+  spoiled = λ f p. D.spoiled f.inner p;
+  faults = λ f. D.faults f.inner + f.refused;
+  own = λ f. D.faults f.inner;
+  refused = λ f. f.refused;
+  passes = λ f. f.left;
+  fuses = Unit {0};
+}
 
-pub ended_fused : {D E : Type 0} (L : Ghosts D) (V : vaults.Ghosts E) (first vault : E) (v : View L.tells) (e : Fused D) (d : D) → d ≡ e.inner → (start : Start) (left0 : Option (List ℕ)) (pending : List ℕ) (left told0 told1 : Option (List ℕ)) (status : Status) → Headline L.tells (seen (fuse_of L) v) V start e first vault left0 pending left told0 told1 status → Headline L.tells (seen L v) V start d first vault left0 pending left told0 told1 status
-ended_fused L V first vault v e d is start left0 pending left told0 told1 status h = subst (λ (x : _). Headline L.tells (seen L v) V start x first vault left0 pending left told0 told1 status) (sym is) (unfused (IsWhole v) L (fuse_of L) e e.inner refl (λ c m. m) L.tells V first vault (known_inner L e) start left0 pending left told0 told1 status h)
+abbrev pub fresh : {D : Type 0} → D → Fused D
+fresh d = record { inner = d; left = None; refused = 0 }
 
--- Of a disk that keeps a log, where no device failed, the run has a status that the script asks for.
-pub asked_fused : {D E : Type 0} (L : Ghosts D) {V : vaults.Ghosts E} {disk : Fused D} {first vault : E} {left0 left told0 told : Option (List ℕ)} {pending : List ℕ} {status : Status} (e : Fused D) (d : D) → e ≡ record { inner = d; left = None; refused = 0 }
-    → ((v : View L.tells) (start : Start) → Out L.tells (seen (fuse_of L) v) e (begin_stage start) → Headline L.tells (seen (fuse_of L) v) V start disk first vault left0 pending left told0 told status) → L.tells → (last : Last) → Keeps L last d
+-- a run round fused devices is one round the devices
+pub begun_fused : {D E : Type 0} (L : Ghosts D) (P : pages.Ghosts E) (v : View L.tells) (e : Fused D) (f : Fused E) (d : D) (device : E) → e ≡ fresh d → f ≡ fresh device → (start : Start) → (IsWhole v → P.tells × Keeps L start.last d × AreImagesOf (P.told device) start.last) → Known L.tells L start.bytes d
+    → Imaged (IsWhole v) (images_fuse P) f (Out L.tells (seen (fuse_of L) v) e) (begin_stage start)
+begun_fused L P v e f d device is same start keeps known = record {
+  here = subst (λ (x : Fused _). Out L.tells (seen (fuse_of L) v) x (begin_stage start)) (sym is) (out_at (IsWhole v) L.tells L (fuse_of L) (fresh d) d refl (λ c m. m) tt refl start (λ w. (keeps w).1) (known_fused L (fresh d) start.bytes known));
+  told = λ w. (keeps w).0;
+  images = λ w. subst (λ (x : Fused _). AreImagesOf (P.told x.inner) start.last) (sym same) (keeps w).2;
+}
+
+pub ended_fused : {D E F : Type 0} (L : Ghosts D) (P : pages.Ghosts E) (V : vaults.Ghosts F) (v : View L.tells) (first vault : F) (e : Fused D) (f : Fused E) (d : D) (device : E) → d ≡ e.inner → device ≡ f.inner → {start : Start} {left0 : Option (List ℕ)} {pending : List ℕ} {left told0 told : Option (List ℕ)} {status : Status}
+    → Headline (IsWhole v) start (HandsBack L.tells (seen (fuse_of L) v) (images_fuse P) V e f first vault) left0 pending left told0 told status → Headline (IsWhole v) start (HandsBack L.tells (seen L v) P V d device first vault) left0 pending left told0 told status
+ended_fused L P V v first vault e f d device is same h = back_as through h
+  where
+    through : (s : Stage) → HandsBack L.tells (seen (fuse_of L) v) (images_fuse P) V e f first vault s → HandsBack L.tells (seen L v) P V d device first vault s
+    through s b = record {
+      kept = b.kept;
+      leaves = λ t. subst (λ (x : _). Keeps (seen L v) (last_after s.life s.last b.kept) x) (sym is) (keeps_inner (IsWhole v) L (fuse_of L) e e.inner refl (λ c m. m) (last_after s.life s.last b.kept) (b.leaves t));
+      images = λ t. subst (λ (x : _). AreImagesOf (P.told x) (last_after s.life s.last b.kept)) (sym same) (b.images t);
+      bytes = subst (λ (x : _). Known L.tells (seen L v) (bytes_after s.life s.bytes) x) (sym is) (known_inner L e (bytes_after s.life s.bytes) b.bytes);
+      stored = b.stored;
+    }
+
+-- devices that are handed back as they were handed in
+pub handed_back : {D E F : Type 0} (L : Ghosts D) (P : pages.Ghosts E) (V : vaults.Ghosts F) (v : View L.tells) (start : Start) (disk : D) (device : E) (vault : F) → (IsWhole v → P.tells × Keeps L start.last disk × AreImagesOf (P.told device) start.last) → Known L.tells L start.bytes disk
+    → HandsBack L.tells (seen L v) P V disk device vault vault (begin_stage start)
+handed_back L P V v start disk device vault keeps known = record { kept = 0; leaves = λ t. (keeps t).1; images = λ t. (keeps t).2; bytes = known; stored = vault_first V vault }
+
+-- Of devices that keep a log and images of it, where no device failed, the run has a status that the script asks for.
+pub asked_fused : {D E F : Type 0} (L : Ghosts D) (P : pages.Ghosts E) {V : vaults.Ghosts F} {disk : Fused D} {pages_left : Fused E} {first vault : F} {left0 left told0 told : Option (List ℕ)} {pending : List ℕ} {status : Status} (e : Fused D) (f : Fused E) (d : D) (device : E) → e ≡ fresh d → f ≡ fresh device
+    → ((v : View L.tells) (start : Start) → Imaged (IsWhole v) (images_fuse P) f (Out L.tells (seen (fuse_of L) v) e) (begin_stage start) → Headline (IsWhole v) start (HandsBack L.tells (seen (fuse_of L) v) (images_fuse P) V disk pages_left first vault) left0 pending left told0 told status)
+    → L.tells → P.tells → (last : Last) → Keeps L last d → AreImagesOf (P.told device) last
     → (status ≢ statuses.Usage) × (status ≢ statuses.NoGenerator) → status ≢ statuses.SourceFault → status ≢ statuses.SinkFault → status ≢ statuses.LogFault → IsAsked status
-asked_fused L {status = status} e d is headline t last keeps usage source sink fault =
+asked_fused L P {status = status} e f d device is same headline t p last keeps images usage source sink fault =
     let start : Start = record { last = last; bytes = Unknown } in
-    asked status (headline (Whole t) start (begun_fused L (Whole t) e d is start (λ w. keeps) tt)) tt usage source sink fault
+    asked status (headline (Whole t) start (begun_fused L P (Whole t) e f d device is same start (λ w. (p, keeps, images)) tt)) tt usage source sink fault

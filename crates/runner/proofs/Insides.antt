@@ -1,48 +1,102 @@
 -- Within a life, and as it begins: what holds in each view of the log disk.
-use Rattle.std.proofs.Common.{◌≡◌, ℕ, List, [], Option, None, refl, sym, ap, subst, ◌∙◌}
+use Rattle.std.proofs.Common.{◌≡◌, ℕ, List, [], Option, Some, sym, ap, subst, ◌∙◌}
 use Rattle.std.specs.List.{All}
 use Rattle.media.specs.declared.disk.Disk.{Ghosts}
+use Rattle.media.specs.declared.pages.PageDevice as pages
+use Rattle.page_ops.specs.Seeing.{Calls}
 use Rattle.journal.specs.State.{calls_of}
-use Rattle.journal.specs.Stops as stops
 use Rattle.log_manager.specs.Managed.{Managed}
+use Rattle.script.specs.declared.command.Command.{Command}
+use Rattle.script.specs.declared.command.Command.TheVariants as commands
+use Rattle.wal_record.specs.declared.entry.Entry.{Entry}
 use Rattle.wal_record.specs.declared.record.Record.{Record}
-use Rattle.own_life.specs.State.{LifeState}
-use Rattle.life_commands.specs.LogDisk.{View, seen}
-use Rattle.life_commands.specs.Living.{IsDiskOf, Safe, Within}
-use Rattle.life_commands.specs.Turns.{Life, Stage, IsRightLife, lives, lives_of}
-use Rattle.life_commands.proofs.Lives.{disk_seen, right_more, safe_in}
-use Rattle.runner.specs.Machine.{Beginning, BeginsOn, Begun}
+use Rattle.own_life.specs.State.{AreLeft, HasJustBegun, LifeState}
+use Rattle.life_commands.specs.LogDisk.{View, IsWhole, seen}
+use Rattle.life_commands.specs.Images.{AreImagesOf}
+use Rattle.life_commands.specs.Living.{Adds, Out, Within}
+use Rattle.life_commands.specs.Refusals.{LeftAs}
+use Rattle.life_commands.specs.Rows.{FitsAt}
+use Rattle.life_commands.specs.Turns.{Cut, Life, Stage, Turn, IsRightLife, last_after, lives, lives_of, stage_step, turn}
+use Rattle.life_commands.proofs.Lives.{disk_seen, has_life, right_more, safe_in}
+use Rattle.runner.specs.Clause.{AtRest}
+use Rattle.runner.specs.Devices.{AreDevicesOf, AreImagesAt, Imaged, Rests}
+use Rattle.runner.specs.Machine.{Beginning, BeginsOn, Begun, OpensOn}
+use Rattle.runner.proofs.Images.{life_images}
 use Rattle.runner.proofs.Places.{begun_right}
+use Rattle.runner.proofs.Stages.{cut_open}
 
--- whatever disk the life hands out
+-- each life is right
 pub right_in : {D : Type 0} (L : Ghosts D) {opens : List Record → Type 0} {x : LifeState} {s : Stage} → Within L opens x s → L.tells → All IsRightLife (lives s)
 right_in L {s = s} h t = subst (λ (o : Option Life). All IsRightLife (lives_of o s.past)) (sym h.life) (right_more L s.past h.here (h.past t) (h.right t))
 
--- the disk that a life has handed out
-pub disk_of : {D : Type 0} (L : Ghosts D) (opens : List Record → Type 0) (x : LifeState) (disk : D) → (least : ℕ) × stops.Leaves opens L.told L.may_leave x.history least disk → calls_of L.passes L.refused L.own disk ≡ x.calls → IsDiskOf L opens x disk
-disk_of L opens x disk left calls = record { least = left.0; left = left.1; calls = calls }
+module _ {D E : Type 0} (L : Ghosts D) (P : pages.Ghosts E) (v : View L.tells) where
+  -- the devices that a life has handed out
+  pub devices_of : (opens : List Record → Type 0) (x : LifeState) (disk : D) (device : E) → (left : AreLeft L P opens x disk device) → AreDevicesOf L P opens x left.kept disk device
+  devices_of opens x disk device left = record { durable = left.durable; log = record { left = left.left; calls = left.calls }; images = left.images }
 
-module _ {D : Type 0} (L : Ghosts D) (v : View L.tells) where
-  pub safe_seen : {opens : List Record → Type 0} {x : LifeState} {s : Stage} → Within (seen L v) opens x s → (disk : D) → IsDiskOf L opens x disk → Safe L.tells (seen L v) disk s
-  safe_seen {opens = opens} {x = x} {s = s} h disk d = safe_in (seen L v) L.tells opens x s h disk (disk_seen L v opens x disk d)
+  -- a log is known only where the data device tells its images
+  pub told_in : {opens : List Record → Type 0} {x : LifeState} {s : Stage} → ((opening : List Record) → opens opening → P.tells) → Within (seen L v) opens x s → IsWhole v → P.tells
+  told_in told h t = told h.here.opening (h.begins t)
+
+  -- whatever devices the life hands out
+  pub rests_in : {opens : List Record → Type 0} {x : LifeState} {s : Stage} → ((opening : List Record) → opens opening → P.tells) → Within (seen L v) opens x s → (kept : ℕ) (disk : D) (device : E) → AreDevicesOf L P opens x kept disk device
+      → Rests L.tells (seen L v) P kept disk device s
+  rests_in {opens} {x} {s} told h kept disk device d = record {
+    safe = safe_in (seen L v) L.tells opens x s h kept disk (disk_seen L v opens x kept disk d.log);
+    images = λ t. let p = told_in told h t in life_images P (IsWhole v) opens x.history kept device s h.here h.life (has_life (IsWhole v) opens x.history h.here s h.life h.begins h.history) t p (d.images p);
+  }
+
+  -- behind a command that ends the run, at a stage whose life has the history that the life has then
+  module _ {opens : List Record → Type 0} {x y : LifeState} {s : Stage} (told : (opening : List Record) → opens opening → P.tells) (h : Within (seen L v) opens x s) (kept : ℕ) (disk : D) (device : E) (d : AreDevicesOf L P opens y kept disk device) where
+    pub still_inside : LeftAs (seen L v) kept disk opens y.history s → IsWhole v → AreImagesOf (P.told device) (last_after s.life s.last kept)
+    still_inside left t = let p = told_in told h t in life_images P (IsWhole v) opens y.history kept device s h.here h.life left.life t p (d.images p)
+
+    pub cut_inside : (c : Command) (es : List Entry) → FitsAt (IsWhole v) s (turn c es Cut) → LeftAs (seen L v) kept disk opens y.history (stage_step s (turn c es Cut)) → IsWhole v
+        → AreImagesOf (P.told device) (last_after (stage_step s (turn c es Cut)).life (stage_step s (turn c es Cut)).last kept)
+    cut_inside c es fits left t =
+        let p = told_in told h t in
+        let m = cut_open s h.here c es h.life in
+        life_images P (IsWhole v) opens y.history kept device (stage_step s (turn c es Cut)) m.0 m.1 left.life t p (d.images p)
+
+    pub turned_inside : (l : Life) (u : Turn) (m : Life) → s.life ≡ Some l → (stage_step s u).life ≡ Some m → LeftAs (seen L v) kept disk opens y.history (stage_step s u) → IsWhole v
+        → AreImagesOf (P.told device) (last_after (stage_step s u).life (stage_step s u).last kept)
+    turned_inside l u m is there left t = let p = told_in told h t in life_images P (IsWhole v) opens y.history kept device (stage_step s u) m there left.life t p (d.images p)
+
+  -- behind a close
+  pub closed_in : {opens : List Record → Type 0} {x y : LifeState} {s : Stage} → ((opening : List Record) → opens opening → P.tells) → Within (seen L v) opens x s → (kept : ℕ) (disk : D) (device : E) → AreDevicesOf L P opens y kept disk device → (out : List ℕ)
+      → Adds (IsWhole v) (λ t. Out L.tells (seen L v) disk t × (IsWhole v → P.tells → AreImagesOf (P.told device) t.last)) s commands.Close out → Adds (IsWhole v) (AtRest L.tells (seen L v) P disk device) s commands.Close out
+  closed_in told h kept disk device d out a =
+      let now = stage_step _ a.turn in
+      record {
+        turn = a.turn;
+        is = a.is;
+        fits = a.fits;
+        holds = record {
+          here = a.holds.0;
+          told = told_in told h;
+          images = λ t. subst (λ (o : Option Life). AreImagesAt (P.told device) o now.last) (sym a.holds.0.life) (a.holds.1 t (told_in told h t));
+        };
+        lines = a.lines;
+      }
 
   begins_seen : (b : Beginning D) (opening : List Record) → BeginsOn L.tells (seen L v) b opening → BeginsOn L.tells L b opening
   begins_seen b opening o = record { may = o.may; stands = o.stands }
 
-  -- a life in which nothing has happened, on the disk that its log has
-  abbrev pub first_life : D → LifeState
-  first_life disk = record { history = []; active = []; ended = None; calls = calls_of L.passes L.refused L.own disk }
-
-  pub within_begun : (opens : List Record → Type 0) (b : Beginning D) (m : Managed D) (x : LifeState) (s : Stage) → ((opening : List Record) → BeginsOn L.tells L b opening → opens opening) → m ≡ b.log → x ≡ first_life m.log.device → Begun L.tells (seen L v) b s → Within (seen L v) opens x s
-  within_begun opens b m x s may log is h = subst (λ (y : LifeState). Within (seen L v) opens y s) (sym (is ∙ ap (λ (n : Managed D). first_life n.log.device) log)) (record {
-    past = h.past;
-    here = record { opening = h.opening; history = [] };
-    life = h.life;
-    active = h.active;
-    ended = h.ended;
-    goes = h.goes;
-    fused = record { fuse = h.fused.fuse; renewed = h.fused.renewed };
-    history = refl;
-    begins = λ t. may h.opening (begins_seen b h.opening (h.begins t));
-    right = λ t. begun_right (seen L v) h.opening (h.begins t).may.sound;
-  })
+  -- a life in which nothing has happened, on the devices that it took over
+  pub within_begun : (opens : List Record → Type 0) (b : Beginning D) (device : E) (m : Managed D) (x : LifeState) (s : Stage) → ((opening : List Record) → OpensOn L.tells L P b device opening → opens opening) → m ≡ b.log
+      → HasJustBegun opens (calls_of L.passes L.refused L.own m.log.device) x → Imaged (IsWhole v) P device (Begun L.tells (seen L v) b) s → Within (seen L v) opens x s
+  within_begun opens b device m x s may log is i =
+      let h = i.here in
+      let calls : x.calls ≡ calls_of L.passes L.refused L.own b.log.log.device = is.calls ∙ ap (λ (n : Managed D). calls_of L.passes L.refused L.own n.log.device) log in
+      record {
+        past = h.past;
+        here = record { opening = h.opening; history = [] };
+        life = h.life;
+        active = h.active ∙ sym is.active;
+        ended = h.ended ∙ sym is.ended;
+        goes = h.goes;
+        fused = record { fuse = h.fused.fuse; renewed = λ e. ap (λ (y : Calls). y.passes) calls ∙ h.fused.renewed e };
+        history = sym is.history;
+        begins = λ t. may h.opening (record { begins = begins_seen b h.opening (h.begins t); told = i.told t; images = subst (λ (o : Option Life). AreImagesAt (P.told device) o s.last) h.life (i.images t) });
+        right = λ t. begun_right (seen L v) h.opening (h.begins t).may.sound;
+      }

@@ -1,6 +1,7 @@
 pub mod Causes
 pub mod Fused
 pub mod Gates
+pub mod Images
 pub mod Insides
 pub mod Known
 pub mod Lists
@@ -9,6 +10,7 @@ pub mod Openings
 pub mod Places
 pub mod Rights
 pub mod Runs
+pub mod Stages
 pub mod Turning
 pub mod Vaults
 pub mod Whole

@@ -6,6 +6,7 @@ use Rattle.std.proofs.lemmas.List.Elements.{All-nil}
 use Rattle.std.specs.Io.KnownBytes.{Appends, Consumes, IsAtEnd, prepend_known}
 use Rattle.std.proofs.KnownBytes.{Consumes-nil, Consumes-trans, Appends-nil, Appends-trans}
 use Rattle.media.specs.declared.disk.Disk.{Ghosts}
+use Rattle.media.specs.declared.pages.PageDevice as pages
 use Rattle.media.specs.declared.vault.Vault as vaults
 use Rattle.store_model.specs.Along.{along, AllAlong}
 use Rattle.script.specs.declared.command.Command.{Command}
@@ -18,18 +19,21 @@ use Rattle.life_commands.specs.declared.status.Status.TheVariants as statuses
 use Rattle.line_reader.specs.Lines.{Reader, to_come, first_reader, longest_script, IsBounded, IsLine, IsNoLine}
 use Rattle.line_reader.specs.Built.{is_built}
 use Rattle.runner.specs.Causes.{LineCause}
+use Rattle.life_commands.specs.Images.{AreImagesOf}
 use Rattle.life_commands.specs.Rows.{Fits, FitsAt, IsOfLife, is_lawful}
-use Rattle.life_commands.specs.Turns.{Start, Turn, Stage, End, Done, TooMany, LogFault, VaultFault, Ended as EndedBefore, Cut, stage, stage_step, stage_after, begin_stage, bytes_after, longer, Life, IsRightLife, lives, turn}
-use Rattle.life_commands.specs.Living.{Safe, Adds}
+use Rattle.life_commands.specs.Turns.{Start, Turn, Stage, Cut, stage, stage_step, begin_stage, bytes_after, last_after, Life, IsRightLife, lives, turn}
+use Rattle.life_commands.specs.Living.{Adds}
 use Rattle.life_commands.specs.Text.{lines, text}
-use Rattle.life_commands.specs.Refusals.{RefusesAt, CutAt, LacksLines, IsOpen, IsFormat, IsNotBuilt}
-use Rattle.runner.specs.Machine.{IsAt, Out}
+use Rattle.life_commands.specs.Refusals.{RefusesAt, CutAt, LacksLines, LeftAs, IsOpen, IsFormat, IsNotBuilt}
+use Rattle.runner.specs.Devices.{Imaged, Rests}
+use Rattle.runner.specs.Machine.{IsAt}
 use Rattle.runner.specs.declared.at.At.{At}
 use Rattle.life_commands.specs.Bytes.{Bytes, Known}
 use Rattle.life_commands.specs.LogDisk.{Leaves}
 use Rattle.runner.specs.Vault.{Beside, IsVault}
 use Rattle.runner.specs.Cuts.{MayCut}
-use Rattle.runner.specs.Clause.{IsNext, IsPrefix, Partly, BadLine, Unlawful, OfCommand, NextLine, Ended, HandsBack, Headline, Between, Stopping, TakesCommand}
+use Rattle.runner.specs.Clause.{IsNext, IsPrefix, Partly, BadLine, Unlawful, OfCommand, NextLine, Ended, HandsBack, Headline, Between, Asked, AtRest, Closing, Stopping, TakesCommand, Whatever}
+use Rattle.runner.proofs.Stages.{cut_bytes, cut_vault, life_still}
 use Rattle.runner.proofs.Turning.{stage_push, text_push, fits_push, script_push}
 use Rattle.runner.proofs.Vaults.{vault_first}
 
@@ -41,72 +45,6 @@ all_of start turns = (turns, [], omega arith, sym (append-nil turns), prefix_sel
 
 of_command : (P : Command → Type 0) (taken : ℕ) (bytes rest : List ℕ) (c : Command) → IsNext taken rest bytes → reads bytes ≡ Some c → P c → NextLine P taken rest
 of_command P taken bytes rest c next e p = (bytes, next, subst (OfCommand P) (sym e) p)
-
--- what a cut turn enters opens no life
-longer_bytes : (life : Option Life) (es : List Entry) (bytes : Bytes) → bytes_after (longer life es) bytes ≡ bytes_after life bytes
-longer_bytes None es bytes = refl
-longer_bytes (Some l) es bytes = refl
-
-cut_bytes : (s : Stage) (c : Command) (es : List Entry) → bytes_after (stage_step s (turn c es Cut)).life (stage_step s (turn c es Cut)).bytes ≡ bytes_after s.life s.bytes
-cut_bytes s (commands.Format limit) es = refl
-cut_bytes s (commands.Begin name) es = longer_bytes s.life es s.bytes
-cut_bytes s (commands.Ask name request) es = longer_bytes s.life es s.bytes
-cut_bytes s (commands.Commit name) es = longer_bytes s.life es s.bytes
-cut_bytes s (commands.Abort name) es = longer_bytes s.life es s.bytes
-cut_bytes s commands.Checkpoint es = longer_bytes s.life es s.bytes
-cut_bytes s _ es = refl
-
-cut_vault : (s : Stage) (c : Command) (es : List Entry) → (stage_step s (turn c es Cut)).cycled ≡ s.cycled
-cut_vault s (commands.Format limit) es = refl
-cut_vault s (commands.Begin name) es = refl
-cut_vault s (commands.Ask name request) es = refl
-cut_vault s (commands.Commit name) es = refl
-cut_vault s (commands.Abort name) es = refl
-cut_vault s commands.Checkpoint es = refl
-cut_vault s _ es = refl
-
--- a turn of a life opens none, and doesn't stop the machine
-life_still : (s : Stage) (l : Life) (t : Turn) → s.life ≡ Some l → IsOfLife t.command → ((stage_step s t).cycled ≡ s.cycled) × (bytes_after (stage_step s t).life (stage_step s t).bytes ≡ bytes_after s.life s.bytes)
-life_still s l t living kind = by t.command t.entries t.found t.end kind
-  where
-    by : (c : Command) (es : List Entry) (found : List Record) (end : End) → IsOfLife c → ((stage_after s c es found end).cycled ≡ s.cycled) × (bytes_after (stage_after s c es found end).life (stage_after s c es found end).bytes ≡ bytes_after s.life s.bytes)
-    by (commands.Begin name) es found Done k = (refl, longer_bytes s.life es s.bytes)
-    by (commands.Begin name) es found TooMany k = (refl, refl)
-    by (commands.Begin name) es found (LogFault n) k = (refl, longer_bytes s.life es s.bytes)
-    by (commands.Begin name) es found VaultFault k = (refl, longer_bytes s.life es s.bytes)
-    by (commands.Begin name) es found (EndedBefore n) k = (refl, refl)
-    by (commands.Begin name) es found Cut k = (refl, longer_bytes s.life es s.bytes)
-    by (commands.Ask name request) es found Done k = (refl, longer_bytes s.life es s.bytes)
-    by (commands.Ask name request) es found TooMany k = (refl, refl)
-    by (commands.Ask name request) es found (LogFault n) k = (refl, longer_bytes s.life es s.bytes)
-    by (commands.Ask name request) es found VaultFault k = (refl, longer_bytes s.life es s.bytes)
-    by (commands.Ask name request) es found (EndedBefore n) k = (refl, refl)
-    by (commands.Ask name request) es found Cut k = (refl, longer_bytes s.life es s.bytes)
-    by (commands.Commit name) es found Done k = (refl, longer_bytes s.life es s.bytes)
-    by (commands.Commit name) es found TooMany k = (refl, refl)
-    by (commands.Commit name) es found (LogFault n) k = (refl, longer_bytes s.life es s.bytes)
-    by (commands.Commit name) es found VaultFault k = (refl, longer_bytes s.life es s.bytes)
-    by (commands.Commit name) es found (EndedBefore n) k = (refl, refl)
-    by (commands.Commit name) es found Cut k = (refl, longer_bytes s.life es s.bytes)
-    by (commands.Abort name) es found Done k = (refl, longer_bytes s.life es s.bytes)
-    by (commands.Abort name) es found TooMany k = (refl, refl)
-    by (commands.Abort name) es found (LogFault n) k = (refl, longer_bytes s.life es s.bytes)
-    by (commands.Abort name) es found VaultFault k = (refl, longer_bytes s.life es s.bytes)
-    by (commands.Abort name) es found (EndedBefore n) k = (refl, refl)
-    by (commands.Abort name) es found Cut k = (refl, longer_bytes s.life es s.bytes)
-    by commands.Checkpoint es found Done k = (refl, longer_bytes s.life es s.bytes)
-    by commands.Checkpoint es found TooMany k = (refl, refl)
-    by commands.Checkpoint es found (LogFault n) k = (refl, longer_bytes s.life es s.bytes)
-    by commands.Checkpoint es found VaultFault k = (refl, longer_bytes s.life es s.bytes)
-    by commands.Checkpoint es found (EndedBefore n) k = (refl, refl)
-    by commands.Checkpoint es found Cut k = (refl, longer_bytes s.life es s.bytes)
-    by commands.Stat es found Done k = (refl, refl)
-    by commands.Stat es found TooMany k = (refl, refl)
-    by commands.Stat es found (LogFault n) k = (refl, refl)
-    by commands.Stat es found VaultFault k = (refl, longer_bytes s.life es s.bytes)
-    by commands.Stat es found (EndedBefore n) k = (refl, refl)
-    by commands.Stat es found Cut k = (refl, refl)
-    by _ es found end k = absurd k
 
 -- ---- lines
 
@@ -131,10 +69,10 @@ took old new lo ln o next is t =
     let u = subst (λ (x : Option (Command × ℕ)). TakesCommand old new lo ln (Ok x)) is t in
     record { line = record { line = u.0; took = u.1; one = u.2; said = u.4; size = u.7; within = u.8; count = u.6 }; built = u.3; number = u.5 }
 
--- the line that asks for a stop
-pub took_stop : {D E : Type 0} {tells : Type 0} {L : Ghosts D} {V : vaults.Ghosts E} {start : Start} {disk : D} {first vault : E} {left0 told0 left told : Option (List ℕ)} {reader : Reader} {turns : List Turn} {keep : Option ℕ} {out : List ℕ}
-    (st : Stopping tells L V start disk first vault left0 told0 reader turns left told keep out) → Took st.old reader st.left_old left (commands.Stop keep)
-took_stop st = record { line = st.line; took = st.took; one = st.one; said = st.said; size = st.size; within = st.within; count = st.count }
+-- a line that was asked for
+pub asked_line : {E : Type 0} {tells : Type 0} {V : vaults.Ghosts E} {start : Start} {H : Stage → Type 0} {first vault : E} {left0 told0 left told : Option (List ℕ)} {reader : Reader} {turns : List Turn} {c : Command}
+    (a : Asked tells V start H first vault left0 told0 reader turns left told c) → Took a.old reader a.left_old left c
+asked_line a = record { line = a.line; took = a.took; one = a.one; said = a.said; size = a.size; within = a.within; count = a.count }
 
 -- the same turns, of whose stage this holds
 pub between_as : {E : Type 0} {tells : Type 0} {V : vaults.Ghosts E} {start : Start} {first vault : E} {H : Stage → Type 0} {left0 told0 left told : Option (List ℕ)} {reader : Reader} {turns : List Turn}
@@ -153,16 +91,17 @@ between_as H' h b = record {
 }
 
 -- the same turns, of whose stage the run's place says what it says of where the run is
-pub between_at : {D E F : Type 0} {tells : Type 0} {V : vaults.Ghosts E} {start : Start} {first vault : E} {left0 told0 left told : Option (List ℕ)} {reader : Reader} {turns : List Turn} (T : Type 0) (L : Ghosts D) (inside : F → Stage → Type 0) (at now : At D F) → at ≡ now
-    → Between tells start (Beside V first vault (IsAt T L inside at)) left0 told0 reader turns left told → Between tells start (Beside V first vault (IsAt T L inside now)) left0 told0 reader turns left told
-between_at {start = start} {turns = turns} T L inside at now is b = between_as (IsAt T L inside now) (subst (λ (x : At _ _). IsAt T L inside x (stage start turns)) is b.holds.here) b
+pub between_at : {D E F G : Type 0} {tells : Type 0} {V : vaults.Ghosts E} {P : pages.Ghosts G} {device : G} {start : Start} {first vault : E} {left0 told0 left told : Option (List ℕ)} {reader : Reader} {turns : List Turn} (T : Type 0) (L : Ghosts D) (inside : F → Stage → Type 0) (at now : At D F) → at ≡ now
+    → Between tells start (Beside V first vault (Imaged tells P device (IsAt T L inside at))) left0 told0 reader turns left told → Between tells start (Beside V first vault (Imaged tells P device (IsAt T L inside now))) left0 told0 reader turns left told
+between_at {tells = tells} {P = P} {device = device} {start = start} {turns = turns} T L inside at now is b =
+    between_as (Imaged tells P device (IsAt T L inside now)) (subst (λ (x : At _ _). Imaged tells P device (IsAt T L inside x) (stage start turns)) is b.holds.here) b
 
 -- ---- behind these turns so much more was read
 
-module _ {D E : Type 0} {start : Start} {V : vaults.Ghosts E} {first vault : E} {H : Stage → Type 0} {left0 told0 lo told : Option (List ℕ)} {old : Reader} {turns : List Turn} (T : Type 0) (L : Ghosts D) (new : Reader) (ln : Option (List ℕ))
+module _ {D E G : Type 0} {start : Start} {V : vaults.Ghosts E} {first vault : E} {H : Stage → Type 0} {left0 told0 lo told : Option (List ℕ)} {old : Reader} {turns : List Turn} (T : Type 0) (L : Ghosts D) (P : pages.Ghosts G) (new : Reader) (ln : Option (List ℕ))
     (b : Between L.tells start (Beside V first vault H) left0 told0 old turns lo told) (most : IsBounded new) where
-  abbrev Ends : D → E → Option (List ℕ) → Status → Type 0
-  Ends now vault' told' status = Headline T L V start now first vault' left0 new.pending ln told0 told' status
+  abbrev Ends : D → G → E → Option (List ℕ) → Status → Type 0
+  Ends now device vault' told' status = Headline L.tells start (HandsBack T L P V now device first vault') left0 new.pending ln told0 told' status
 
   abbrev AreRight : Type 0
   AreRight = L.tells → All IsRightLife (lives (stage start turns))
@@ -175,9 +114,9 @@ module _ {D E : Type 0} {start : Start} {V : vaults.Ghosts E} {first vault : E} 
   at_line line is = is ∙ ap (λ (n : ℕ). n + 1) b.count
 
   -- the run ends between two turns
-  stop : AreRight → (stage start turns).cut ≡ false → (now : D) (rest : List ℕ) (status : Status) → MayCut status false → Consumes (to_come old lo) (to_come new ln) rest → new.taken ≡ old.taken + length rest → Ended L start status turns b.read rest (text start turns) (to_come new ln)
-      → HandsBack T L V now first vault (stage start turns) → Ends now vault told status
-  stop right goes now rest status whole took size ended hands = record {
+  stop : AreRight → (stage start turns).cut ≡ false → (now : D) (device : G) (rest : List ℕ) (status : Status) → MayCut status false → Consumes (to_come old lo) (to_come new ln) rest → new.taken ≡ old.taken + length rest → Ended L.tells start status turns b.read rest (text start turns) (to_come new ln)
+      → HandsBack T L P V now device first vault (stage start turns) → Ends now device vault told status
+  stop right goes now device rest status whole took size ended hands = record {
     turns = turns;
     read = b.read;
     rest = rest;
@@ -192,21 +131,23 @@ module _ {D E : Type 0} {start : Start} {V : vaults.Ghosts E} {first vault : E} 
     back = hands;
   }
 
-  -- ---- with the disk as it was
+  -- ---- with the devices as they were
 
-  module _ (disk : D) (safe : Safe T L disk (stage start turns)) where
-    stop_here : (rest : List ℕ) (status : Status) → MayCut status false → Consumes (to_come old lo) (to_come new ln) rest → new.taken ≡ old.taken + length rest → Ended L start status turns b.read rest (text start turns) (to_come new ln) → Ends disk vault told status
-    stop_here rest status whole took size ended = stop safe.right safe.goes disk rest status whole took size ended (record { leaves = safe.leaves; bytes = safe.bytes; stored = b.holds.vault })
+  module _ (kept : ℕ) (disk : D) (device : G) (rests : Rests T L P kept disk device (stage start turns)) where
+    stop_here : (rest : List ℕ) (status : Status) → MayCut status false → Consumes (to_come old lo) (to_come new ln) rest → new.taken ≡ old.taken + length rest → Ended L.tells start status turns b.read rest (text start turns) (to_come new ln) → Ends disk device vault told status
+    stop_here rest status whole took size ended =
+        let safe = rests.safe in
+        stop safe.right safe.goes disk device rest status whole took size ended (record { kept = kept; leaves = safe.leaves; images = rests.images; bytes = safe.bytes; stored = b.holds.vault })
 
-    pub no_memory : (rest : List ℕ) → Consumes (to_come old lo) (to_come new ln) rest → new.taken ≡ old.taken + length rest → Ends disk vault told statuses.Memory
+    pub no_memory : (rest : List ℕ) → Consumes (to_come old lo) (to_come new ln) rest → new.taken ≡ old.taken + length rest → Ends disk device vault told statuses.Memory
     no_memory rest took size = stop_here rest statuses.Memory tt took size (all_of start turns)
 
     -- the input is at its end
-    pub at_end : Consumes (to_come old lo) (to_come new ln) [] × IsAtEnd (to_come new ln) × (new.taken ≡ old.taken) → Ends disk vault told statuses.Done
+    pub at_end : Consumes (to_come old lo) (to_come new ln) [] × IsAtEnd (to_come new ln) × (new.taken ≡ old.taken) → Ends disk device vault told statuses.Done
     at_end h = stop_here [] statuses.Done refl h.0 (omega (arith, h.2)) (refl, refl, h.1)
 
     -- no command is read
-    pub no_line : (status : Status) (before now : ℕ) → TakesCommand old new lo ln (Err status) → LineCause before now status → Ends disk vault told status
+    pub no_line : (status : Status) (before now : ℕ) → TakesCommand old new lo ln (Err status) → LineCause before now status → Ends disk device vault told status
     no_line statuses.Memory before now (rest, took, size) why = no_memory rest took size
     no_line statuses.SourceFault before now (rest, took, size) why = stop_here rest statuses.SourceFault refl took size refl
     no_line (statuses.NotBuilt n) before now (is, bytes, took, one, size, within, unbuilt) why =
@@ -259,12 +200,13 @@ module _ {D E : Type 0} {start : Start} {V : vaults.Ghosts E} {first vault : E} 
         )
 
     -- the sink fails within a turn's lines
-    pub fell : (now : D) (vault' : E) (H' : Stage → Type 0) → ((s : Stage) → H' s → Safe T L now s) → (out done rest : List ℕ) → Adds L.tells (Beside V first vault' H') (stage start turns) c out → out ≡ done ++ rest → (told' : Option (List ℕ)) → Appends told told' done → Ends now vault' told' statuses.SinkFault
-    fell now vault' H' safe out done rest added cut told' wrote =
+    pub fell : (kept : ℕ) (now : D) (device : G) (vault' : E) (H' : Stage → Type 0) → ((s : Stage) → H' s → Rests T L P kept now device s) → (out done rest : List ℕ) → Adds L.tells (Beside V first vault' H') (stage start turns) c out → out ≡ done ++ rest → (told' : Option (List ℕ)) → Appends told told' done → Ends now device vault' told' statuses.SinkFault
+    fell kept now device vault' H' rests out done rest added cut told' wrote =
         let t : Turn = added.turn in
         let all : text start (turns ++ t ∷ []) ≡ (text start turns ++ done) ++ rest = text_push start turns t ∙ ap (λ (x : List ℕ). text start turns ++ x) (sym added.lines ∙ cut) ∙ sym (append_assoc (text start turns) done rest) in
         let at = subst (Beside V first vault' H') (sym (stage_push start turns t)) added.holds in
-        let then = safe (stage start (turns ++ t ∷ [])) at.here in
+        let behind = rests (stage start (turns ++ t ∷ [])) at.here in
+        let then = behind.safe in
         record {
           turns = turns ++ t ∷ [];
           read = b.read ++ whole;
@@ -281,37 +223,43 @@ module _ {D E : Type 0} {start : Start} {V : vaults.Ghosts E} {first vault : E} 
           cut = then.goes;
           wrote = Appends-trans _ _ _ (text start turns) done b.wrote wrote;
           ended = (turns, t ∷ [], omega arith, refl, (done, refl), (rest, all));
-          back = record { leaves = then.leaves; bytes = then.bytes; stored = at.vault };
+          back = record { kept = kept; leaves = then.leaves; images = behind.images; bytes = then.bytes; stored = at.vault };
         }
 
-    -- the line asks for a stop
-    pub stops : (disk : D) → Safe T L disk (stage start turns) → (keep : Option ℕ) (out : List ℕ) → c ≡ commands.Stop keep → out ≡ codes "stop\n" → Stopping T L V start disk first vault left0 told0 new turns ln told keep out
-    stops disk safe keep out stop text = record {
-      text = text;
+    -- the line asks for this command
+    asked : (H' : Stage → Type 0) → H' (stage start turns) → (d : Command) → c ≡ d → Asked L.tells V start H' first vault left0 told0 new turns ln told d
+    asked H' holds d is = record {
       old = old;
       left_old = lo;
-      before = between_as (Safe T L disk) safe b;
+      before = between_as H' holds b;
       most = most;
       line = line.line;
       took = line.took;
       one = line.one;
-      said = line.said ∙ ap (λ (x : Command). Some x) stop;
+      said = line.said ∙ ap (λ (x : Command). Some x) is;
       size = line.size;
       within = line.within;
       count = line.count;
     }
 
+    pub stops : (kept : ℕ) (disk : D) (device : G) → Rests T L P kept disk device (stage start turns) → (keep : Option ℕ) (out : List ℕ) → c ≡ commands.Stop keep → out ≡ codes "stop\n" → Stopping T L P V start kept disk device first vault left0 told0 new turns ln told keep out
+    stops kept disk device rests keep out is text = (text, asked (Rests T L P kept disk device) rests (commands.Stop keep) is)
+
+    pub closes : (disk : D) (device : G) (out : List ℕ) → c ≡ commands.Close → Adds L.tells (AtRest T L P disk device) (stage start turns) commands.Close out → Closing T L P V start disk device first vault left0 told0 new turns ln told out
+    closes disk device out is added = (added, asked Whatever tt commands.Close is)
+
     -- want of memory for the lines of a stop
-    pub lacks_memory : (disk : D) → Safe T L disk (stage start turns) → Ends disk vault told statuses.Memory
-    lacks_memory disk safe = no_memory disk safe whole line.took (omega (arith, line.size, length-append line.line (10 ∷ [])))
+    pub lacks_memory : (kept : ℕ) (disk : D) (device : G) → Rests T L P kept disk device (stage start turns) → Ends disk device vault told statuses.Memory
+    lacks_memory kept disk device rests = no_memory kept disk device rests whole line.took (omega (arith, line.size, length-append line.line (10 ∷ [])))
 
     -- ---- a command that ends the run
 
     -- behind a turn of it, whose lines aren't written
-    turned_off : (now : D) (status : Status) (t : Turn) → t.command ≡ c → FitsAt L.tells (stage start turns) t → (L.tells → All IsRightLife (lives (stage_step (stage start turns) t))) → Leaves L now (stage_step (stage start turns) t)
+    turned_off : (kept : ℕ) (now : D) (device : G) (status : Status) (t : Turn) → t.command ≡ c → FitsAt L.tells (stage start turns) t → (L.tells → All IsRightLife (lives (stage_step (stage start turns) t))) → Leaves L kept now (stage_step (stage start turns) t)
+        → (L.tells → AreImagesOf (P.told device) (last_after (stage_step (stage start turns) t).life (stage_step (stage start turns) t).last kept))
         → (stage_step (stage start turns) t).cycled ≡ (stage start turns).cycled → bytes_after (stage_step (stage start turns) t).life (stage_step (stage start turns) t).bytes ≡ bytes_after (stage start turns).life (stage start turns).bytes
-        → MayCut status (stage_step (stage start turns) t).cut → Ended L start status (turns ++ t ∷ []) (b.read ++ whole) [] (text start turns) (to_come new ln) → IsKnown now → Ends now vault told status
-    turned_off now status t same fits right leaves vault_is bytes_are cut ended known = record {
+        → MayCut status (stage_step (stage start turns) t).cut → Ended L.tells start status (turns ++ t ∷ []) (b.read ++ whole) [] (text start turns) (to_come new ln) → IsKnown now → Ends now device vault told status
+    turned_off kept now device status t same fits right leaves images vault_is bytes_are cut ended known = record {
       turns = turns ++ t ∷ [];
       read = b.read ++ whole;
       rest = [];
@@ -327,8 +275,10 @@ module _ {D E : Type 0} {start : Start} {V : vaults.Ghosts E} {first vault : E} 
       cut = subst (λ (z : Stage). MayCut status z.cut) (sym (stage_push start turns t)) cut;
       wrote = b.wrote;
       ended = ended;
-      back = subst (HandsBack T L V now first vault) (sym (stage_push start turns t)) (record {
+      back = subst (HandsBack T L P V now device first vault) (sym (stage_push start turns t)) (record {
+        kept = kept;
         leaves = leaves;
+        images = images;
         bytes = subst (λ (z : Bytes). Known T L z now) (sym bytes_are) known;
         stored = subst (IsVault V first vault) (sym vault_is) b.holds.vault;
       });
@@ -338,45 +288,55 @@ module _ {D E : Type 0} {start : Start} {V : vaults.Ghosts E} {first vault : E} 
     cut_text : (es : List Entry) → text start turns ≡ text start (turns ++ turn c es Cut ∷ [])
     cut_text es = sym (text_push start turns (turn c es Cut) ∙ append-nil (text start turns))
 
-    -- a status cuts the command off
-    cut_off : (now : D) (status : Status) → MayCut status true → ((cut : CutAt L now (stage start turns) c) → Ended L start status (turns ++ turn c cut.entries Cut ∷ []) (b.read ++ whole) [] (text start turns) (to_come new ln)) → CutAt L now (stage start turns) c → IsKnown now → Ends now vault told status
-    cut_off now status may ended cut known =
-        let s = stage start turns in
-        turned_off now status (turn c cut.entries Cut) refl cut.fits cut.right cut.leaves (cut_vault s c cut.entries) (cut_bytes s c cut.entries) may (ended cut) known
+    -- with what the data device has, behind the turns so far and behind one more
+    module _ (kept : ℕ) (now : D) (device : G) (opens : List Record → Type 0) (h : List Entry)
+        (images : LeftAs L kept now opens h (stage start turns) → L.tells → AreImagesOf (P.told device) (last_after (stage start turns).life (stage start turns).last kept))
+        (cut_images : (es : List Entry) → FitsAt L.tells (stage start turns) (turn c es Cut) → LeftAs L kept now opens h (stage_step (stage start turns) (turn c es Cut))
+        → L.tells → AreImagesOf (P.told device) (last_after (stage_step (stage start turns) (turn c es Cut)).life (stage_step (stage start turns) (turn c es Cut)).last kept))
+        (turn_images : (l : Life) (t : Turn) (m : Life) → (stage start turns).life ≡ Some l → (stage_step (stage start turns) t).life ≡ Some m → LeftAs L kept now opens h (stage_step (stage start turns) t)
+        → L.tells → AreImagesOf (P.told device) (last_after (stage_step (stage start turns) t).life (stage_step (stage start turns) t).last kept)) where
+      -- a status cuts the command off
+      cut_off : (status : Status) → MayCut status true → ((cut : CutAt L kept now opens h (stage start turns) c) → Ended L.tells start status (turns ++ turn c cut.entries Cut ∷ []) (b.read ++ whole) [] (text start turns) (to_come new ln)) → CutAt L kept now opens h (stage start turns) c → IsKnown now → Ends now device vault told status
+      cut_off status may ended cut known =
+          let s = stage start turns in
+          turned_off kept now device status (turn c cut.entries Cut) refl cut.fits cut.right cut.left.leaves (cut_images cut.entries cut.fits cut.left) (cut_vault s c cut.entries) (cut_bytes s c cut.entries) may (ended cut) known
 
-    -- want of memory for the lines of a turn
-    lacks_lines : (now : D) → LacksLines L now (stage start turns) c → IsKnown now → Ends now vault told statuses.Memory
-    lacks_lines now lacks known =
-        let s = stage start turns in
-        let still = life_still s lacks.here lacks.turn lacks.life (subst IsOfLife (sym lacks.is) lacks.kind) in
-        turned_off now statuses.Memory lacks.turn lacks.is lacks.fits lacks.right lacks.leaves still.0 still.1 tt
-        (turns, lacks.turn ∷ [], omega arith, refl, prefix_self (text start turns), (lines s lacks.turn, text_push start turns lacks.turn)) known
+      -- want of memory for the lines of a turn
+      lacks_lines : LacksLines L kept now opens h (stage start turns) c → IsKnown now → Ends now device vault told statuses.Memory
+      lacks_lines lacks known =
+          let s = stage start turns in
+          let still = life_still s lacks.here lacks.turn lacks.life (subst IsOfLife (sym lacks.is) lacks.kind) in
+          turned_off kept now device statuses.Memory lacks.turn lacks.is lacks.fits lacks.right lacks.left.leaves (turn_images lacks.here lacks.turn lacks.there lacks.life lacks.stays lacks.left) still.0 still.1 tt
+          (turns, lacks.turn ∷ [], omega arith, refl, prefix_self (text start turns), (lines s lacks.turn, text_push start turns lacks.turn)) known
 
-    pub refused : AreRight → (stage start turns).cut ≡ false → (now : D) (n : ℕ) (status : Status) → n ≡ old.lines + 1 → is_built line.line ≡ true → RefusesAt L now (stage start turns) c n status → IsKnown now → Ends now vault told status
-    refused right goes now n status is built why known = by status why
-      where
-        next : IsNext (length b.read) whole line.line
-        next = record { is = refl; one = line.one; within = omega (arith, line.within, line.size, b.size, length-append line.line (10 ∷ [])) }
+      pub refused : AreRight → (stage start turns).cut ≡ false → (n : ℕ) (status : Status) → n ≡ old.lines + 1 → is_built line.line ≡ true → RefusesAt L kept now opens h (stage start turns) c n status → IsKnown now → Ends now device vault told status
+      refused right goes n status is built why known = by status why
+        where
+          next : IsNext (length b.read) whole line.line
+          next = record { is = refl; one = line.one; within = omega (arith, line.within, line.size, b.size, length-append line.line (10 ∷ [])) }
 
-        stop_with : (status : Status) → MayCut status false → Ended L start status turns b.read whole (text start turns) (to_come new ln) → Leaves L now (stage start turns) → Ends now vault told status
-        stop_with status cut ended leaves = stop right goes now whole status cut line.took (omega (arith, line.size, length-append line.line (10 ∷ []))) ended (record { leaves = leaves; bytes = known; stored = b.holds.vault })
+          stop_as : (status : Status) → MayCut status false → Ended L.tells start status turns b.read whole (text start turns) (to_come new ln) → Leaves L kept now (stage start turns) → (L.tells → AreImagesOf (P.told device) (last_after (stage start turns).life (stage start turns).last kept)) → Ends now device vault told status
+          stop_as status cut ended leaves these = stop right goes now device whole status cut line.took (omega (arith, line.size, length-append line.line (10 ∷ []))) ended (record { kept = kept; leaves = leaves; images = these; bytes = known; stored = b.holds.vault })
 
-        by : (status : Status) → RefusesAt L now (stage start turns) c n status → Ends now vault told status
-        by statuses.Memory why = ⊎_elim (λ (left : Leaves L now (stage start turns)). stop_with statuses.Memory tt (all_of start turns) left) (λ lacks. lacks_lines now lacks known) why
-        by (statuses.Script m) why = stop_with (statuses.Script m) refl (refl, why.0 ∙ at_line n is, inl (line.line, next, built, subst (Unlawful (stage start turns)) (sym line.said) why.1)) why.2
-        by (statuses.NotBuilt m) why =
-            stop_with (statuses.NotBuilt m) refl (refl, why.0 ∙ at_line n is, inr (of_command (λ d. (is_lawful (stage start turns) d ≡ true) × IsNotBuilt d) (length b.read) line.line whole c next line.said (why.1, why.2))) why.3
-        by statuses.LogFault why = cut_off now statuses.LogFault refl (λ cut. cut_text cut.entries) why known
-        by (statuses.BlockBad block byte) why = cut_off now (statuses.BlockBad block byte) refl (λ cut. (cut_text cut.entries, why.1)) why.0 known
-        by (statuses.LogBad block byte) why = stop_with (statuses.LogBad block byte) refl (refl, of_command IsOpen (length b.read) line.line whole c next line.said why.0, why.1) (λ t. absurd (why.1 t))
-        by statuses.NotFormatted why = stop_with statuses.NotFormatted refl (refl, of_command IsOpen (length b.read) line.line whole c next line.said why.0, why.1) why.2
-        by statuses.AlreadyFormatted why = stop_with statuses.AlreadyFormatted refl (refl, of_command IsFormat (length b.read) line.line whole c next line.said why.0, why.1) why.2
-        by _ why = absurd why
+          stop_with : (status : Status) → MayCut status false → Ended L.tells start status turns b.read whole (text start turns) (to_come new ln) → LeftAs L kept now opens h (stage start turns) → Ends now device vault told status
+          stop_with status cut ended left = stop_as status cut ended left.leaves (images left)
+
+          by : (status : Status) → RefusesAt L kept now opens h (stage start turns) c n status → Ends now device vault told status
+          by statuses.Memory why = ⊎_elim (λ (left : LeftAs L kept now opens h (stage start turns)). stop_with statuses.Memory tt (all_of start turns) left) (λ lacks. lacks_lines lacks known) why
+          by (statuses.Script m) why = stop_with (statuses.Script m) refl (refl, why.0 ∙ at_line n is, inl (line.line, next, built, subst (Unlawful (stage start turns)) (sym line.said) why.1)) why.2
+          by (statuses.NotBuilt m) why =
+              stop_with (statuses.NotBuilt m) refl (refl, why.0 ∙ at_line n is, inr (of_command (λ d. (is_lawful (stage start turns) d ≡ true) × IsNotBuilt d) (length b.read) line.line whole c next line.said (why.1, why.2))) why.3
+          by statuses.LogFault why = cut_off statuses.LogFault refl (λ cut. cut_text cut.entries) why known
+          by (statuses.BlockBad block byte) why = cut_off (statuses.BlockBad block byte) refl (λ cut. (cut_text cut.entries, why.1)) why.0 known
+          by (statuses.LogBad block byte) why = stop_as (statuses.LogBad block byte) refl (refl, of_command IsOpen (length b.read) line.line whole c next line.said why.0, why.1) (λ t. absurd (why.1 t)) (λ t. absurd (why.1 t))
+          by statuses.NotFormatted why = stop_with statuses.NotFormatted refl (refl, of_command IsOpen (length b.read) line.line whole c next line.said why.0, why.1) why.2
+          by statuses.AlreadyFormatted why = stop_with statuses.AlreadyFormatted refl (refl, of_command IsFormat (length b.read) line.line whole c next line.said why.0, why.1) why.2
+          by _ why = absurd why
 
 -- want of memory where nothing more was read
-pub ends_here : {D E : Type 0} {start : Start} {V : vaults.Ghosts E} {first vault : E} {H : Stage → Type 0} {left0 told0 left told : Option (List ℕ)} {reader : Reader} {turns : List Turn} (T : Type 0) (L : Ghosts D) (disk : D)
-    (b : Between L.tells start (Beside V first vault H) left0 told0 reader turns left told) → Safe T L disk (stage start turns) → Headline T L V start disk first vault left0 reader.pending left told0 told statuses.Memory
-ends_here {left = left} {reader = reader} T L disk b safe = no_memory T L reader left b b.most disk safe [] (Consumes-nil (to_come reader left)) (omega arith)
+pub ends_here : {D E G : Type 0} {start : Start} {V : vaults.Ghosts E} {first vault : E} {H : Stage → Type 0} {left0 told0 left told : Option (List ℕ)} {reader : Reader} {turns : List Turn} (T : Type 0) (L : Ghosts D) (P : pages.Ghosts G) (kept : ℕ) (disk : D) (device : G)
+    (b : Between L.tells start (Beside V first vault H) left0 told0 reader turns left told) → Rests T L P kept disk device (stage start turns) → Headline L.tells start (HandsBack T L P V disk device first vault) left0 reader.pending left told0 told statuses.Memory
+ends_here {left = left} {reader = reader} T L P kept disk device b rests = no_memory T L P reader left b b.most kept disk device rests [] (Consumes-nil (to_come reader left)) (omega arith)
 
 -- all is written
 pub all_written : (told told' : Option (List ℕ)) (out done rest : List ℕ) → out ≡ done ++ rest → rest ≡ [] → Appends told told' done → Appends told told' out
@@ -386,10 +346,10 @@ nothing_pending : (left : Option (List ℕ)) → to_come first_reader left ≡ l
 nothing_pending None = refl
 nothing_pending (Some bytes) = refl
 
-module _ {D E : Type 0} (T : Type 0) (L : Ghosts D) (V : vaults.Ghosts E) (start : Start) (disk : D) (vault : E) where
-  pub at_start : (left told : Option (List ℕ)) (reader : Reader) → reader.lines ≡ 0 → reader.taken ≡ 0 → IsBounded reader → Out T L disk (begin_stage start) → Between L.tells start (Beside V vault vault (Out T L disk)) (to_come reader left) told reader [] left told
+module _ {E : Type 0} (tells : Type 0) (V : vaults.Ghosts E) (start : Start) (vault : E) (H : Stage → Type 0) where
+  pub at_start : (left told : Option (List ℕ)) (reader : Reader) → reader.lines ≡ 0 → reader.taken ≡ 0 → IsBounded reader → H (begin_stage start) → Between tells start (Beside V vault vault H) (to_come reader left) told reader [] left told
   unfolding Fits AllAlong stage text along
-  at_start left told reader lines taken most out = record {
+  at_start left told reader lines taken most holds = record {
     read = [];
     script = refl;
     taken = Consumes-nil (to_come reader left);
@@ -398,17 +358,18 @@ module _ {D E : Type 0} (T : Type 0) (L : Ghosts D) (V : vaults.Ghosts E) (start
     within = omega arith;
     most = most;
     fits = tt;
-    holds = record { here = out; vault = vault_first V vault };
+    holds = record { here = holds; vault = vault_first V vault };
     wrote = Appends-nil told;
   }
 
+module _ (tells : Type 0) (start : Start) (B : Stage → Type 0) where
   -- nothing is run
   abbrev NotRun : Option (List ℕ) → Option (List ℕ) → Status → Type 0
-  NotRun left told status = (pending : List ℕ) × Headline T L V start disk vault vault left pending left told told status
+  NotRun left told status = (pending : List ℕ) × Headline tells start B left pending left told told status
 
-  not_begun : (left told : Option (List ℕ)) (status : Status) → MayCut status false → Ended L start status [] [] [] [] (prepend_known [] left) → Leaves L disk (begin_stage start) → Known T L start.bytes disk → NotRun left told status
+  not_begun : (left told : Option (List ℕ)) (status : Status) → MayCut status false → Ended tells start status [] [] [] [] (prepend_known [] left) → B (begin_stage start) → NotRun left told status
   unfolding Fits AllAlong stage text along
-  not_begun left told status whole ended leaves known = (
+  not_begun left told status whole ended back = (
     [],
     record {
       turns = [];
@@ -422,7 +383,7 @@ module _ {D E : Type 0} (T : Type 0) (L : Ghosts D) (V : vaults.Ghosts E) (start
       cut = whole;
       wrote = Appends-nil told;
       ended = ended;
-      back = record { leaves = leaves; bytes = known; stored = vault_first V vault };
+      back = back;
     },
   )
 
@@ -430,19 +391,19 @@ module _ {D E : Type 0} (T : Type 0) (L : Ghosts D) (V : vaults.Ghosts E) (start
   unfolding text along
   nothing_written = all_of start []
 
-  pub not_called : (left told : Option (List ℕ)) → Leaves L disk (begin_stage start) → Known T L start.bytes disk → NotRun left told statuses.Usage
-  not_called left told leaves known = not_begun left told statuses.Usage refl (refl, refl, refl, refl) leaves known
+  pub not_called : (left told : Option (List ℕ)) → B (begin_stage start) → NotRun left told statuses.Usage
+  not_called left told back = not_begun left told statuses.Usage refl (refl, refl, refl, refl) back
 
-  pub not_generated : (left told : Option (List ℕ)) → Leaves L disk (begin_stage start) → Known T L start.bytes disk → NotRun left told statuses.NoGenerator
-  not_generated left told leaves known = not_begun left told statuses.NoGenerator refl (refl, refl, refl, refl) leaves known
+  pub not_generated : (left told : Option (List ℕ)) → B (begin_stage start) → NotRun left told statuses.NoGenerator
+  not_generated left told back = not_begun left told statuses.NoGenerator refl (refl, refl, refl, refl) back
 
-  pub no_buffer : (left told : Option (List ℕ)) → Leaves L disk (begin_stage start) → Known T L start.bytes disk → NotRun left told statuses.Memory
-  no_buffer left told leaves known = not_begun left told statuses.Memory tt nothing_written leaves known
+  pub no_buffer : (left told : Option (List ℕ)) → B (begin_stage start) → NotRun left told statuses.Memory
+  no_buffer left told back = not_begun left told statuses.Memory tt nothing_written back
 
-  pub ran_whole : (vault' : E) (left left' told told' : Option (List ℕ)) (old new : Reader) (status : Status) → old ≡ first_reader → Headline T L V start disk vault vault' (to_come old left) new.pending left' told told' status
-      → (pending : List ℕ) × Headline T L V start disk vault vault' left pending left' told told' status
-  ran_whole vault' left left' told told' old new status is h = (
+  pub ran_whole : (left left' told told' : Option (List ℕ)) (old new : Reader) (status : Status) → old ≡ first_reader → Headline tells start B (to_come old left) new.pending left' told told' status
+      → (pending : List ℕ) × Headline tells start B left pending left' told told' status
+  ran_whole left left' told told' old new status is h = (
     new.pending,
-    subst (λ (x : Option (List ℕ)). Headline T L V start disk vault vault' x new.pending left' told told' status) (nothing_pending left)
-        (subst (λ (r : Reader). Headline T L V start disk vault vault' (to_come r left) new.pending left' told told' status) is h),
+    subst (λ (x : Option (List ℕ)). Headline tells start B x new.pending left' told told' status) (nothing_pending left)
+        (subst (λ (r : Reader). Headline tells start B (to_come r left) new.pending left' told told' status) is h),
   )

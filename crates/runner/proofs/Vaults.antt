@@ -22,56 +22,62 @@ may_trans (Unsynced bytes) y z a b = tt
 may_trans (Synced bytes) y z a b = subst (λ (w : Stored). MayLeave w z) a b
 
 -- a command that is no stop doesn't stop the machine
-uncycled : (s : Stage) (c : Command) (es : List Entry) (found : List Record) (end : End) → IsNoStop c → (stage_after s c es found end).cycled ≡ s.cycled
-uncycled s (commands.Stop keep) es found end h = absurd h
-uncycled s (commands.Format limit) es found Done h = refl
-uncycled s (commands.Format limit) es found TooMany h = refl
-uncycled s (commands.Format limit) es found (LogFault n) h = refl
-uncycled s (commands.Format limit) es found VaultFault h = refl
-uncycled s (commands.Format limit) es found (Ended n) h = refl
-uncycled s (commands.Format limit) es found Cut h = refl
-uncycled s commands.Open es found Done h = refl
-uncycled s commands.Open es found TooMany h = refl
-uncycled s commands.Open es found (LogFault n) h = refl
-uncycled s commands.Open es found VaultFault h = refl
-uncycled s commands.Open es found (Ended n) h = refl
-uncycled s commands.Open es found Cut h = refl
-uncycled s (commands.Begin name) es found Done h = refl
-uncycled s (commands.Begin name) es found TooMany h = refl
-uncycled s (commands.Begin name) es found (LogFault n) h = refl
-uncycled s (commands.Begin name) es found VaultFault h = refl
-uncycled s (commands.Begin name) es found (Ended n) h = refl
-uncycled s (commands.Begin name) es found Cut h = refl
-uncycled s (commands.Ask name request) es found Done h = refl
-uncycled s (commands.Ask name request) es found TooMany h = refl
-uncycled s (commands.Ask name request) es found (LogFault n) h = refl
-uncycled s (commands.Ask name request) es found VaultFault h = refl
-uncycled s (commands.Ask name request) es found (Ended n) h = refl
-uncycled s (commands.Ask name request) es found Cut h = refl
-uncycled s (commands.Commit name) es found Done h = refl
-uncycled s (commands.Commit name) es found TooMany h = refl
-uncycled s (commands.Commit name) es found (LogFault n) h = refl
-uncycled s (commands.Commit name) es found VaultFault h = refl
-uncycled s (commands.Commit name) es found (Ended n) h = refl
-uncycled s (commands.Commit name) es found Cut h = refl
-uncycled s (commands.Abort name) es found Done h = refl
-uncycled s (commands.Abort name) es found TooMany h = refl
-uncycled s (commands.Abort name) es found (LogFault n) h = refl
-uncycled s (commands.Abort name) es found VaultFault h = refl
-uncycled s (commands.Abort name) es found (Ended n) h = refl
-uncycled s (commands.Abort name) es found Cut h = refl
-uncycled s commands.Checkpoint es found Done h = refl
-uncycled s commands.Checkpoint es found TooMany h = refl
-uncycled s commands.Checkpoint es found (LogFault n) h = refl
-uncycled s commands.Checkpoint es found VaultFault h = refl
-uncycled s commands.Checkpoint es found (Ended n) h = refl
-uncycled s commands.Checkpoint es found Cut h = refl
-uncycled s _ es found Done h = refl
-uncycled s _ es found TooMany h = refl
-uncycled s _ es found (LogFault n) h = refl
-uncycled s _ es found VaultFault h = refl
-uncycled s _ es found (Ended n) h = refl
-uncycled s _ es found Cut h = refl
+uncycled : (s : Stage) (c : Command) (es : List Entry) (found : List Record) (kept : ℕ) (end : End) → IsNoStop c → (stage_after s c es found kept end).cycled ≡ s.cycled
+uncycled s (commands.Stop keep) es found kept end h = absurd h
+uncycled s (commands.Format limit) es found kept Done h = refl
+uncycled s (commands.Format limit) es found kept TooMany h = refl
+uncycled s (commands.Format limit) es found kept (LogFault n) h = refl
+uncycled s (commands.Format limit) es found kept VaultFault h = refl
+uncycled s (commands.Format limit) es found kept (Ended n) h = refl
+uncycled s (commands.Format limit) es found kept Cut h = refl
+uncycled s commands.Open es found kept Done h = refl
+uncycled s commands.Open es found kept TooMany h = refl
+uncycled s commands.Open es found kept (LogFault n) h = refl
+uncycled s commands.Open es found kept VaultFault h = refl
+uncycled s commands.Open es found kept (Ended n) h = refl
+uncycled s commands.Open es found kept Cut h = refl
+uncycled s (commands.Begin name) es found kept Done h = refl
+uncycled s (commands.Begin name) es found kept TooMany h = refl
+uncycled s (commands.Begin name) es found kept (LogFault n) h = refl
+uncycled s (commands.Begin name) es found kept VaultFault h = refl
+uncycled s (commands.Begin name) es found kept (Ended n) h = refl
+uncycled s (commands.Begin name) es found kept Cut h = refl
+uncycled s (commands.Ask name request) es found kept Done h = refl
+uncycled s (commands.Ask name request) es found kept TooMany h = refl
+uncycled s (commands.Ask name request) es found kept (LogFault n) h = refl
+uncycled s (commands.Ask name request) es found kept VaultFault h = refl
+uncycled s (commands.Ask name request) es found kept (Ended n) h = refl
+uncycled s (commands.Ask name request) es found kept Cut h = refl
+uncycled s (commands.Commit name) es found kept Done h = refl
+uncycled s (commands.Commit name) es found kept TooMany h = refl
+uncycled s (commands.Commit name) es found kept (LogFault n) h = refl
+uncycled s (commands.Commit name) es found kept VaultFault h = refl
+uncycled s (commands.Commit name) es found kept (Ended n) h = refl
+uncycled s (commands.Commit name) es found kept Cut h = refl
+uncycled s (commands.Abort name) es found kept Done h = refl
+uncycled s (commands.Abort name) es found kept TooMany h = refl
+uncycled s (commands.Abort name) es found kept (LogFault n) h = refl
+uncycled s (commands.Abort name) es found kept VaultFault h = refl
+uncycled s (commands.Abort name) es found kept (Ended n) h = refl
+uncycled s (commands.Abort name) es found kept Cut h = refl
+uncycled s commands.Checkpoint es found kept Done h = refl
+uncycled s commands.Checkpoint es found kept TooMany h = refl
+uncycled s commands.Checkpoint es found kept (LogFault n) h = refl
+uncycled s commands.Checkpoint es found kept VaultFault h = refl
+uncycled s commands.Checkpoint es found kept (Ended n) h = refl
+uncycled s commands.Checkpoint es found kept Cut h = refl
+uncycled s commands.Close es found kept Done h = refl
+uncycled s commands.Close es found kept TooMany h = refl
+uncycled s commands.Close es found kept (LogFault n) h = refl
+uncycled s commands.Close es found kept VaultFault h = refl
+uncycled s commands.Close es found kept (Ended n) h = refl
+uncycled s commands.Close es found kept Cut h = refl
+uncycled s _ es found kept Done h = refl
+uncycled s _ es found kept TooMany h = refl
+uncycled s _ es found kept (LogFault n) h = refl
+uncycled s _ es found kept VaultFault h = refl
+uncycled s _ es found kept (Ended n) h = refl
+uncycled s _ es found kept Cut h = refl
 
 abbrev IsStop : Command → Type 0
 IsStop c = (keep : Option ℕ) × (c ≡ commands.Stop keep)
@@ -81,13 +87,13 @@ kind (commands.Stop keep) = inl (keep, refl)
 kind _ = inr tt
 
 -- a stop that fits is done
-cycled : (tells : Type 0) (s : Stage) (keep : Option ℕ) (es : List Entry) (found : List Record) (figures : Figures) (end : End) → Row tells s (commands.Stop keep) es found figures end → (stage_after s (commands.Stop keep) es found end).cycled ≡ true
-cycled tells s keep es found figures Done row = refl
-cycled tells s keep es found figures TooMany row = absurd (let x = row.1 in cc)
-cycled tells s keep es found figures (LogFault n) row = absurd row.1
-cycled tells s keep es found figures VaultFault row = absurd row.1
-cycled tells s keep es found figures (Ended n) row = absurd row.1
-cycled tells s keep es found figures Cut row = ⊎_elim (λ x. absurd x) (λ x. absurd x) row.0
+cycled : (tells : Type 0) (s : Stage) (keep : Option ℕ) (es : List Entry) (found : List Record) (kept : ℕ) (figures : Figures) (end : End) → Row tells s (commands.Stop keep) es found figures end → (stage_after s (commands.Stop keep) es found kept end).cycled ≡ true
+cycled tells s keep es found kept figures Done row = refl
+cycled tells s keep es found kept figures TooMany row = absurd (let x = row.1 in cc)
+cycled tells s keep es found kept figures (LogFault n) row = absurd row.1
+cycled tells s keep es found kept figures VaultFault row = absurd row.1
+cycled tells s keep es found kept figures (Ended n) row = absurd row.1
+cycled tells s keep es found kept figures Cut row = ⊎_elim (λ x. absurd x) (λ x. absurd x) row.0
 
 module _ {E : Type 0} (V : vaults.Ghosts E) where
   cycled_self : (a : E) → IsCycled V a a
@@ -109,13 +115,13 @@ module _ {E : Type 0} (V : vaults.Ghosts E) where
   left_same (commands.Stop keep) old new h same = absurd h
   left_same _ old new h same = same
 
-  vault_after : (tells : Type 0) (first old new : E) (s : Stage) (c : Command) (es : List Entry) (found : List Record) (figures : Figures) (end : End) → Row tells s c es found figures end → Cycles V c old new → IsVault V first old s.cycled → IsVault V first new (stage_after s c es found end).cycled
-  vault_after tells first old new s c es found figures end row cycles h = by (kind c) row cycles
+  vault_after : (tells : Type 0) (first old new : E) (s : Stage) (c : Command) (es : List Entry) (found : List Record) (kept : ℕ) (figures : Figures) (end : End) → Row tells s c es found figures end → Cycles V c old new → IsVault V first old s.cycled → IsVault V first new (stage_after s c es found kept end).cycled
+  vault_after tells first old new s c es found kept figures end row cycles h = by (kind c) row cycles
     where
-      by : IsStop c ⊎ IsNoStop c → Row tells s c es found figures end → Cycles V c old new → IsVault V first new (stage_after s c es found end).cycled
-      by (inl (keep, is)) row cycles = subst (λ (x : Command). IsVault V first new (stage_after s x es found end).cycled) (sym is)
-          (cycled_vault first old new s.cycled _ (subst (λ (x : Command). Cycles V x old new) is cycles) (cycled tells s keep es found figures end (subst (λ (x : Command). Row tells s x es found figures end) is row)) h)
-      by (inr go) row cycles = same_vault first old new s.cycled _ (left_same c old new go cycles) (uncycled s c es found end go) h
+      by : IsStop c ⊎ IsNoStop c → Row tells s c es found figures end → Cycles V c old new → IsVault V first new (stage_after s c es found kept end).cycled
+      by (inl (keep, is)) row cycles = subst (λ (x : Command). IsVault V first new (stage_after s x es found kept end).cycled) (sym is)
+          (cycled_vault first old new s.cycled _ (subst (λ (x : Command). Cycles V x old new) is cycles) (cycled tells s keep es found kept figures end (subst (λ (x : Command). Row tells s x es found figures end) is row)) h)
+      by (inr go) row cycles = same_vault first old new s.cycled _ (left_same c old new go cycles) (uncycled s c es found kept end go) h
 
   -- a command that is done, with the vault beside it
   pub adds_beside : (tells : Type 0) (first old new : E) (H : Stage → Type 0) (s : Stage) (c : Command) (out : List ℕ) → Cycles V c old new → IsVault V first old s.cycled → Adds tells H s c out → Adds tells (Beside V first new H) s c out
@@ -123,7 +129,7 @@ module _ {E : Type 0} (V : vaults.Ghosts E) where
     turn = a.turn;
     is = a.is;
     fits = a.fits;
-    holds = record { here = a.holds; vault = vault_after tells first old new s a.turn.command a.turn.entries a.turn.found a.turn.figures a.turn.end a.fits.row (subst (λ (x : Command). Cycles V x old new) (sym a.is) cycles) h };
+    holds = record { here = a.holds; vault = vault_after tells first old new s a.turn.command a.turn.entries a.turn.found a.turn.kept a.turn.figures a.turn.end a.fits.row (subst (λ (x : Command). Cycles V x old new) (sym a.is) cycles) h };
     lines = a.lines;
   }
 

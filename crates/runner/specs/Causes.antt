@@ -81,9 +81,9 @@ PassedCause old new source0 source1 sink0 sink1 (passes.Ends status) = (old.own 
 PassedCause old new source0 source1 sink0 sink1 _ = old.own ≤ new.own
 
 -- of a life, before which the log disk had failed by itself so often
-abbrev pub LivedCause : {D : Type 0} → Ghosts D → ℕ → ℕ → ℕ → ℕ → ℕ → Lived D → Type 0
-LivedCause L before source0 source1 sink0 sink1 (ways.Stopped left) = before ≤ L.own left
-LivedCause L before source0 source1 sink0 sink1 (ways.Ends status left) = (before ≤ L.own left) × RunCause source0 source1 sink0 sink1 before (L.own left) status
+abbrev pub LivedCause : {D E : Type 0} → Ghosts D → ℕ → ℕ → ℕ → ℕ → ℕ → Lived D E → Type 0
+LivedCause L before source0 source1 sink0 sink1 (ways.Over left device) = before ≤ L.own left
+LivedCause L before source0 source1 sink0 sink1 (ways.Ends status left device) = (before ≤ L.own left) × RunCause source0 source1 sink0 sink1 before (L.own left) status
     × Shows L left status × (status ≢ statuses.Usage) × (status ≢ statuses.NoGenerator)
 
 -- a status that the script asks for, where no device fails; or want of memory

@@ -5,6 +5,7 @@ use Rattle.std.specs.Io.KnownBytes.{Appends, Consumes, IsAtEnd, prepend_known}
 use Rattle.std.specs.declared.result.Result.{Result}
 use Rattle.std.specs.declared.result.Result.TheVariants.{Ok, Err}
 use Rattle.media.specs.declared.disk.Disk.{Ghosts}
+use Rattle.media.specs.declared.pages.PageDevice as pages
 use Rattle.media.specs.declared.vault.Vault as vaults
 use Rattle.script.specs.declared.command.Command.{Command}
 use Rattle.script.specs.declared.command.Command.TheVariants as commands
@@ -13,7 +14,8 @@ use Rattle.line_reader.specs.Lines.{Reader, to_come, longest_script, IsBounded, 
 use Rattle.line_reader.specs.Built.{is_built}
 use Rattle.life_commands.specs.Bytes.{Known}
 use Rattle.life_commands.specs.Rows.{Fits, is_lawful}
-use Rattle.life_commands.specs.Turns.{Start, Turn, Stage, stage, bytes_after, IsRightLife, MayFind, lives}
+use Rattle.life_commands.specs.Images.{AreImagesOf}
+use Rattle.life_commands.specs.Turns.{Start, Turn, Stage, stage, bytes_after, last_after, IsRightLife, MayFind, lives}
 use Rattle.life_commands.specs.Refusals.{IsNotBuilt, IsOpen, IsFormat, FindsLog}
 use Rattle.runner.specs.Cuts.{MayCut}
 use Rattle.life_commands.specs.Text.{text}
@@ -26,8 +28,9 @@ use Rattle.runner.specs.declared.turns.Passed.TheVariants as passes
 use Rattle.runner.specs.declared.living.Lived.{Lived}
 use Rattle.runner.specs.declared.living.Lived.TheVariants as ways
 use Rattle.life_commands.specs.LogDisk.{Leaves}
-use Rattle.runner.specs.Machine.{Out, IsAt}
-use Rattle.life_commands.specs.Living.{Safe}
+use Rattle.life_commands.specs.Living.{Adds, Out}
+use Rattle.runner.specs.Devices.{Imaged, Rests}
+use Rattle.runner.specs.Machine.{IsAt}
 use Rattle.runner.specs.Vault.{IsVault, Beside}
 
 -- the bytes are the lines of these commands
@@ -79,32 +82,34 @@ abbrev pub NotBuiltLine : Stage → ℕ → List ℕ → Type 0
 NotBuiltLine s taken rest = ((line : List ℕ) × IsNext taken rest line × (is_built line ≡ false)) ⊎ NextLine (λ c. (is_lawful s c ≡ true) × IsNotBuilt c) taken rest
 
 -- by the status: what was written of the turns' text, and why the run ended; the log disk was handed in as this use left it
-abbrev pub Ended : {D : Type 0} → Ghosts D → Start → Status → List Turn → List ℕ → List ℕ → List ℕ → Option (List ℕ) → Type 0
-Ended L start statuses.Done turns read rest written left = (written ≡ text start turns) × (rest ≡ []) × IsAtEnd left
-Ended L start statuses.Memory turns read rest written left = Partly start turns written
-Ended L start statuses.Usage turns read rest written left = (turns ≡ []) × (read ≡ []) × (rest ≡ []) × (written ≡ [])
-Ended L start statuses.NoGenerator turns read rest written left = (turns ≡ []) × (read ≡ []) × (rest ≡ []) × (written ≡ [])
-Ended L start (statuses.Script line) turns read rest written left = (written ≡ text start turns) × (line ≡ length turns + 1) × BadLine (stage start turns) (length read) rest left
-Ended L start statuses.SourceFault turns read rest written left = written ≡ text start turns
-Ended L start statuses.SinkFault turns read rest written left = Partly start turns written
-Ended L start statuses.LogFault turns read rest written left = written ≡ text start turns
-Ended L start (statuses.BlockBad block byte) turns read rest written left = (written ≡ text start turns) × (L.tells → ⊥)
-Ended L start (statuses.LogBad block byte) turns read rest written left = (written ≡ text start turns) × NextLine IsOpen (length read) rest × (L.tells → ⊥)
-Ended L start statuses.NotFormatted turns read rest written left = (written ≡ text start turns) × NextLine IsOpen (length read) rest × (L.tells → MayFind (stage start turns).last [])
-Ended L start statuses.AlreadyFormatted turns read rest written left = (written ≡ text start turns) × NextLine IsFormat (length read) rest × (L.tells → FindsLog (stage start turns).last)
-Ended L start (statuses.NotBuilt line) turns read rest written left = (written ≡ text start turns) × (line ≡ length turns + 1) × NotBuiltLine (stage start turns) (length read) rest
+abbrev pub Ended : Type 0 → Start → Status → List Turn → List ℕ → List ℕ → List ℕ → Option (List ℕ) → Type 0
+Ended tells start statuses.Done turns read rest written left = (written ≡ text start turns) × (rest ≡ []) × IsAtEnd left
+Ended tells start statuses.Memory turns read rest written left = Partly start turns written
+Ended tells start statuses.Usage turns read rest written left = (turns ≡ []) × (read ≡ []) × (rest ≡ []) × (written ≡ [])
+Ended tells start statuses.NoGenerator turns read rest written left = (turns ≡ []) × (read ≡ []) × (rest ≡ []) × (written ≡ [])
+Ended tells start (statuses.Script line) turns read rest written left = (written ≡ text start turns) × (line ≡ length turns + 1) × BadLine (stage start turns) (length read) rest left
+Ended tells start statuses.SourceFault turns read rest written left = written ≡ text start turns
+Ended tells start statuses.SinkFault turns read rest written left = Partly start turns written
+Ended tells start statuses.LogFault turns read rest written left = written ≡ text start turns
+Ended tells start (statuses.BlockBad block byte) turns read rest written left = (written ≡ text start turns) × (tells → ⊥)
+Ended tells start (statuses.LogBad block byte) turns read rest written left = (written ≡ text start turns) × NextLine IsOpen (length read) rest × (tells → ⊥)
+Ended tells start statuses.NotFormatted turns read rest written left = (written ≡ text start turns) × NextLine IsOpen (length read) rest × (tells → MayFind (stage start turns).last [])
+Ended tells start statuses.AlreadyFormatted turns read rest written left = (written ≡ text start turns) × NextLine IsFormat (length read) rest × (tells → FindsLog (stage start turns).last)
+Ended tells start (statuses.NotBuilt line) turns read rest written left = (written ≡ text start turns) × (line ≡ length turns + 1) × NotBuiltLine (stage start turns) (length read) rest
 
 -- The devices that are handed back, and the vault that was handed in. The log disk keeps a log that may be found next: of an
--- open life a member of what a stop may leave.
-pub record HandsBack {D E : Type 0} (tells : Type 0) (L : Ghosts D) (V : vaults.Ghosts E) (disk : D) (first vault : E) (s : Stage) : Type 0 where
-  pub leaves : Leaves L disk s
+-- open life a member of what a stop may leave, with at least so many of its records. The images on the data device are of
+-- each such log.
+pub record HandsBack {D E F : Type 0} (tells : Type 0) (L : Ghosts D) (P : pages.Ghosts E) (V : vaults.Ghosts F) (disk : D) (device : E) (first vault : F) (s : Stage) : Type 0 where
+  pub kept : ℕ
+  pub leaves : Leaves L kept disk s
+  pub images : L.tells → AreImagesOf (P.told device) (last_after s.life s.last kept)
   pub bytes : Known tells L (bytes_after s.life s.bytes) disk
   pub stored : IsVault V first vault s.cycled
 
--- The log disk was handed in as the start says, as disks of its type tell, and is handed back so, and the vault; then what was
--- left and told at the start, and what is now. What was read and given to no line is still pending.
-pub record Headline {D E : Type 0} (tells : Type 0) (L : Ghosts D) (V : vaults.Ghosts E) (start : Start) (disk : D) (first vault : E)
-    (left0 : Option (List ℕ)) (pending : List ℕ) (left told0 told : Option (List ℕ)) (status : Status) : Type 0 where
+-- The devices were handed in as the start says, as devices of their types tell, and B says how they are handed back; then what
+-- was left and told at the start, and what is now. What was read and given to no line is still pending.
+pub record Headline (tells : Type 0) (start : Start) (B : Stage → Type 0) (left0 : Option (List ℕ)) (pending : List ℕ) (left told0 told : Option (List ℕ)) (status : Status) : Type 0 where
   pub turns : List Turn
   pub read : List ℕ
   pub rest : List ℕ
@@ -114,12 +119,12 @@ pub record Headline {D E : Type 0} (tells : Type 0) (L : Ghosts D) (V : vaults.G
   -- the lines are within the longest script; in all, at most that and one byte more was read
   pub within : length read ≤ longest_script
   pub most : length read + length rest + length pending ≤ longest_script + 1
-  pub ran : Ran L.tells start read turns
+  pub ran : Ran tells start read turns
   -- whether the status has cut the last command off
   pub cut : MayCut status (stage start turns).cut
   pub wrote : Appends told0 told written
-  pub ended : Ended L start status turns read rest written (prepend_known pending left)
-  pub back : HandsBack tells L V disk first vault (stage start turns)
+  pub ended : Ended tells start status turns read rest written (prepend_known pending left)
+  pub back : B (stage start turns)
 
 -- between two turns: what was read and written since the start, by the turns so far; H says what holds of their stage
 pub record Between (tells : Type 0) (start : Start) (H : Stage → Type 0) (left0 told0 : Option (List ℕ)) (reader : Reader) (turns : List Turn) (left told : Option (List ℕ)) : Type 0 where
@@ -146,34 +151,53 @@ TakesCommand old new left_old left_new (Err (statuses.NotBuilt n)) = (n ≡ old.
 TakesCommand old new left_old left_new (Err e) = (rest : List ℕ) × Consumes (to_come old left_old) (to_come new left_new) rest × (new.taken ≡ old.taken + length rest)
 
 -- one line, behind which a run goes on or has ended
-abbrev pub TurnedTo : {D E F : Type 0} → Type 0 → Ghosts D → vaults.Ghosts E → Start → (F → Stage → Type 0) → E → E → Option (List ℕ) → Option (List ℕ) → Reader → List Turn → Option (List ℕ) → Option (List ℕ) → Turned D F → Type 0
-TurnedTo tells L V start inside first vault left0 told0 reader turns left told (results.Goes at) = (t : Turn) × Between L.tells start (Beside V first vault (IsAt tells L inside at)) left0 told0 reader (turns ++ t ∷ []) left told
-TurnedTo tells L V start inside first vault left0 told0 reader turns left told (results.Ends status disk) = Headline tells L V start disk first vault left0 reader.pending left told0 told status
+abbrev pub TurnedTo : {D E F G : Type 0} → Type 0 → Ghosts D → pages.Ghosts E → vaults.Ghosts F → Start → (G → Stage → Type 0) → E → F → F → Option (List ℕ) → Option (List ℕ) → Reader → List Turn → Option (List ℕ) → Option (List ℕ) → Turned D G → Type 0
+TurnedTo tells L P V start inside device first vault left0 told0 reader turns left told (results.Goes at) = (t : Turn) × Between L.tells start (Beside V first vault (Imaged L.tells P device (IsAt tells L inside at))) left0 told0 reader (turns ++ t ∷ []) left told
+TurnedTo tells L P V start inside device first vault left0 told0 reader turns left told (results.Ends status disk) = Headline L.tells start (HandsBack tells L P V disk device first vault) left0 reader.pending left told0 told status
 
--- The next line asks for a stop, and has been read; the turns are those before it.
-pub record Stopping {D E : Type 0} (tells : Type 0) (L : Ghosts D) (V : vaults.Ghosts E) (start : Start) (disk : D) (first vault : E)
-    (left0 told0 : Option (List ℕ)) (reader : Reader) (turns : List Turn) (left told : Option (List ℕ)) (keep : Option ℕ) (out : List ℕ) : Type 0 where
-  pub text : out ≡ codes "stop\n"
+-- The next line has been read, and is this command; the turns are those before it, behind which H holds.
+pub record Asked {E : Type 0} (tells : Type 0) (V : vaults.Ghosts E) (start : Start) (H : Stage → Type 0) (first vault : E) (left0 told0 : Option (List ℕ)) (reader : Reader) (turns : List Turn) (left told : Option (List ℕ)) (c : Command) : Type 0 where
   pub old : Reader
   pub left_old : Option (List ℕ)
-  pub before : Between L.tells start (Beside V first vault (Safe tells L disk)) left0 told0 old turns left_old told
+  pub before : Between tells start (Beside V first vault H) left0 told0 old turns left_old told
   pub most : IsBounded reader
   pub line : List ℕ
   pub took : Consumes (to_come old left_old) (to_come reader left) (line ++ 10 ∷ [])
   pub one : IsLine line
-  pub said : reads line ≡ Some (commands.Stop keep)
+  pub said : reads line ≡ Some c
   pub size : reader.taken ≡ old.taken + length line + 1
   pub within : reader.taken ≤ longest_script
   pub count : reader.lines ≡ old.lines + 1
 
--- one line within a life, which H knows then, behind which the run goes on, the machine is to stop, or the run has ended, whatever
--- disk the life hands out
-abbrev pub PassedTo : {D E : Type 0} → Type 0 → Ghosts D → vaults.Ghosts E → Start → (Stage → Type 0) → (D → Type 0) → E → E → Option (List ℕ) → Option (List ℕ) → Reader → List Turn → Option (List ℕ) → Option (List ℕ) → Passed → Type 0
-PassedTo tells L V start H hands first vault left0 told0 reader turns left told passes.Goes = (t : Turn) × Between L.tells start (Beside V first vault H) left0 told0 reader (turns ++ t ∷ []) left told
-PassedTo tells L V start H hands first vault left0 told0 reader turns left told (passes.Stops keep lines) = (disk : _) → hands disk → Stopping tells L V start disk first vault left0 told0 reader turns left told keep lines.items
-PassedTo tells L V start H hands first vault left0 told0 reader turns left told (passes.Ends status) = (disk : _) → hands disk → Headline tells L V start disk first vault left0 reader.pending left told0 told status
+-- it asks for a stop, which has these lines
+abbrev pub Stopping : {D E F : Type 0} → Type 0 → Ghosts D → pages.Ghosts E → vaults.Ghosts F → Start → ℕ → D → E → F → F → Option (List ℕ) → Option (List ℕ) → Reader → List Turn → Option (List ℕ) → Option (List ℕ) → Option ℕ → List ℕ → Type 0
+Stopping tells L P V start kept disk device first vault left0 told0 reader turns left told keep out =
+    (out ≡ codes "stop\n") × Asked L.tells V start (Rests tells L P kept disk device) first vault left0 told0 reader turns left told (commands.Stop keep)
 
--- a life, which a stop has ended, or the run has ended in it
-abbrev pub LivedTo : {D E : Type 0} → Type 0 → Ghosts D → vaults.Ghosts E → Start → E → E → Option (List ℕ) → Option (List ℕ) → Reader → Option (List ℕ) → Option (List ℕ) → Lived D → Type 0
-LivedTo tells L V start first vault left0 told0 reader left told (ways.Stopped disk) = (turns : List Turn) × Between L.tells start (Beside V first vault (Out tells L disk)) left0 told0 reader turns left told
-LivedTo tells L V start first vault left0 told0 reader left told (ways.Ends status disk) = Headline tells L V start disk first vault left0 reader.pending left told0 told status
+-- where a life was, and these devices have been handed out
+abbrev pub AtRest : {D E : Type 0} → Type 0 → Ghosts D → pages.Ghosts E → D → E → Stage → Type 0
+AtRest tells L P disk device = Imaged L.tells P device (Out tells L disk)
+
+abbrev pub Whatever : Stage → Type 0
+Whatever s = Unit {0}
+
+-- It asks for a close, which has these lines: one turn more, behind which no life is open.
+abbrev pub Closing : {D E F : Type 0} → Type 0 → Ghosts D → pages.Ghosts E → vaults.Ghosts F → Start → D → E → F → F → Option (List ℕ) → Option (List ℕ) → Reader → List Turn → Option (List ℕ) → Option (List ℕ) → List ℕ → Type 0
+Closing tells L P V start disk device first vault left0 told0 reader turns left told out =
+    Adds L.tells (AtRest tells L P disk device) (stage start turns) commands.Close out × Asked L.tells V start Whatever first vault left0 told0 reader turns left told commands.Close
+
+-- One line within a life, which H knows then, behind which the run goes on, the machine is to stop, the life is over, or the run
+-- has ended, whatever devices the life hands out.
+abbrev pub PassedTo : {D E F : Type 0} → Type 0 → Ghosts D → pages.Ghosts E → vaults.Ghosts F → Start → (Stage → Type 0) → (ℕ → D → E → Type 0) → F → F → Option (List ℕ) → Option (List ℕ) → Reader → List Turn → Option (List ℕ) → Option (List ℕ) → Passed → Type 0
+PassedTo tells L P V start H hands first vault left0 told0 reader turns left told passes.Goes = (t : Turn) × Between L.tells start (Beside V first vault H) left0 told0 reader (turns ++ t ∷ []) left told
+PassedTo tells L P V start H hands first vault left0 told0 reader turns left told (passes.Stops keep lines) =
+    (kept : ℕ) (disk : _) (device : _) → hands kept disk device → Stopping tells L P V start kept disk device first vault left0 told0 reader turns left told keep lines.items
+PassedTo tells L P V start H hands first vault left0 told0 reader turns left told (passes.Closes lines) =
+    (kept : ℕ) (disk : _) (device : _) → hands kept disk device → Closing tells L P V start disk device first vault left0 told0 reader turns left told lines.items
+PassedTo tells L P V start H hands first vault left0 told0 reader turns left told (passes.Ends status) =
+    (kept : ℕ) (disk : _) (device : _) → hands kept disk device → Headline L.tells start (HandsBack tells L P V disk device first vault) left0 reader.pending left told0 told status
+
+-- a life, which is over, or the run has ended in it
+abbrev pub LivedTo : {D E F : Type 0} → Type 0 → Ghosts D → pages.Ghosts E → vaults.Ghosts F → Start → F → F → Option (List ℕ) → Option (List ℕ) → Reader → Option (List ℕ) → Option (List ℕ) → Lived D E → Type 0
+LivedTo tells L P V start first vault left0 told0 reader left told (ways.Over disk device) = (turns : List Turn) × Between L.tells start (Beside V first vault (AtRest tells L P disk device)) left0 told0 reader turns left told
+LivedTo tells L P V start first vault left0 told0 reader left told (ways.Ends status disk device) = Headline L.tells start (HandsBack tells L P V disk device first vault) left0 reader.pending left told0 told status

@@ -6,3 +6,4 @@ pub mod Vault
 pub mod Usage
 pub mod Clause
 pub mod NextCall
+pub mod Devices

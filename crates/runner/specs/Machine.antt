@@ -1,7 +1,8 @@
 -- What the state of a run says of the turns so far, and what a command adds.
-use Rattle.std.specs.Prelude.{◌≡◌, ◌<◌, ◌≤◌, ℕ, List, [], Option, Some, None, Bool, false}
+use Rattle.std.specs.Prelude.{◌≡◌, ◌<◌, ◌≤◌, ℕ, List, [], Some, None, false}
 use Rattle.std.specs.List.{All}
 use Rattle.media.specs.declared.disk.Disk.{Ghosts}
+use Rattle.media.specs.declared.pages.PageDevice as pages
 use Rattle.log_index.specs.declared.listing.Listing.{Listing}
 use Rattle.log_manager.specs.Devices.{DevicesStandFor}
 use Rattle.log_manager.specs.Managed.{Managed}
@@ -16,28 +17,10 @@ use Rattle.runner.specs.declared.at.Stepped.TheVariants as steps
 use Rattle.life_commands.specs.declared.status.Status.{Status}
 use Rattle.life_commands.specs.declared.status.Status.TheVariants as statuses
 use Rattle.life_commands.specs.Bytes.{Known}
-use Rattle.life_commands.specs.LogDisk.{Keeps}
+use Rattle.life_commands.specs.Images.{AreSealed}
 use Rattle.life_commands.specs.Refusals.{RefusesAt}
-use Rattle.life_commands.specs.Living.{Adds}
-use Rattle.life_commands.specs.Turns.{Life, Stage, bytes_after, IsRightLife}
-
--- ---- where no life is open
-
--- the log disk's fuse is armed only where the turns say so
-pub record IsFused {D : Type 0} (L : Ghosts D) (disk : D) (armed : Bool) : Type 0 where
-  pub fuse : L.fuses
-  pub renewed : armed ≡ false → L.passes disk ≡ None
-
--- where no life is open, with a disk of a type that tells so
-pub record Out {D : Type 0} (tells : Type 0) (L : Ghosts D) (disk : D) (s : Stage) : Type 0 where
-  pub past : L.tells → All IsRightLife s.past
-  pub life : ◌≡◌ {A = Option Life} s.life None
-  pub active : ◌≡◌ {A = List Active} s.active []
-  pub ended : s.ended ≡ None
-  pub goes : s.cut ≡ false
-  pub fused : IsFused L disk s.armed.log
-  pub keeps : L.tells → Keeps L s.last disk
-  pub bytes : Known tells L s.bytes disk
+use Rattle.life_commands.specs.Living.{Adds, IsFused, Out}
+use Rattle.life_commands.specs.Turns.{Stage, bytes_after, IsRightLife}
 
 -- ---- in a life
 
@@ -50,6 +33,12 @@ pub record Beginning (D : Type 0) : Type 0 where
 pub record BeginsOn {D : Type 0} (tells : Type 0) (L : Ghosts D) (b : Beginning D) (opening : List Record) : Type 0 where
   pub may : MayBegin tells L.told L.may_leave b.log b.listing opening
   pub stands : DevicesStandFor L.told L.may_leave b.log.log.device opening
+
+-- and its data device tells its images, which are those of this log
+pub record OpensOn {D E : Type 0} (tells : Type 0) (L : Ghosts D) (P : pages.Ghosts E) (b : Beginning D) (device : E) (opening : List Record) : Type 0 where
+  pub begins : BeginsOn tells L b opening
+  pub told : P.tells
+  pub images : AreSealed (P.told device) opening
 
 -- within a life that has just begun on this log
 pub record Begun {D : Type 0} (tells : Type 0) (L : Ghosts D) (b : Beginning D) (s : Stage) : Type 0 where
@@ -67,9 +56,13 @@ abbrev pub IsAt : {D F : Type 0} → Type 0 → Ghosts D → (F → Stage → Ty
 IsAt tells L inside (Outside disk) s = Out tells L disk s
 IsAt tells L inside (Inside life) s = inside life s
 
+-- no log is one with which a life has begun, where none is open
+abbrev pub no_opening : List Record → Type 0
+no_opening opening = ⊥
+
 abbrev pub Steps : {D F : Type 0} → Type 0 → Ghosts D → (F → Stage → Type 0) → Stage → Command → ℕ → Stepped D F → Type 0
 Steps tells L inside s c line (steps.Goes out at) = Adds L.tells (IsAt tells L inside at) s c out.items
-Steps tells L inside s c line (steps.Ends status disk) = RefusesAt L disk s c line status × Known tells L (bytes_after s.life s.bytes) disk
+Steps tells L inside s c line (steps.Ends status disk) = RefusesAt L 0 disk no_opening [] s c line status × Known tells L (bytes_after s.life s.bytes) disk
 
 -- A log isn't made or opened, for this status: where it is a fault, a line says so if the disk's fuse refused a call, of
 -- which there had been so many before.

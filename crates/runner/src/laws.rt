@@ -2,24 +2,25 @@
 ghost use Rattle.std.specs.Prelude.{ℕ, List, Option};
 ghost use Rattle.log_manager.specs.Devices.{DevicesStandFor};
 ghost use Rattle.wal_record.specs.declared.record.Record.{Record};
-ghost use Rattle.runner.specs.Clause.{Headline};
+ghost use Rattle.runner.specs.Clause.{HandsBack, Headline};
+ghost use Rattle.life_commands.specs.Images.{AreImagesOf, AreSealed};
 ghost use Rattle.life_commands.specs.LogDisk.{Keeps};
 ghost use Rattle.runner.specs.NextCall.{HandsOn};
 ghost use Rattle.life_commands.specs.Turns.{Found, Start, stage};
 ghost use Rattle.life_commands.specs.declared.status.Status.{Status};
 
-use media::{Disk, Vault};
+use media::{Disk, PageDevice, Vault};
 
-/// A log disk of devices that stand for a log may be handed to a call as one on which it was found.
-pub fn standing_law<L: Disk>()
-    ensures { (disk : L) (log : List Record) → DevicesStandFor L.told L.may_leave disk log → Keeps L.Disk (Found log) disk }
+/// Devices that stand for a log may be handed to a call as ones on which it was found.
+pub fn standing_law<L: Disk, D: PageDevice>()
+    ensures { (disk : L) (device : D) (log : List Record) → DevicesStandFor L.told L.may_leave disk log → AreSealed (D.told device) log → Keeps L.Disk (Found log) disk × AreImagesOf (D.told device) (Found log) }
 {}
 
-/// The log disk that a call hands back, whatever its status, holds a log that may be found behind the turns of that call,
-/// and may be handed to the next call as such. Whatever that call's first opening finds on it, before a stop or behind
+/// The devices that a call hands back, whatever its status, hold a log that may be found behind the turns of that call, and
+/// images of it, and may be handed to the next call as such. Whatever that call's first opening finds, before a stop or behind
 /// one, has each commit that the first call has acknowledged in the life that was open at its end.
-pub fn next_call_law<L: Disk, V: Vault>()
-    ensures { (start : Start) (disk : L) (first vault : V) (left0 : Option (List ℕ)) (pending : List ℕ) (left told0 told : Option (List ℕ)) (status : Status)
-        → (call : Headline L.tells L.Disk V.Vault start disk first vault left0 pending left told0 told status)
-        → L.tells → HandsOn L.Disk (stage start call.turns) disk }
+pub fn next_call_law<L: Disk, D: PageDevice, V: Vault>()
+    ensures { (start : Start) (disk : L) (device : D) (first vault : V) (left0 : Option (List ℕ)) (pending : List ℕ) (left told0 told : Option (List ℕ)) (status : Status)
+        → (call : Headline L.tells start (HandsBack L.tells L.Disk D.PageDevice V.Vault disk device first vault) left0 pending left told0 told status)
+        → L.tells → HandsOn L.Disk D.PageDevice (stage start call.turns) disk device }
 {}

@@ -2,31 +2,33 @@
 //!
 //! The way of a line: `line_reader` reads it, `script` says which command it spells, `turns` has it carried out, by `outside`
 //! where no life is open and else by `life_commands`, and writes the lines that answer it before it reads on. A run is a row of
-//! lives, each from an `open` to a `stop` or to the end of the run. A life (`own_life`) owns its journal, with the log and the
-//! log's disk, under a name that `living` picks; its pages are lent to each command. Between two lives there is the log disk
-//! alone. It is in a fuse, which lines arm and renew, and which a stop renews.
+//! lives, each from an `open` to a `close`, a `stop` or the end of the run. A life (`own_life`) owns its journal, with the log
+//! and the log's disk, under a name that `living` picks; its pages, over the data device, are lent to each command. Between two
+//! lives there are the two devices alone. Each is in a fuse, which lines arm and renew, and which a stop renews.
 //!
 //! The states of a run, and what leads from one to another (a line that isn't here is refused with its status):
 //!
 //! ```text
-//!                               format, fuse, renew, stop
+//!                               format, damage, fuse, renew, stop
 //!                                        +-----+
 //!                                        |     v
 //!                                     ( no life )  <-----------------+
 //!                                         |                          |
-//!                                    open |                          | stop
+//!                                    open |                          | close, stop
 //!                                         v                          |
 //!   begin, get, put, del, scan, op,   ( a life ) --------------------+
 //!   commit, abort, checkpoint, stat,      |                          |
-//!   fuse, renew             +---------    |                          |
+//!   damage, fuse, renew     +---------    |                          |
 //!                           +-------->    | a fuse refuses a call    |
 //!                                         | of one of the commands   |
 //!                                         v                          |
 //!   the same commands:           ( an ended life ) ------------------+
 //!   answered as ended;                    |
-//!   fuse, renew             +---------    |
+//!   damage, fuse, renew     +---------    |
 //!                           +-------->    |
 //! ```
+//!
+//! A close that a fuse refuses a call of ends its life, too.
 //!
 //! The layer's promise is the clause `headline` of [`run_words`]. There are turns (`specs/Turns` of `life_commands`), each a
 //! command with the entries that it adds to the history of its life. Their commands are those of the lines read, each fits
@@ -34,11 +36,12 @@
 //! written, all of it where the run is done (`specs/Clause`). Each life of theirs opens a log that the life before may have
 //! left, or that was handed in or made; it is legal, has the replies of a serial run, and whatever a stop may leave of it has
 //! its first transactions. The log disk that is handed back holds such a rest, also after a crash (`specs/LogDisk` of
-//! `life_commands`). The vault is as it was until the machine stops, and then as stops leave it (`specs/Vault`). Each status
+//! `life_commands`), and each image on the data device is of it (`specs/Devices`; `specs/Images` of `life_commands`). The vault is
+//! as it was until the machine stops, and then as stops leave it (`specs/Vault`). Each status
 //! comes for its own cause (`specs/Refusals` of `life_commands`, `specs/Causes` of both).
 //!
-//! A call may begin with any use that may have left the log disk so (`Last` in `specs/Turns` of `life_commands`), and the log
-//! disk that it hands back may be handed to the next call (`laws`). It may begin, too, with what is known of the bytes alone
+//! A call may begin with any use that may have left the devices so (`Last` in `specs/Turns` of `life_commands`), and those that
+//! it hands back may be handed to the next call (`laws`). It may begin, too, with what is known of the bytes alone
 //! (`specs/Bytes` of `life_commands`): over an open gate with something behind it no `format` is done, and where its bytes are
 //! no block no life opens and no byte changes. A status of an opening or of a format shows what the bytes of a disk are
 //! (`Shows` in `specs/Causes`).

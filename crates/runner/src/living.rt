@@ -4,10 +4,11 @@ ghost use Rattle.page_ops.specs.Names.{life_names};
 ghost use Rattle.wal_record.specs.declared.record.Record.{Record};
 ghost use Rattle.life_commands.specs.LogDisk.{View, IsWhole, seen};
 ghost use Rattle.life_commands.specs.Turns.{Start, Turn};
-ghost use Rattle.runner.specs.Machine.{Begun, BeginsOn, IsAt};
 ghost use Rattle.life_commands.specs.Living.{Within};
 ghost use Rattle.line_reader.specs.Lines.{Reader};
-ghost use Rattle.runner.specs.Clause.{Between, LivedTo, Stopping};
+ghost use Rattle.runner.specs.Clause.{Between, Closing, LivedTo, Stopping};
+ghost use Rattle.runner.specs.Devices.{Imaged};
+ghost use Rattle.runner.specs.Machine.{Begun, IsAt, OpensOn};
 ghost use Rattle.runner.specs.Vault.{Beside};
 ghost use Rattle.runner.specs.Causes.{LivedCause, disk_at};
 
@@ -18,23 +19,23 @@ use crate::stop::cycled;
 use crate::turns::{Passed, turn_inside};
 use life_commands::Status;
 use line_reader::Input;
-use media::{Disk, Sink, Source, Vault, write_all};
+use media::{Disk, PageDevice, Sink, Source, Vault, write_all};
 use operators::Operators;
-use own_life::{LifePages, OwnLife, open_life};
+use own_life::{LifePages, LifeRefused, OwnLife, open_life};
 use page_ops::{Ground, Life, Tokens, Unnamed};
 use std::alloc::Global;
 use std::marker::Brand;
 use std::sync::Wait;
 
-/// How a life ended: by a stop, or with the run.
+/// How a life ended: by a stop or a close, or with the run. Here are its devices.
 #[derive(Drop)]
-pub enum Lived<L> {
-    Stopped { disk: L },
-    Ends { status: Status, disk: L },
+pub enum Lived<L, D> {
+    Over { disk: L, pages: D },
+    Ends { status: Status, disk: L, pages: D },
 }
 
 /// What a line has begun: nothing, or a life.
-pub fn run_from<S: Source, K: Sink, V: Vault, L: Disk, R: Wait>(
+pub fn run_from<S: Source, K: Sink, V: Vault, L: Disk, D: PageDevice, R: Wait>(
     rt: &R,
     alloc: Global,
     operators: &Operators,
@@ -42,31 +43,34 @@ pub fn run_from<S: Source, K: Sink, V: Vault, L: Disk, R: Wait>(
     source: &mut S,
     sink: &mut K,
     vault: &mut V,
+    pages: D,
     at: At<L, Opened<L>>,
-) -> Lived<L>
+) -> Lived<L, D>
     ensures turns { (v : View L.tells) (start : Start) (first : V) (left told : Option (List ℕ)) (turns : List Turn)
-        → Between (IsWhole v) start (Beside V.Vault first vault.old (IsAt L.tells (seen L.Disk v) (Begun L.tells (seen L.Disk v)) at)) left told input.old turns (S.left source.old) (K.told sink.old)
-        → LivedTo L.tells (seen L.Disk v) V.Vault start first vault.new left told input.new (S.left source.new) (K.told sink.new) result }
+        → Between (IsWhole v) start (Beside V.Vault first vault.old (Imaged (IsWhole v) D.PageDevice pages (IsAt L.tells (seen L.Disk v) (Begun L.tells (seen L.Disk v)) at))) left told input.old turns (S.left source.old) (K.told sink.old)
+        → LivedTo L.tells (seen L.Disk v) D.PageDevice V.Vault start first vault.new left told input.new (S.left source.new) (K.told sink.new) result }
     ensures later { (S.faults source.old ≤ S.faults source.new) × (K.faults sink.old ≤ K.faults sink.new) }
     ensures cause { LivedCause L.Disk (L.own (disk_at (λ b. b.log.log.device) at)) (S.faults source.old) (S.faults source.new) (K.faults sink.old) (K.faults sink.new) result }
 {
     let opened = match at {
-        At::Outside { disk } => return Lived::Stopped { disk },
+        At::Outside { disk } => return Lived::Over { disk, pages },
         At::Inside { life } => life,
     };
     match Unnamed::new(alloc, 1) {
-        Ok(unnamed) => run_named::<Brand, S, K, V, L, R>(
-            rt, alloc, operators, input, source, sink, vault, unnamed, opened,
+        Ok(unnamed) => run_named::<Brand, S, K, V, L, D, R>(
+            rt, alloc, operators, input, source, sink, vault, pages, unnamed, opened,
         ),
         Err(_) => Lived::Ends {
             status: Status::Memory,
             disk: opened.into_device(),
+            pages,
         },
     }
 }
 
-/// A life with a name of its own. It may have begun with the logs for which its disk stands.
-fn run_named<N: Life, S: Source, K: Sink, V: Vault, L: Disk, R: Wait>(
+/// A life with a name of its own. It may have begun with the logs for which its disk stands, where the images of its data device
+/// are of these.
+fn run_named<N: Life, S: Source, K: Sink, V: Vault, L: Disk, D: PageDevice, R: Wait>(
     rt: &R,
     alloc: Global,
     operators: &Operators,
@@ -74,26 +78,27 @@ fn run_named<N: Life, S: Source, K: Sink, V: Vault, L: Disk, R: Wait>(
     source: &mut S,
     sink: &mut K,
     vault: &mut V,
+    pages: D,
     unnamed: Unnamed,
     opened: Opened<L>,
-) -> Lived<L>
+) -> Lived<L, D>
     requires named { unnamed ≡ life_names N.count N.pages N.sessions N.maint N.entries N.session_entries N.log_faults N.vault_faults N.data_faults N.made }
     requires parts { (0 < N.entries.parts) × (0 < N.session_entries.parts) × (0 < N.log_faults.parts) × (0 < N.made.parts) }
-    requires opens { (opening : List Record) → (N.opens opening ↔ BeginsOn L.tells L.Disk opened opening) }
+    requires opens { (opening : List Record) → (N.opens opening ↔ OpensOn L.tells L.Disk D.PageDevice opened pages opening) }
     ensures turns { (v : View L.tells) (start : Start) (first : V) (left told : Option (List ℕ)) (turns : List Turn)
-        → Between (IsWhole v) start (Beside V.Vault first vault.old (Begun L.tells (seen L.Disk v) opened)) left told input.old turns (S.left source.old) (K.told sink.old)
-        → LivedTo L.tells (seen L.Disk v) V.Vault start first vault.new left told input.new (S.left source.new) (K.told sink.new) result }
+        → Between (IsWhole v) start (Beside V.Vault first vault.old (Imaged (IsWhole v) D.PageDevice pages (Begun L.tells (seen L.Disk v) opened))) left told input.old turns (S.left source.old) (K.told sink.old)
+        → LivedTo L.tells (seen L.Disk v) D.PageDevice V.Vault start first vault.new left told input.new (S.left source.new) (K.told sink.new) result }
     ensures later { (S.faults source.old ≤ S.faults source.new) × (K.faults sink.old ≤ K.faults sink.new) }
     ensures cause { LivedCause L.Disk (L.own opened.log.log.device) (S.faults source.old) (S.faults source.new) (K.faults sink.old) (K.faults sink.new) result }
 {
     let (ground, tokens) = unnamed.split::<N>();
     run_on(
-        rt, alloc, operators, input, source, sink, vault, &ground, tokens, opened,
+        rt, alloc, operators, input, source, sink, vault, pages, &ground, tokens, opened,
     )
 }
 
 /// The same on what the life is made of.
-fn run_on<'a, N: Life, S: Source, K: Sink, V: Vault, L: Disk, R: Wait>(
+fn run_on<'a, N: Life, S: Source, K: Sink, V: Vault, L: Disk, D: PageDevice, R: Wait>(
     rt: &R,
     alloc: Global,
     operators: &'a Operators,
@@ -101,34 +106,49 @@ fn run_on<'a, N: Life, S: Source, K: Sink, V: Vault, L: Disk, R: Wait>(
     source: &mut S,
     sink: &mut K,
     vault: &mut V,
+    pages: D,
     ground: &'a Ground<N>,
     tokens: Tokens<N>,
     opened: Opened<L>,
-) -> Lived<L>
+) -> Lived<L, D>
     requires parts { (0 < N.entries.parts) × (0 < N.session_entries.parts) × (0 < N.log_faults.parts) × (0 < N.made.parts) }
     requires history { (tokens.front ≡ []) × (tokens.mark ≡ 0) × (tokens.pass.log ≡ []) }
     requires books { (tokens.books.pages ≡ []) × (tokens.books.sessions ≡ []) × (tokens.books.maint ≡ []) }
-    requires opens { (opening : List Record) → (N.opens opening ↔ BeginsOn L.tells L.Disk opened opening) }
+    requires opens { (opening : List Record) → (N.opens opening ↔ OpensOn L.tells L.Disk D.PageDevice opened pages opening) }
     ensures turns { (v : View L.tells) (start : Start) (first : V) (left told : Option (List ℕ)) (turns : List Turn)
-        → Between (IsWhole v) start (Beside V.Vault first vault.old (Begun L.tells (seen L.Disk v) opened)) left told input.old turns (S.left source.old) (K.told sink.old)
-        → LivedTo L.tells (seen L.Disk v) V.Vault start first vault.new left told input.new (S.left source.new) (K.told sink.new) result }
+        → Between (IsWhole v) start (Beside V.Vault first vault.old (Imaged (IsWhole v) D.PageDevice pages (Begun L.tells (seen L.Disk v) opened))) left told input.old turns (S.left source.old) (K.told sink.old)
+        → LivedTo L.tells (seen L.Disk v) D.PageDevice V.Vault start first vault.new left told input.new (S.left source.new) (K.told sink.new) result }
     ensures later { (S.faults source.old ≤ S.faults source.new) × (K.faults sink.old ≤ K.faults sink.new) }
     ensures cause { LivedCause L.Disk (L.own opened.log.log.device) (S.faults source.old) (S.faults source.new) (K.faults sink.old) (K.faults sink.new) result }
 {
-    match open_life(alloc, operators, ground, tokens, opened.into_log()) {
+    match open_life(alloc, operators, ground, tokens, opened.into_log(), pages) {
         Ok((life, pages)) => {
             let pages = RunPages { pages };
             run_life(rt, alloc, input, source, sink, vault, life, pages)
         }
-        Err(disk) => Lived::Ends {
-            status: Status::Memory,
-            disk,
-        },
+        Err(refused) => {
+            let LifeRefused { log, device } = refused;
+            Lived::Ends {
+                status: Status::Memory,
+                disk: log,
+                pages: device,
+            }
+        }
     }
 }
 
-/// A life, from its opening to its stop or the end of the run.
-fn run_life<'a, N: Life, S: Source, K: Sink, V: Vault, L: Disk, P: LifePages<N>, R: Wait>(
+/// A life, from its opening to its stop, its close or the end of the run.
+fn run_life<
+    'a,
+    N: Life,
+    S: Source,
+    K: Sink,
+    V: Vault,
+    L: Disk,
+    D: PageDevice,
+    P: LifePages<N, D>,
+    R: Wait,
+>(
     rt: &R,
     alloc: Global,
     input: &mut Input,
@@ -137,56 +157,95 @@ fn run_life<'a, N: Life, S: Source, K: Sink, V: Vault, L: Disk, P: LifePages<N>,
     vault: &mut V,
     life: OwnLife<'a, L, N>,
     pages: P,
-) -> Lived<L>
+) -> Lived<L, D>
     requires idle { P.idle pages }
+    requires told { (opening : List Record) → N.opens opening → D.tells }
     ensures turns { (v : View L.tells) (start : Start) (first : V) (left told : Option (List ℕ)) (turns : List Turn)
         → Between (IsWhole v) start (Beside V.Vault first vault.old (Within (seen L.Disk v) N.opens life.entry)) left told input.old turns (S.left source.old) (K.told sink.old)
-        → LivedTo L.tells (seen L.Disk v) V.Vault start first vault.new left told input.new (S.left source.new) (K.told sink.new) result }
+        → LivedTo L.tells (seen L.Disk v) D.PageDevice V.Vault start first vault.new left told input.new (S.left source.new) (K.told sink.new) result }
     ensures later { (S.faults source.old ≤ S.faults source.new) × (K.faults sink.old ≤ K.faults sink.new) }
     ensures cause { LivedCause L.Disk life.entry.calls.own (S.faults source.old) (S.faults source.new) (K.faults sink.old) (K.faults sink.new) result }
 {
     let (mut life, mut pages) = (life, pages);
     for _ in 0..u64::MAX {
-        match turn_inside::<N, S, K, V, L, P, R>(
+        match turn_inside::<N, S, K, V, L, D, P, R>(
             rt, alloc, input, source, sink, &mut life, &mut pages,
         ) {
             Passed::Goes => {}
             Passed::Stops { keep, lines } => {
-                return end_life(sink, vault, life.into_device(), keep, lines);
+                let (disk, pages) = life.into_devices(pages);
+                return stop_life(sink, vault, disk, pages, keep, lines);
             }
-            Passed::Ends { status } => return Lived::Ends {
-                status,
-                disk: life.into_device(),
-            },
+            Passed::Closes { lines } => {
+                let (disk, pages) = life.into_devices(pages);
+                return end_life::<K, V, L, D>(sink, disk, pages, lines);
+            }
+            Passed::Ends { status } => {
+                let (disk, pages) = life.into_devices(pages);
+                return Lived::Ends {
+                    status,
+                    disk,
+                    pages,
+                };
+            }
         }
     }
+    let (disk, pages) = life.into_devices(pages);
     Lived::Ends {
         status: Status::Memory,
-        disk: life.into_device(),
+        disk,
+        pages,
     }
 }
 
 /// The machine stops where a life was open, and the lines that say so are written.
-fn end_life<K: Sink, V: Vault, L: Disk>(
+fn stop_life<K: Sink, V: Vault, L: Disk, D: PageDevice>(
     sink: &mut K,
     vault: &mut V,
     disk: L,
+    pages: D,
     keep: Option<u64>,
     lines: Vec<u8>,
-) -> Lived<L>
-    ensures turns { (v : View L.tells) (start : Start) (first : V) (left0 told0 : Option (List ℕ)) (reader : Reader) (turns : List Turn) (left : Option (List ℕ))
-        → Stopping L.tells (seen L.Disk v) V.Vault start disk first vault.old left0 told0 reader turns left (K.told sink.old) keep lines.items
-        → LivedTo L.tells (seen L.Disk v) V.Vault start first vault.new left0 told0 reader left (K.told sink.new) result }
+) -> Lived<L, D>
+    ensures turns { (v : View L.tells) (start : Start) (first : V) (kept : ℕ) (left0 told0 : Option (List ℕ)) (reader : Reader) (turns : List Turn) (left : Option (List ℕ))
+        → (IsWhole v → D.tells) → Stopping L.tells (seen L.Disk v) D.PageDevice V.Vault start kept disk pages first vault.old left0 told0 reader turns left (K.told sink.old) keep lines.items
+        → LivedTo L.tells (seen L.Disk v) D.PageDevice V.Vault start first vault.new left0 told0 reader left (K.told sink.new) result }
     ensures later { K.faults sink.old ≤ K.faults sink.new }
     ensures cause { (source : ℕ) → LivedCause L.Disk (L.own disk) source source (K.faults sink.old) (K.faults sink.new) result }
 {
     let disk = cycled(disk, keep.unwrap_or(0));
+    let mut pages = pages;
+    pages.fuse(None);
     vault.power_cycle();
     match write_all(sink, &lines) {
-        Ok(()) => Lived::Stopped { disk },
+        Ok(()) => Lived::Over { disk, pages },
         Err(_) => Lived::Ends {
             status: Status::SinkFault,
             disk,
+            pages,
+        },
+    }
+}
+
+/// A life is over, and the lines that say so are written.
+fn end_life<K: Sink, V: Vault, L: Disk, D: PageDevice>(
+    sink: &mut K,
+    disk: L,
+    pages: D,
+    lines: Vec<u8>,
+) -> Lived<L, D>
+    ensures turns { (v : View L.tells) (start : Start) (first vault : V) (left0 told0 : Option (List ℕ)) (reader : Reader) (turns : List Turn) (left : Option (List ℕ))
+        → Closing L.tells (seen L.Disk v) D.PageDevice V.Vault start disk pages first vault left0 told0 reader turns left (K.told sink.old) lines.items
+        → LivedTo L.tells (seen L.Disk v) D.PageDevice V.Vault start first vault left0 told0 reader left (K.told sink.new) result }
+    ensures later { K.faults sink.old ≤ K.faults sink.new }
+    ensures cause { (source : ℕ) → LivedCause L.Disk (L.own disk) source source (K.faults sink.old) (K.faults sink.new) result }
+{
+    match write_all(sink, &lines) {
+        Ok(()) => Lived::Over { disk, pages },
+        Err(_) => Lived::Ends {
+            status: Status::SinkFault,
+            disk,
+            pages,
         },
     }
 }

@@ -1,11 +1,14 @@
 //! Commands where no life is open.
-ghost use Rattle.std.specs.Prelude.{◌≡◌, ◌<◌, ◌^◌, ℕ, codes, IfOk, IfErr};
+ghost use Rattle.std.specs.Prelude.{◌≡◌, ◌<◌, ◌≤◌, ◌^◌, ℕ, codes, is_some, IfOk, IfErr};
 ghost use Rattle.wal_record.specs.Rules.{is_limit};
 ghost use Rattle.runner.specs.Causes.{SteppedCause};
 ghost use Rattle.life_commands.specs.LogDisk.{View, seen};
-ghost use Rattle.life_commands.specs.Turns.{Stage};
+ghost use Rattle.life_commands.specs.Turns.{Fuses, Stage, with_fuse};
 ghost use Rattle.life_commands.specs.declared.status.Status.{Status};
-ghost use Rattle.runner.specs.Machine.{Begun, Out, Steps, Refuses};
+ghost use Rattle.life_commands.specs.Living.{IsFused, Out};
+ghost use Rattle.media.specs.Crash.{NoMore};
+ghost use Rattle.media.specs.Images.{NoOther};
+ghost use Rattle.runner.specs.Machine.{Begun, Steps, Refuses};
 ghost use Rattle.script.specs.declared.command.Command.TheVariants as commands;
 
 use crate::at::{At, Stepped};
@@ -13,9 +16,10 @@ use crate::logs::{NotOpened, make_log, open};
 use crate::opened::Opened;
 use crate::stop::stop;
 use life_commands::Status;
-use media::Disk;
+use media::{Disk, PageDevice};
 use script::{Command, Device};
 use std::alloc::Global;
+use store_model::PageNo;
 
 /// The room of a store whose `format` names none.
 const ROOM: u32 = 16_384;
@@ -23,9 +27,16 @@ const ROOM: u32 = 16_384;
 /// A fuse refuses far fewer calls.
 const MOST: u64 = 1 << 62;
 
-/// Carries a command out.
-pub fn step<L: Disk>(alloc: Global, disk: L, command: &Command, line: u64) -> Stepped<L, Opened<L>>
+/// Carries a command out. The data device has no image but those that it had.
+pub fn step<L: Disk, D: PageDevice>(
+    alloc: Global,
+    disk: L,
+    pages: &mut D,
+    command: &Command,
+    line: u64,
+) -> Stepped<L, Opened<L>>
     ensures turns { (v : View L.tells) (s : Stage) → Out L.tells (seen L.Disk v) disk s → Steps L.tells (seen L.Disk v) (Begun L.tells (seen L.Disk v)) s command.now line result }
+    ensures images { D.tells → NoOther D.told pages.old pages.new }
     ensures cause { SteppedCause L.Disk (λ b. b.log.log.device) disk result }
 {
     match command {
@@ -36,17 +47,21 @@ pub fn step<L: Disk>(alloc: Global, disk: L, command: &Command, line: u64) -> St
         Command::Format { limit } => format(alloc, disk, *limit, line),
         Command::Open => opens(alloc, disk),
         Command::Stop { keep } => match stop(alloc, disk, *keep) {
-            Ok((lines, disk)) => Stepped::Goes {
-                lines,
-                at: At::Outside { disk },
-            },
+            Ok((lines, disk)) => {
+                pages.fuse(None);
+                Stepped::Goes {
+                    lines,
+                    at: At::Outside { disk },
+                }
+            }
             Err(disk) => Stepped::Ends {
                 status: Status::Memory,
                 disk,
             },
         },
-        Command::Fuse { device, calls } => fuse(alloc, disk, *device, *calls, line),
-        Command::Renew { device } => renew(alloc, disk, *device, line),
+        Command::Damage { page } => damage(alloc, disk, pages, *page),
+        Command::Fuse { device, calls } => fuse(alloc, disk, pages, *device, *calls, line),
+        Command::Renew { device } => renew(alloc, disk, pages, *device, line),
         _ => Stepped::Ends {
             status: Status::Script { line },
             disk,
@@ -168,27 +183,20 @@ fn refuse<L: Disk>(not: NotOpened<L>, before: u64, failed: Vec<u8>) -> Stepped<L
     }
 }
 
-/// Arms the disk's fuse.
-fn fuse<L: Disk>(
+/// Reads of the page fail verification from now on. That the device refuses it is no answer.
+fn damage<L: Disk, D: PageDevice>(
     alloc: Global,
     disk: L,
-    device: Device,
-    calls: u64,
-    line: u64,
+    pages: &mut D,
+    page: PageNo,
 ) -> Stepped<L, Opened<L>>
-    ensures turns { (v : View L.tells) (s : Stage) → Out L.tells (seen L.Disk v) disk s → Steps L.tells (seen L.Disk v) (Begun L.tells (seen L.Disk v)) s (commands.Fuse device calls) line result }
+    ensures turns { (v : View L.tells) (s : Stage) (line : ℕ) → Out L.tells (seen L.Disk v) disk s → Steps L.tells (seen L.Disk v) (Begun L.tells (seen L.Disk v)) s (commands.Damage page) line result }
+    ensures images { D.tells → NoOther D.told pages.old pages.new }
     ensures cause { SteppedCause L.Disk (λ b. b.log.log.device) disk result }
 {
-    let mut disk = disk;
-    if device != Device::Log {
-        return Stepped::Ends {
-            status: Status::NotBuilt { line },
-            disk,
-        };
-    }
-    match transcript::fuse_line(alloc, calls) {
+    match transcript::damage_line(alloc, page) {
         Ok(lines) => {
-            disk.fuse(Some(calls));
+            let _ = pages.spoil(page);
             Stepped::Goes {
                 lines,
                 at: At::Outside { disk },
@@ -201,21 +209,29 @@ fn fuse<L: Disk>(
     }
 }
 
-/// Renews the disk's fuse.
-fn renew<L: Disk>(alloc: Global, disk: L, device: Device, line: u64) -> Stepped<L, Opened<L>>
-    ensures turns { (v : View L.tells) (s : Stage) → Out L.tells (seen L.Disk v) disk s → Steps L.tells (seen L.Disk v) (Begun L.tells (seen L.Disk v)) s (commands.Renew device) line result }
+/// Arms a device's fuse.
+fn fuse<L: Disk, D: PageDevice>(
+    alloc: Global,
+    disk: L,
+    pages: &mut D,
+    device: Device,
+    calls: u64,
+    line: u64,
+) -> Stepped<L, Opened<L>>
+    ensures turns { (v : View L.tells) (s : Stage) → Out L.tells (seen L.Disk v) disk s → Steps L.tells (seen L.Disk v) (Begun L.tells (seen L.Disk v)) s (commands.Fuse device calls) line result }
+    ensures images { D.tells → NoOther D.told pages.old pages.new }
     ensures cause { SteppedCause L.Disk (λ b. b.log.log.device) disk result }
 {
     let mut disk = disk;
-    if device != Device::Log {
+    if device == Device::Vault {
         return Stepped::Ends {
             status: Status::NotBuilt { line },
             disk,
         };
     }
-    match transcript::renew_line(alloc) {
+    match transcript::fuse_line(alloc, device, calls) {
         Ok(lines) => {
-            disk.fuse(None);
+            arm(&mut disk, pages, device, Some(calls));
             Stepped::Goes {
                 lines,
                 at: At::Outside { disk },
@@ -225,5 +241,53 @@ fn renew<L: Disk>(alloc: Global, disk: L, device: Device, line: u64) -> Stepped<
             status: Status::Memory,
             disk,
         },
+    }
+}
+
+/// Renews a device's fuse.
+fn renew<L: Disk, D: PageDevice>(
+    alloc: Global,
+    disk: L,
+    pages: &mut D,
+    device: Device,
+    line: u64,
+) -> Stepped<L, Opened<L>>
+    ensures turns { (v : View L.tells) (s : Stage) → Out L.tells (seen L.Disk v) disk s → Steps L.tells (seen L.Disk v) (Begun L.tells (seen L.Disk v)) s (commands.Renew device) line result }
+    ensures images { D.tells → NoOther D.told pages.old pages.new }
+    ensures cause { SteppedCause L.Disk (λ b. b.log.log.device) disk result }
+{
+    let mut disk = disk;
+    if device == Device::Vault {
+        return Stepped::Ends {
+            status: Status::NotBuilt { line },
+            disk,
+        };
+    }
+    match transcript::renew_line(alloc, device) {
+        Ok(lines) => {
+            arm(&mut disk, pages, device, None);
+            Stepped::Goes {
+                lines,
+                at: At::Outside { disk },
+            }
+        }
+        Err(_) => Stepped::Ends {
+            status: Status::Memory,
+            disk,
+        },
+    }
+}
+
+/// Arms the fuse of the log disk, or else of the data device, or renews it.
+fn arm<L: Disk, D: PageDevice>(disk: &mut L, pages: &mut D, device: Device, n: Option<u64>)
+    ensures fused { (armed : Fuses) → IsFused L.Disk disk.old armed.log → IsFused L.Disk disk.new (with_fuse device (is_some n) armed).log }
+    ensures told { L.tells → L.told disk.new ≡ L.told disk.old }
+    ensures crash { NoMore L.may_leave disk.old disk.new }
+    ensures images { D.tells → NoOther D.told pages.old pages.new }
+    ensures later { L.own disk.old ≤ L.own disk.new }
+{
+    match device {
+        Device::Log => disk.fuse(n),
+        _ => pages.fuse(n),
     }
 }

@@ -1,24 +1,30 @@
 //! The pages of a run's life.
 use engine::Answered;
-use own_life::{LifePages, LogPages};
-use page_ops::{Journaling, Life};
+use front::Pass;
+use media::PageDevice;
+use own_life::{LifePages, StorePages};
+use page_ops::{Entering, Journaling, Life};
 use script::Name;
 use std::alloc::Global;
 use std::sync::Wait;
 use store_life::StoreLife;
-use store_model::{Fault, Pos, Request};
+use store_model::{Fault, PageNo, Pos, Request};
+use wal_record::Entry;
 
 /// The pages of a life, as its commands are lent them. A type of this crate hands them on, since a function with a premise can't
 /// hand a type with boxes of another crate to a bound.
 #[derive(Drop)]
-pub struct RunPages<'a, N: Life> {
-    pub pages: LogPages<'a, N>,
+pub struct RunPages<'a, D: PageDevice, N: Life> {
+    pub pages: StorePages<'a, D, N>,
 }
 
-impl<'a, N: Life> LifePages<N> for RunPages<'a, N> {
+impl<'a, D: PageDevice, N: Life> LifePages<N, D> for RunPages<'a, D, N> {
     ghost use Rattle.std.specs.Prelude.{◌≡◌, false};
+    ghost use Rattle.own_life.specs.Pages.{Lacks};
 
     ghost idle = { λ p. (p.pages.pool.out ≡ 0) × (p.pages.pool.reserves ≡ false) };
+
+    ghost dirty = { λ p. Lacks p.pages.pool.frames };
 
     fn ask<J: Journaling<N>, R: Wait>(
         &mut self,
@@ -41,5 +47,29 @@ impl<'a, N: Life> LifePages<N> for RunPages<'a, N> {
         name: &Name,
     ) -> Result<Pos, Fault> {
         self.pages.abort(rt, alloc, journal, life, name)
+    }
+
+    fn write_next<J: Entering<N>, R: Wait>(
+        &mut self,
+        rt: &R,
+        alloc: Global,
+        journal: &mut J,
+        life: &mut StoreLife<N>,
+        after: PageNo,
+    ) -> Result<Option<PageNo>, Fault> {
+        self.pages.write_next(rt, alloc, journal, life, after)
+    }
+
+    fn damage(&mut self, page: PageNo) {
+        self.pages.damage(page)
+    }
+
+    fn fuse(&mut self, n: Option<u64>) {
+        self.pages.fuse(n)
+    }
+
+    fn into_device(self, pass: &mut Pass<Entry, N>) -> D {
+        let RunPages { pages } = self;
+        pages.into_device(pass)
     }
 }

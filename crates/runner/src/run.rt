@@ -4,9 +4,11 @@ ghost use Rattle.std.specs.Prelude.{◌≡◌, ◌≢◌, ◌≤◌, ℕ, List, 
 ghost use Rattle.media.specs.Cause.{Rose};
 ghost use Rattle.line_reader.specs.Lines.{to_come, IsBounded};
 ghost use Rattle.life_commands.specs.LogDisk.{View, IsWhole, Keeps, seen};
+ghost use Rattle.life_commands.specs.Images.{AreImagesOf};
+ghost use Rattle.life_commands.specs.Living.{Out};
 ghost use Rattle.life_commands.specs.Turns.{Last, Start, begin_stage};
-ghost use Rattle.runner.specs.Machine.{Out};
-ghost use Rattle.runner.specs.Clause.{Headline};
+ghost use Rattle.runner.specs.Clause.{HandsBack, Headline};
+ghost use Rattle.runner.specs.Devices.{Imaged};
 ghost use Rattle.runner.specs.Causes.{RunCause, Shows, IsAsked};
 ghost use Rattle.call_words.specs.Calls.{call_of};
 ghost use Rattle.runner.specs.Usage.{AsksRun, ByWords, IsUnbegun};
@@ -23,28 +25,31 @@ use std::alloc::Global;
 use std::sync::Wait;
 
 /// Runs the script that the source has, prints its transcript to the sink, and hands the devices back. The words are those
-/// of a call behind its place (`call_words`). Workers and frames have no effect, and no script is generated yet.
-pub fn run_words<S: Source, K: Sink, L: Disk, P: PageDevice, V: Vault, R: Wait>(
+/// of a call behind its place (`call_words`). Workers and frames have no effect, and no script is generated yet. A call of the
+/// data device that fails ends nothing: its page is repaired from the log, or stays in memory.
+pub fn run_words<S: Source, K: Sink, L: Disk, D: PageDevice, V: Vault, R: Wait>(
     rt: &R,
     alloc: Global,
     words: &[String],
     source: &mut S,
     sink: &mut K,
-    devices: Devices<L, P, V>,
+    devices: Devices<L, D, V>,
     operators: &Operators,
-) -> (Status, Devices<L, P, V>)
-    // Of every use that may have left the log disk so: there are turns whose commands are those of the lines read; each
-    // fits behind those before it, and each life opens a log that the stop before may have left, or that was handed in or
-    // made; their text is what was written; and each life of theirs is legal, has the replies of a serial run, and
-    // whatever a stop may leave of it has its first transactions. The log disk that is handed back keeps a log that may
-    // be found next, also after any crash, so it may be handed to the next call. What the reader has read and given to no
-    // line yet is still pending; at most the longest script is read, and one byte more.
-    ensures headline { (v : View L.tells) (start : Start) → (IsWhole v → Keeps L.Disk start.last devices.log) → Known L.tells L.Disk start.bytes devices.log
-        → (pending : List ℕ) × Headline L.tells (seen L.Disk v) V.Vault start result.1.log devices.vault result.1.vault (S.left source.old) pending (S.left source.new) (K.told sink.old) (K.told sink.new) result.0 }
+) -> (Status, Devices<L, D, V>)
+    // Of every use that may have left the devices so: there are turns whose commands are those of the lines read; each
+    // fits behind those before it, and each life opens a log that the life or the stop before may have left, or that was
+    // handed in or made; their text is what was written; and each life of theirs is legal, has the replies of a serial
+    // run, and whatever a stop may leave of it has its first transactions. The log disk that is handed back keeps a log
+    // that may be found next, also after any crash, and the images on the data device are of each such log, so they may be
+    // handed to the next call. What the reader has read and given to no line yet is still pending; at most the longest
+    // script is read, and one byte more.
+    ensures headline { (v : View L.tells) (start : Start) → (IsWhole v → D.tells × Keeps L.Disk start.last devices.log × AreImagesOf (D.told devices.pages) start.last) → Known L.tells L.Disk start.bytes devices.log
+        → (pending : List ℕ) × Headline (IsWhole v) start (HandsBack L.tells (seen L.Disk v) D.PageDevice V.Vault result.1.log result.1.pages devices.vault result.1.vault)
+        (S.left source.old) pending (S.left source.new) (K.told sink.old) (K.told sink.new) result.0 }
 
-    // Where the words are a call, the log disk keeps a log, and no device failed, the run is done, the script asked for
-    // its end, or memory ran out.
-    ensures complete { AsksRun (call_of (map (λ word. word.bytes.items) words.now)) → L.tells → (start : Last) → Keeps L.Disk start devices.log
+    // Where the words are a call, the log disk keeps a log, the images on the data device are of it, and no device failed, the
+    // run is done, the script asked for its end, or memory ran out.
+    ensures complete { AsksRun (call_of (map (λ word. word.bytes.items) words.now)) → L.tells → D.tells → (start : Last) → Keeps L.Disk start devices.log → AreImagesOf (D.told devices.pages) start
         → (Rose (S.faults source.old) (S.faults source.new) → ⊥) → (Rose (K.faults sink.old) (K.faults sink.new) → ⊥) → (Rose (L.faults devices.log) (L.faults result.1.log) → ⊥) → IsAsked result.0 }
 
     // The words alone decide whether they are a call, and of which script; want of memory is free.
@@ -59,9 +64,6 @@ pub fn run_words<S: Source, K: Sink, L: Disk, P: PageDevice, V: Vault, R: Wait>(
     ensures log { result.0 ≡ statuses.LogFault → Rose (L.faults devices.log) (L.faults result.1.log) }
     ensures later { L.faults devices.log ≤ L.faults result.1.log }
     ensures shows { Shows L.Disk result.1.log result.0 }
-
-    // The data device is as it was.
-    ensures pages { result.1.pages ≡ devices.pages }
 {
     let call = match call_of(alloc, words) {
         Ok(call) => call,
@@ -80,7 +82,7 @@ pub fn run_words<S: Source, K: Sink, L: Disk, P: PageDevice, V: Vault, R: Wait>(
     };
     let Devices { log, pages, vault } = devices;
     let mut vault = vault;
-    let (status, log) = run(
+    let (status, log, pages) = run(
         rt,
         alloc,
         operators,
@@ -88,20 +90,21 @@ pub fn run_words<S: Source, K: Sink, L: Disk, P: PageDevice, V: Vault, R: Wait>(
         source,
         sink,
         &mut vault,
+        Fuse::new(pages),
         Fuse::new(log),
     );
     (
         status,
         Devices {
             log: log.into_inner(),
-            pages,
+            pages: pages.into_inner(),
             vault,
         },
     )
 }
 
 /// Lines without a life, and the lives that some of them open.
-fn run<S: Source, K: Sink, V: Vault, L: Disk, R: Wait>(
+fn run<S: Source, K: Sink, V: Vault, L: Disk, D: PageDevice, R: Wait>(
     rt: &R,
     alloc: Global,
     operators: &Operators,
@@ -109,27 +112,36 @@ fn run<S: Source, K: Sink, V: Vault, L: Disk, R: Wait>(
     source: &mut S,
     sink: &mut K,
     vault: &mut V,
+    pages: D,
     disk: L,
-) -> (Status, L)
+) -> (Status, L, D)
     requires { (input.old.lines ≡ 0) × (input.old.taken ≡ 0) × IsBounded input.old }
-    ensures headline { (v : View L.tells) (start : Start) → Out L.tells (seen L.Disk v) disk (begin_stage start)
-        → Headline L.tells (seen L.Disk v) V.Vault start result.1 vault.old vault.new (to_come input.old (S.left source.old)) input.new.pending (S.left source.new) (K.told sink.old) (K.told sink.new) result.0 }
+    ensures headline { (v : View L.tells) (start : Start) → Imaged (IsWhole v) D.PageDevice pages (Out L.tells (seen L.Disk v) disk) (begin_stage start)
+        → Headline (IsWhole v) start (HandsBack L.tells (seen L.Disk v) D.PageDevice V.Vault result.1 result.2 vault.old vault.new)
+        (to_come input.old (S.left source.old)) input.new.pending (S.left source.new) (K.told sink.old) (K.told sink.new) result.0 }
     ensures later { (S.faults source.old ≤ S.faults source.new) × (K.faults sink.old ≤ K.faults sink.new) × (L.own disk ≤ L.own result.1) }
     ensures cause { RunCause (S.faults source.old) (S.faults source.new) (K.faults sink.old) (K.faults sink.new) (L.own disk) (L.own result.1) result.0 }
     ensures shows { Shows L.Disk result.1 result.0 }
     ensures called { (result.0 ≢ statuses.Usage) × (result.0 ≢ statuses.NoGenerator) }
 {
-    let mut disk = disk;
+    let (mut disk, mut pages) = (disk, pages);
     for _ in 0..u64::MAX {
-        match turn_outside(alloc, input, source, sink, vault, disk) {
+        match turn_outside(alloc, input, source, sink, vault, &mut pages, disk) {
             Turned::Goes { at } => match run_from(
-                rt, alloc, operators, input, source, sink, vault, at,
+                rt, alloc, operators, input, source, sink, vault, pages, at,
             ) {
-                Lived::Stopped { disk: left } => disk = left,
-                Lived::Ends { status, disk } => return (status, disk),
+                Lived::Over {
+                    disk: left,
+                    pages: images,
+                } => (disk, pages) = (left, images),
+                Lived::Ends {
+                    status,
+                    disk,
+                    pages,
+                } => return (status, disk, pages),
             },
-            Turned::Ends { status, disk } => return (status, disk),
+            Turned::Ends { status, disk } => return (status, disk, pages),
         }
     }
-    (Status::Memory, disk)
+    (Status::Memory, disk, pages)
 }

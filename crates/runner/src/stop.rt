@@ -1,10 +1,9 @@
 //! A stop of the machine.
-ghost use Rattle.std.specs.Prelude.{◌≡◌, ◌≤◌, None, IfOk, IfErr};
+ghost use Rattle.std.specs.Prelude.{◌≡◌, ◌≤◌, ℕ, None, IfOk, IfErr};
 ghost use Rattle.media.specs.Crash.{Only};
 ghost use Rattle.life_commands.specs.LogDisk.{View, IsWhole, seen};
 ghost use Rattle.life_commands.specs.Turns.{Stage};
-ghost use Rattle.runner.specs.Machine.{Out};
-ghost use Rattle.life_commands.specs.Living.{Safe, Adds};
+ghost use Rattle.life_commands.specs.Living.{Adds, Out, Safe};
 ghost use Rattle.script.specs.declared.command.Command.TheVariants as commands;
 
 use media::Disk;
@@ -13,7 +12,7 @@ use std::alloc::Global;
 /// The machine stops, and the disk's fuse is renewed: the line that says so, and the disk. Without memory for the line the
 /// disk comes back as it was.
 pub fn stop<L: Disk>(alloc: Global, disk: L, keep: Option<u64>) -> Result<(Vec<u8>, L), L>
-    ensures turns { IfOk result (λ r. (v : View L.tells) (s : Stage) → Safe L.tells (seen L.Disk v) disk s → Adds (IsWhole v) (Out L.tells (seen L.Disk v) r.1) s (commands.Stop keep) r.0.items) }
+    ensures turns { IfOk result (λ r. (v : View L.tells) (s : Stage) (kept : ℕ) → Safe L.tells (seen L.Disk v) kept disk s → Adds (IsWhole v) (Out L.tells (seen L.Disk v) r.1) s (commands.Stop keep) r.0.items) }
     ensures later { IfOk result (λ r. L.own disk ≤ L.own r.1) }
     ensures memory { IfErr result (λ left. left ≡ disk) }
 {

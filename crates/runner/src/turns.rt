@@ -3,9 +3,11 @@ ghost use Rattle.std.specs.Prelude.{◌≤◌, ℕ, List, Option, IfErr};
 ghost use Rattle.line_reader.specs.Lines.{IsBounded};
 ghost use Rattle.life_commands.specs.LogDisk.{View, IsWhole, seen};
 ghost use Rattle.life_commands.specs.Turns.{Start, Turn};
-ghost use Rattle.runner.specs.Machine.{Begun, Out};
-ghost use Rattle.life_commands.specs.Living.{IsDiskOf, Within};
+ghost use Rattle.life_commands.specs.Living.{Out, Within};
+ghost use Rattle.wal_record.specs.declared.record.Record.{Record};
 ghost use Rattle.runner.specs.Clause.{Between, PassedTo, TakesCommand, TurnedTo};
+ghost use Rattle.runner.specs.Devices.{AreDevicesOf, Imaged};
+ghost use Rattle.runner.specs.Machine.{Begun};
 ghost use Rattle.runner.specs.Vault.{Beside, Cycles};
 ghost use Rattle.runner.specs.Causes.{LineCause, PassedCause, TurnedCause};
 
@@ -14,7 +16,7 @@ use crate::opened::Opened;
 use crate::outside;
 use life_commands::Status;
 use line_reader::{Input, Next, NotRead, is_built};
-use media::{Disk, Sink, Source, Vault, write_all};
+use media::{Disk, PageDevice, Sink, Source, Vault, write_all};
 use own_life::{LifePages, OwnLife};
 use page_ops::Life;
 use script::{Command, command_of};
@@ -28,26 +30,29 @@ pub enum Turned<L, F> {
     Ends { status: Status, disk: L },
 }
 
-/// What a line of a life did: it was answered; it asks for a stop, with its lines; or it ended the run.
+/// What a line of a life did: it was answered; it asks for a stop, or a close that is done or has failed, with its lines; or it
+/// ended the run.
 #[derive(Drop)]
 pub enum Passed {
     Goes,
     Stops { keep: Option<u64>, lines: Vec<u8> },
+    Closes { lines: Vec<u8> },
     Ends { status: Status },
 }
 
 /// One line where no life is open. The end of the input ends the run.
-pub fn turn_outside<S: Source, K: Sink, V: Vault, L: Disk>(
+pub fn turn_outside<S: Source, K: Sink, V: Vault, L: Disk, D: PageDevice>(
     alloc: Global,
     input: &mut Input,
     source: &mut S,
     sink: &mut K,
     vault: &mut V,
+    pages: &mut D,
     disk: L,
 ) -> Turned<L, Opened<L>>
     ensures turns { (v : View L.tells) (start : Start) (first : V) (left told : Option (List ℕ)) (turns : List Turn)
-        → Between (IsWhole v) start (Beside V.Vault first vault.old (Out L.tells (seen L.Disk v) disk)) left told input.old turns (S.left source.old) (K.told sink.old)
-        → TurnedTo L.tells (seen L.Disk v) V.Vault start (Begun L.tells (seen L.Disk v)) first vault.new left told input.new turns (S.left source.new) (K.told sink.new) result }
+        → Between (IsWhole v) start (Beside V.Vault first vault.old (Imaged (IsWhole v) D.PageDevice pages.old (Out L.tells (seen L.Disk v) disk))) left told input.old turns (S.left source.old) (K.told sink.old)
+        → TurnedTo L.tells (seen L.Disk v) D.PageDevice V.Vault start (Begun L.tells (seen L.Disk v)) pages.new first vault.new left told input.new turns (S.left source.new) (K.told sink.new) result }
     ensures later { (S.faults source.old ≤ S.faults source.new) × (K.faults sink.old ≤ K.faults sink.new) }
     ensures cause { TurnedCause L.Disk (λ b. b.log.log.device) disk (S.faults source.old) (S.faults source.new) (K.faults sink.old) (K.faults sink.new) result }
 {
@@ -59,7 +64,7 @@ pub fn turn_outside<S: Source, K: Sink, V: Vault, L: Disk>(
         },
         Err(status) => return Turned::Ends { status, disk },
     };
-    match outside::step(alloc, disk, &command, line) {
+    match outside::step(alloc, disk, pages, &command, line) {
         Stepped::Goes { lines, at } => {
             cycle(vault, &command);
             match write_all(sink, &lines) {
@@ -74,8 +79,19 @@ pub fn turn_outside<S: Source, K: Sink, V: Vault, L: Disk>(
     }
 }
 
-/// One line within a life. The end of the input ends the run. A stop is left to the caller, who has the life.
-pub fn turn_inside<'a, N: Life, S: Source, K: Sink, V: Vault, L: Disk, P: LifePages<N>, R: Wait>(
+/// One line within a life. The end of the input ends the run. A stop, and the end of a life that was closed, are left to the
+/// caller, who has the life.
+pub fn turn_inside<
+    'a,
+    N: Life,
+    S: Source,
+    K: Sink,
+    V: Vault,
+    L: Disk,
+    D: PageDevice,
+    P: LifePages<N, D>,
+    R: Wait,
+>(
     rt: &R,
     alloc: Global,
     input: &mut Input,
@@ -85,10 +101,12 @@ pub fn turn_inside<'a, N: Life, S: Source, K: Sink, V: Vault, L: Disk, P: LifePa
     pages: &mut P,
 ) -> Passed
     requires idle { P.idle pages.old }
+    requires told { (opening : List Record) → N.opens opening → D.tells }
     ensures idle { P.idle pages.new }
     ensures turns { (v : View L.tells) (start : Start) (first vault : V) (left told : Option (List ℕ)) (turns : List Turn)
         → Between (IsWhole v) start (Beside V.Vault first vault (Within (seen L.Disk v) N.opens life.old)) left told input.old turns (S.left source.old) (K.told sink.old)
-        → PassedTo L.tells (seen L.Disk v) V.Vault start (Within (seen L.Disk v) N.opens life.new) (IsDiskOf L.Disk N.opens life.new) first vault left told input.new turns (S.left source.new) (K.told sink.new) result }
+        → PassedTo L.tells (seen L.Disk v) D.PageDevice V.Vault start (Within (seen L.Disk v) N.opens life.new) (AreDevicesOf L.Disk D.PageDevice N.opens life.new)
+        first vault left told input.new turns (S.left source.new) (K.told sink.new) result }
     ensures later { (S.faults source.old ≤ S.faults source.new) × (K.faults sink.old ≤ K.faults sink.new) }
     ensures cause { PassedCause life.old.calls life.new.calls (S.faults source.old) (S.faults source.new) (K.faults sink.old) (K.faults sink.new) result }
 {
@@ -105,6 +123,10 @@ pub fn turn_inside<'a, N: Life, S: Source, K: Sink, V: Vault, L: Disk, P: LifePa
             Err(_) => Passed::Ends {
                 status: Status::Memory,
             },
+        },
+        Command::Close => match life_commands::close(rt, alloc, life, pages, line) {
+            Ok(lines) => Passed::Closes { lines },
+            Err(status) => Passed::Ends { status },
         },
         _ => match life_commands::step(rt, alloc, life, pages, &command, line) {
             Ok(lines) => match write_all(sink, &lines) {

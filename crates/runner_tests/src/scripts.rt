@@ -69,7 +69,7 @@ fn a_key_has_at_most_64_bytes_and_a_value_256(rt: HostRuntime) -> Result<(), Fai
 }
 
 /// Scripts with the line with which no script goes on.
-const UNLAWFUL: [(&str, u64); 20] = [
+const UNLAWFUL: [(&str, u64); 24] = [
     ("format\nopen\nbeg", 3),
     ("begin A\n", 1),
     ("stat\n", 1),
@@ -90,19 +90,19 @@ const UNLAWFUL: [(&str, u64); 20] = [
     ("format\nopen\nbegin A\ncommit A\nget A k\n", 5),
     ("format\nopen\nbegin A\nabort A\nput A k 1\n", 5),
     ("format\nopen\nbegin A\nstop\ncommit A\n", 5),
+    ("close\n", 1),
+    ("format\nopen\nbegin A\nclose\n", 4),
+    ("format\nopen\nclose\nbegin A\n", 4),
+    ("damage 0\n", 1),
 ];
 
 /// Lines that ask for what isn't built.
-const UNBUILT: [&str; 14] = [
+const UNBUILT: [&str; 10] = [
     "beg",
     "fuse",
-    "fuse data 1",
     "fuse vault 1",
-    "renew data",
     "renew vault",
-    "close",
     "help 1",
-    "damage 1",
     "backup",
     "archive",
     "lose",

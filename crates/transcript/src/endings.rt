@@ -37,7 +37,7 @@ pub(crate) fn refused_line(mut head: Vec<u8>) -> Result<Vec<u8>, AllocError>
     Ok(head)
 }
 
-fn add_device(out: &mut Vec<u8>, device: Device) -> Result<(), AllocError>
+pub(crate) fn add_device(out: &mut Vec<u8>, device: Device) -> Result<(), AllocError>
     ensures { OnOk result (out.new.items ≡ out.old.items ++ device_text device) }
 {
     match device {

@@ -23,8 +23,8 @@ mod upkeep;
 
 pub use lines::{
     abort_ended, abort_failed, abort_line, begin_ended, begin_line, begin_refused, commit_ended,
-    commit_failed, commit_line, format_failed, format_line, fuse_line, get_ended, get_line,
-    open_failed, open_line, put_ended, put_full, put_line, renew_line, stop_line,
+    commit_failed, commit_line, damage_line, format_failed, format_line, fuse_line, get_ended,
+    get_line, open_failed, open_line, put_ended, put_full, put_line, renew_line, stop_line,
 };
 pub use requests::{
     request_conflict, request_ended, request_failed, request_full, request_lines, request_refused,

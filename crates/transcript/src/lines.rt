@@ -1,14 +1,14 @@
 //! The lines of single words, one function each.
 ghost use Rattle.std.specs.Prelude.{◌≡◌, ◌++◌, IfOk, codes};
 ghost use Rattle.std.specs.Fmt.{decimal};
-ghost use Rattle.transcript.specs.Lines.{refused_line, failed_line, ended_line};
+ghost use Rattle.transcript.specs.Lines.{device_text, refused_line, failed_line, ended_line};
 ghost use Rattle.transcript.specs.Printing.{escaped, shown};
 
-use crate::endings::{ended_line, failed_line, full_line, refused_line};
+use crate::endings::{add_device, ended_line, failed_line, full_line, refused_line};
 use crate::pieces::{add, add_number, add_shown, begun, keyed, named};
 use script::{Device, Name};
 use std::alloc::{AllocError, Global};
-use store_model::{Key, Lsn, Value};
+use store_model::{Key, Lsn, PageNo, Value};
 
 /// `format ok`.
 pub fn format_line(alloc: Global) -> Result<Vec<u8>, AllocError>
@@ -50,21 +50,36 @@ pub fn stop_line(alloc: Global) -> Result<Vec<u8>, AllocError>
     begun(alloc, b"stop\n".as_slice())
 }
 
-/// `fuse log N`.
-pub fn fuse_line(alloc: Global, calls: u64) -> Result<Vec<u8>, AllocError>
-    ensures { IfOk result (λ out. out.items ≡ codes "fuse log " ++ decimal calls ++ codes "\n") }
+/// `fuse log N`, and so of each device.
+pub fn fuse_line(alloc: Global, device: Device, calls: u64) -> Result<Vec<u8>, AllocError>
+    ensures { IfOk result (λ out. out.items ≡ codes "fuse " ++ device_text device ++ codes " " ++ decimal calls ++ codes "\n") }
 {
-    let mut out = begun(alloc, b"fuse log ".as_slice())?;
+    let mut out = begun(alloc, b"fuse ".as_slice())?;
+    add_device(&mut out, device)?;
+    add(&mut out, b" ".as_slice())?;
     add_number(&mut out, calls)?;
     add(&mut out, b"\n".as_slice())?;
     Ok(out)
 }
 
-/// `renew log`.
-pub fn renew_line(alloc: Global) -> Result<Vec<u8>, AllocError>
-    ensures { IfOk result (λ out. out.items ≡ codes "renew log\n") }
+/// `renew log`, and so of each device.
+pub fn renew_line(alloc: Global, device: Device) -> Result<Vec<u8>, AllocError>
+    ensures { IfOk result (λ out. out.items ≡ codes "renew " ++ device_text device ++ codes "\n") }
 {
-    begun(alloc, b"renew log\n".as_slice())
+    let mut out = begun(alloc, b"renew ".as_slice())?;
+    add_device(&mut out, device)?;
+    add(&mut out, b"\n".as_slice())?;
+    Ok(out)
+}
+
+/// `damage P`.
+pub fn damage_line(alloc: Global, page: PageNo) -> Result<Vec<u8>, AllocError>
+    ensures { IfOk result (λ out. out.items ≡ codes "damage " ++ decimal page ++ codes "\n") }
+{
+    let mut out = begun(alloc, b"damage ".as_slice())?;
+    add_number(&mut out, u64::from(page))?;
+    add(&mut out, b"\n".as_slice())?;
+    Ok(out)
 }
 
 /// `T begin`.

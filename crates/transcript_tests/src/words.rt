@@ -4,7 +4,8 @@ use std::str;
 use std::test::Fail;
 use transcript::{
     Stat, Upkeep, abort_ended, abort_failed, abort_line, begin_refused, commit_ended,
-    commit_failed, stat_ended, stat_failed, stat_line, upkeep_ended, upkeep_failed, upkeep_line,
+    commit_failed, damage_line, fuse_line, renew_line, stat_ended, stat_failed, stat_line,
+    upkeep_ended, upkeep_failed, upkeep_line,
 };
 
 /// These bytes, if they are text.
@@ -66,6 +67,21 @@ fn words_answered_by_ok(rt: HostRuntime) -> Result<(), Fail> {
     }
     let vault = upkeep_failed(alloc, Upkeep::Help, Device::Vault)?;
     assert_eq!(rt; text_of(&vault), "help vault failed\n");
+    Ok(())
+}
+
+#[test]
+fn faults_that_a_script_asks_for(rt: HostRuntime) -> Result<(), Fail> {
+    let alloc = rt.alloc();
+    for (device, fuse, renew) in [
+        (Device::Log, "fuse log 3\n", "renew log\n"),
+        (Device::Data, "fuse data 3\n", "renew data\n"),
+        (Device::Vault, "fuse vault 3\n", "renew vault\n"),
+    ] {
+        assert_eq!(rt; text_of(&fuse_line(alloc, device, 3)?), fuse);
+        assert_eq!(rt; text_of(&renew_line(alloc, device)?), renew);
+    }
+    assert_eq!(rt; text_of(&damage_line(alloc, 16384)?), "damage 16384\n");
     Ok(())
 }
 

@@ -1,7 +1,6 @@
 use Rattle.std.proofs.Common.{◌≡◌, Bool, true, false, Ok, ap, subst, ◌∙◌}
 use Rattle.page_ops.specs.Hands.{Hand}
-use Rattle.page_ops.specs.Seeing.{is_upkeep}
-use Rattle.buffer_pool.specs.Writes.{IsWrittenAs}
+use Rattle.buffer_pool.specs.Writes.{is_written, IsWrittenAs}
 use Rattle.buffer_pool.proofs.Changes.{dropped, put_again, stored}
 use Rattle.buffer_pool.proofs.Entering.{looks}
 use Rattle.buffer_pool.proofs.moving.store.Goals as goal
@@ -13,7 +12,7 @@ false_is : (b : Bool) (old new : Hand) → b ≡ false → IsWrittenAs (Ok b) ol
 false_is b old new is w = subst (λ (x : Bool). IsWrittenAs (Ok x) old new) is w
 
 pub returns-then-not-is_dirty-clause-entered : goal.returns-then-not-is_dirty-clause-entered
-returns-then-not-is_dirty-clause-entered g c = looks _ _ _ is_upkeep _ _ _ _ _ _ c.see.ensures.seen
+returns-then-not-is_dirty-clause-entered g c = looks _ _ _ is_written _ _ _ _ _ _ c.see.ensures.seen
 
 pub returns-in-Ok-true-clause-stored : goal.returns-in-Ok-true-clause-stored
 returns-in-Ok-true-clause-stored g c =

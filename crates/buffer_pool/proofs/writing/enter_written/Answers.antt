@@ -1,9 +1,8 @@
 use Rattle.std.proofs.Common.{[], ◌∷◌, refl, Ok}
 use Rattle.wal_record.specs.declared.entry.Entry.TheVariants as entries
 use Rattle.std.proofs.lemmas.Result.{err_from_is_err_and}
-use Rattle.page_ops.specs.Seeing.{is_upkeep}
 use Rattle.page_ops.proofs.Gaining.{gains_of}
-use Rattle.buffer_pool.specs.Writes.{written_of}
+use Rattle.buffer_pool.specs.Writes.{is_written, written_of}
 use Rattle.buffer_pool.proofs.Entering.{upheld_one}
 use Rattle.buffer_pool.proofs.Storing.{entered_none, entered_one, has_rights, is_askable, is_group, is_timely, written_none, written_one}
 use Rattle.buffer_pool.proofs.writing.enter_written.Goals as goal
@@ -29,5 +28,5 @@ returns-clause-enters g c =
 
 pub returns-clause-entered : goal.returns-clause-entered
 returns-clause-entered g c =
-    upheld_one _ _ _ is_upkeep (entries.Rec c.enter.new.group.lsn (written_of c.args.page c.args.lsn)) _ _ _ _ refl (λ h. refl)
+    upheld_one _ _ _ is_written (entries.Rec c.enter.new.group.lsn (written_of c.args.page c.args.lsn)) _ _ _ _ refl (λ h. refl)
     (entered_one c.args.page c.args.lsn c.requires.page c.requires.lsn _ c.requires.group _ _ _ c.enter.new.group _ _ _ _ _ _ c.none-rights.ensures c.in-At.field-0 (Ok c.in_ok-enter.field-0) (λ i. Ok (c.in-At.is i)) c.in_ok-enter.ensures.entered c.in_ok-enter.ensures.filled)

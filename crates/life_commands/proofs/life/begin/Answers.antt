@@ -12,4 +12,4 @@ returns-in_err-begin_ended-in-Some-clause-err g c = by_memory c.from_residual.re
 
 pub returns-in_ok-begin_ended-in-Some-clause-ok : goal.returns-in_ok-begin_ended-in-Some-clause-ok
 returns-in_ok-begin_ended-in-Some-clause-ok g c = ended_before g.L.Disk g.N.Life.opens c.args.life.now (commands.Begin c.args.name.now) c.in-Some.at c.in_ok-begin_ended-in-Some.field-0.items (sym c.in-Some.ensures.end)
-    (may_begin g.L.Disk g.N.Life.opens c.args.life.now c.args.name.now (search rules)) tt c.in_ok-begin_ended-in-Some.ensures
+    (may_begin g.L.Disk g.N.Life.opens c.args.life.now c.args.name.now (search rules)) tt tt c.in_ok-begin_ended-in-Some.ensures

@@ -9,4 +9,4 @@ returns-in_err-upkeep_ended-in-Some-clause-err g c = by_memory c.from_residual.r
 
 pub returns-in_ok-upkeep_ended-in-Some-clause-ok : goal.returns-in_ok-upkeep_ended-in-Some-clause-ok
 returns-in_ok-upkeep_ended-in-Some-clause-ok g c = ended_before g.L.Disk g.N.Life.opens c.args.life.now commands.Checkpoint c.in-Some.at c.in_ok-upkeep_ended-in-Some.field-0.items (sym c.in-Some.ensures.end)
-    (may_look g.L.Disk g.N.Life.opens c.args.life.now) tt c.in_ok-upkeep_ended-in-Some.ensures
+    (may_look g.L.Disk g.N.Life.opens c.args.life.now) tt tt c.in_ok-upkeep_ended-in-Some.ensures

@@ -9,4 +9,4 @@ returns-in_err-stat_ended-in-Some-clause-err g c = by_memory c.from_residual.res
 
 pub returns-in_ok-stat_ended-in-Some-clause-ok : goal.returns-in_ok-stat_ended-in-Some-clause-ok
 returns-in_ok-stat_ended-in-Some-clause-ok g c = ended_before g.L.Disk g.N.Life.opens c.args.life.now commands.Stat c.in-Some.at c.in_ok-stat_ended-in-Some.field-0.items (sym c.in-Some.ensures.end)
-    (may_look g.L.Disk g.N.Life.opens c.args.life.now) tt c.in_ok-stat_ended-in-Some.ensures
+    (may_look g.L.Disk g.N.Life.opens c.args.life.now) tt tt c.in_ok-stat_ended-in-Some.ensures

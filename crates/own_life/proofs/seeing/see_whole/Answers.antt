@@ -23,6 +23,7 @@ returns g c =
       names = λ i. c.args.life.now.named.items;
       history = looked_same g.N.Life.opens g.N.Life.entries g.N.Life.session_entries old new c.args.life.now.pass c.end_seen.new.pass c.requires.alone seen;
       whole = c.end_seen.ensures.whole ∙ ap (λ (j : JournalState). j.history) (sym c.end_seen.ensures.same.0);
+      later = c.end_seen.ensures.seen.durable;
       durable = λ opening stands. of_known c.args.journal.now.counts.ended c.end_seen.result (IsDurableUpto opening c.end_seen.new.pass.log) c.end_seen.ensures.known (c.end_seen.ensures.durable opening stands);
       cause = c.end_seen.ensures.some;
     }

@@ -3,4 +3,6 @@ use Rattle.runner.proofs.NextCalls.{hands_on}
 use Rattle.runner.proofs.laws.next_call_law.Goals as goal
 
 pub returns : goal.returns
-returns g c = λ start disk first vault left0 pending left told0 told status call t. hands_on g.L.Disk (stage start call.turns) disk (call.back.leaves t)
+returns g c = λ start disk device first vault left0 pending left told0 told status call t.
+    let back = call.back in
+    hands_on g.L.Disk g.D.PageDevice (stage start call.turns) back.kept disk device (back.leaves t) (back.images t)

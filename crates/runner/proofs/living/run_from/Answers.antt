@@ -1,11 +1,11 @@
 use Rattle.std.proofs.Common.{subst, sym}
 use Rattle.life_commands.specs.declared.status.Status.TheVariants as statuses
-use Rattle.life_commands.specs.LogDisk.{seen}
+use Rattle.life_commands.specs.LogDisk.{IsWhole, seen}
 use Rattle.life_commands.specs.Turns.{stage}
 use Rattle.runner.specs.declared.at.At.TheVariants.{Inside, Outside}
-use Rattle.runner.specs.Clause.{Headline}
+use Rattle.runner.specs.Clause.{HandsBack, Headline}
 use Rattle.runner.specs.Machine.{Begun}
-use Rattle.runner.proofs.Places.{safe_begun}
+use Rattle.runner.proofs.Places.{rests_begun}
 use Rattle.runner.proofs.Runs.{between_at, ends_here}
 use Rattle.runner.proofs.living.run_from.Goals as goal
 
@@ -23,5 +23,5 @@ returns-in-Ok-clause-turns g c = λ v start first left told turns b.
 pub returns-in-Err-clause-turns : goal.returns-in-Err-clause-turns
 returns-in-Err-clause-turns g c = λ v start first left told turns b.
     let at = between_at g.L.Disk.tells (seen g.L.Disk v) (Begun g.L.Disk.tells (seen g.L.Disk v)) c.args.at (Inside c.in-Inside.life) c.in-Inside.is b in
-    subst (λ (d : g.row.L.Denot). Headline g.L.Disk.tells (seen g.L.Disk v) g.V.Vault start d first c.args.vault.now left c.args.input.now.pending (g.S.Source.left c.args.source.now) told (g.K.Sink.told c.args.sink.now) statuses.Memory) (sym c.into_device.ensures)
-    (ends_here g.L.Disk.tells (seen g.L.Disk v) c.in-Inside.life.log.log.device at (safe_begun (seen g.L.Disk v) g.L.Disk.tells c.in-Inside.life (stage start turns) at.holds.here))
+    subst (λ (d : g.row.L.Denot). Headline (IsWhole v) start (HandsBack g.L.Disk.tells (seen g.L.Disk v) g.D.PageDevice g.V.Vault d c.args.pages first c.args.vault.now) left c.args.input.now.pending (g.S.Source.left c.args.source.now) told (g.K.Sink.told c.args.sink.now) statuses.Memory) (sym c.into_device.ensures)
+    (ends_here g.L.Disk.tells (seen g.L.Disk v) g.D.PageDevice 0 c.in-Inside.life.log.log.device c.args.pages at (rests_begun g.L.Disk.tells (seen g.L.Disk v) g.D.PageDevice c.args.pages c.in-Inside.life (stage start turns) at.holds.here))

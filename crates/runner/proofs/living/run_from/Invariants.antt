@@ -1,9 +1,9 @@
-use Rattle.runner.specs.Machine.{BeginsOn}
+use Rattle.runner.specs.Machine.{OpensOn}
 use Rattle.runner.proofs.living.run_from.Given as goal
 
 abbrev pub ghosts-run_named-N-Life : goal.ghosts-run_named-N-Life
 ghosts-run_named-N-Life g a = record {
-  opens = BeginsOn g.L.Disk.tells g.L.Disk a.opened;
+  opens = OpensOn g.L.Disk.tells g.L.Disk g.D.PageDevice a.opened a.pages;
   entries = a.unnamed.entries;
   session_entries = a.unnamed.session_entries;
   log_faults = a.unnamed.log_faults;

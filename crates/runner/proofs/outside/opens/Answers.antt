@@ -1,16 +1,16 @@
-use Rattle.std.proofs.Common.{sym, subst, arith}
+use Rattle.std.proofs.Common.{[], sym, subst, arith}
 use Rattle.script.specs.declared.command.Command.TheVariants as commands
 use Rattle.life_commands.specs.Bytes.{Known}
 use Rattle.life_commands.specs.LogDisk.{Form, seen}
 use Rattle.life_commands.specs.Refusals.{RefusesAt}
 use Rattle.life_commands.specs.Turns.{bytes_after}
 use Rattle.life_commands.specs.declared.status.Status.TheVariants as statuses
-use Rattle.runner.specs.Machine.{Beginning, Begun}
+use Rattle.runner.specs.Machine.{Beginning, Begun, no_opening}
 use Rattle.runner.proofs.Without.{did_open, opened_leaves, open_kind, open_refused, refused_cause}
 use Rattle.runner.proofs.outside.opens.Goals as goal
 
 pub returns-in-Ok-open-clause-turns : goal.returns-in-Ok-open-clause-turns
-returns-in-Ok-open-clause-turns g c = λ v s line h. subst (λ (d : g.row.L.Denot). RefusesAt (seen g.L.Disk v) d s commands.Open line statuses.Memory × Known g.L.Disk.tells (seen g.L.Disk v) (bytes_after s.life s.bytes) d) (sym c.into_device.ensures)
+returns-in-Ok-open-clause-turns g c = λ v s line h. subst (λ (d : g.row.L.Denot). RefusesAt (seen g.L.Disk v) 0 d no_opening [] s commands.Open line statuses.Memory × Known g.L.Disk.tells (seen g.L.Disk v) (bytes_after s.life s.bytes) d) (sym c.into_device.ensures)
     (opened_leaves g.L.Disk.tells (seen g.L.Disk v) (Begun g.L.Disk.tells (seen g.L.Disk v)) c.args.disk s h c.in-Ok-open.life line (c.in-Ok-open.ensures.begun v) c.in-Ok-open.ensures.known)
 
 pub returns-in-Ok-open_line-clause-turns : goal.returns-in-Ok-open_line-clause-turns

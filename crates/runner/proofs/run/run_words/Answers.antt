@@ -1,31 +1,32 @@
 use Rattle.std.proofs.Common.{sym, ap, subst, ℕ}
 use Rattle.media.specs.Cause.{Rose}
 use Rattle.media.specs.Fused.{Fused}
-use Rattle.life_commands.specs.LogDisk.{seen}
-use Rattle.runner.proofs.Fused.{asked_fused, begun_fused, ended_fused}
+use Rattle.life_commands.specs.LogDisk.{IsWhole}
+use Rattle.runner.proofs.Fused.{asked_fused, begun_fused, ended_fused, handed_back}
 use Rattle.runner.proofs.Runs.{not_called, not_generated, no_buffer, ran_whole}
 use Rattle.runner.proofs.run.run_words.Goals as goal
 
 pub returns-in-Memory-clause-headline : goal.returns-in-Memory-clause-headline
-returns-in-Memory-clause-headline g c = λ v start keeps known. no_buffer g.L.Disk.tells (seen g.L.Disk v) g.V.Vault start c.args.devices.log c.args.devices.vault _ _ keeps known
+returns-in-Memory-clause-headline g c = λ v start keeps known. no_buffer (IsWhole v) start _ _ _ (handed_back g.L.Disk g.D.PageDevice g.V.Vault v start c.args.devices.log c.args.devices.pages c.args.devices.vault keeps known)
 
 pub returns-in-Usage-clause-headline : goal.returns-in-Usage-clause-headline
-returns-in-Usage-clause-headline g c = λ v start keeps known. not_called g.L.Disk.tells (seen g.L.Disk v) g.V.Vault start c.args.devices.log c.args.devices.vault _ _ keeps known
+returns-in-Usage-clause-headline g c = λ v start keeps known. not_called (IsWhole v) start _ _ _ (handed_back g.L.Disk g.D.PageDevice g.V.Vault v start c.args.devices.log c.args.devices.pages c.args.devices.vault keeps known)
 
 pub returns-in-Generate-clause-headline : goal.returns-in-Generate-clause-headline
-returns-in-Generate-clause-headline g c = λ v start keeps known. not_generated g.L.Disk.tells (seen g.L.Disk v) g.V.Vault start c.args.devices.log c.args.devices.vault _ _ keeps known
+returns-in-Generate-clause-headline g c = λ v start keeps known. not_generated (IsWhole v) start _ _ _ (handed_back g.L.Disk g.D.PageDevice g.V.Vault v start c.args.devices.log c.args.devices.pages c.args.devices.vault keeps known)
 
 pub returns-in-Err-new-clause-headline : goal.returns-in-Err-new-clause-headline
-returns-in-Err-new-clause-headline g c = λ v start keeps known. no_buffer g.L.Disk.tells (seen g.L.Disk v) g.V.Vault start c.args.devices.log c.args.devices.vault _ _ keeps known
+returns-in-Err-new-clause-headline g c = λ v start keeps known. no_buffer (IsWhole v) start _ _ _ (handed_back g.L.Disk g.D.PageDevice g.V.Vault v start c.args.devices.log c.args.devices.pages c.args.devices.vault keeps known)
 
 pub returns-clause-headline : goal.returns-clause-headline
 returns-clause-headline g c = λ v start keeps known.
-    ran_whole g.L.Disk.tells (seen g.L.Disk v) g.V.Vault start c.into_inner.result c.args.devices.vault c.run-status.new.vault (g.S.Source.left c.args.source.now) (g.S.Source.left c.run-status.new.source) (g.K.Sink.told c.args.sink.now) (g.K.Sink.told c.run-status.new.sink) c.in-Ok-new.input c.run-status.new.input c.run-status.result.0 c.in-Ok-new.ensures
-    (ended_fused g.L.Disk g.V.Vault c.args.devices.vault c.run-status.new.vault v c.run-status.result.1 c.into_inner.result c.into_inner.ensures start _ _ _ _ _ c.run-status.result.0 (c.run-status.ensures.headline v start (begun_fused g.L.Disk v c.new-2.result c.args.devices.log c.new-2.ensures start keeps known)))
+    ran_whole (IsWhole v) start _ (g.S.Source.left c.args.source.now) (g.S.Source.left c.run-status.new.source) (g.K.Sink.told c.args.sink.now) (g.K.Sink.told c.run-status.new.sink) c.in-Ok-new.input c.run-status.new.input c.run-status.result.0 c.in-Ok-new.ensures
+    (ended_fused g.L.Disk g.D.PageDevice g.V.Vault v c.args.devices.vault c.run-status.new.vault c.run-status.result.1 c.run-status.result.2 c.into_inner.result c.into_inner-2.result c.into_inner.ensures c.into_inner-2.ensures
+    (c.run-status.ensures.headline v start (begun_fused g.L.Disk g.D.PageDevice v c.new-3.result c.new-2.result c.args.devices.log c.args.devices.pages c.new-3.ensures c.new-2.ensures start keeps known)))
 
 pub returns-clause-complete : goal.returns-clause-complete
-returns-clause-complete g c = λ call t last keeps source sink own.
-    asked_fused g.L.Disk c.new-2.result c.args.devices.log c.new-2.ensures c.run-status.ensures.headline t last keeps c.run-status.ensures.called
+returns-clause-complete g c = λ call t p last keeps images source sink own.
+    asked_fused g.L.Disk g.D.PageDevice c.new-3.result c.new-2.result c.args.devices.log c.args.devices.pages c.new-3.ensures c.new-2.ensures c.run-status.ensures.headline t p last keeps images c.run-status.ensures.called
     (λ is. source (c.run-status.ensures.cause.source is))
     (λ is. sink (c.run-status.ensures.cause.sink is))
-    (λ is. own (subst (λ (n : ℕ). Rose (g.L.Disk.faults c.args.devices.log) n) (ap (λ (d : g.row.L.Denot). g.L.Disk.faults d) (sym c.into_inner.ensures)) (subst (λ (f : Fused g.row.L.Denot). Rose (g.L.Disk.faults f.inner) (g.L.Disk.faults c.run-status.result.1.inner)) c.new-2.ensures (c.run-status.ensures.cause.log is))))
+    (λ is. own (subst (λ (n : ℕ). Rose (g.L.Disk.faults c.args.devices.log) n) (ap (λ (d : g.row.L.Denot). g.L.Disk.faults d) (sym c.into_inner.ensures)) (subst (λ (f : Fused g.row.L.Denot). Rose (g.L.Disk.faults f.inner) (g.L.Disk.faults c.run-status.result.1.inner)) c.new-3.ensures (c.run-status.ensures.cause.log is))))

@@ -13,7 +13,7 @@ use Rattle.own_life.proofs.life.OwnLife.abort.Goals as goal
 
 pub invariant_of-self : goal.invariant_of-self
 invariant_of-self g c =
-    let q = called_by c.self.inside.journal.counts c.self.inside.journal.journal c.self.inside.life c.args.self.now c.self.invariant c.self.view_is c.see_whole.ensures c.requires.open c.abort-ended.ensures.keeps in
+    let q = called_by c.self.inside.journal.counts c.self.inside.journal.journal c.self.inside.life c.args.self.now c.self.invariant c.self.view_is c.see_whole.ensures c.requires.open c.abort-ended.ensures.keeps c.abort-ended.ensures.durable in
     kept_by c.self.inside.journal.counts c.self.inside.journal.journal c.self.inside.life c.args.self.now c.self.invariant c.self.view_is c.see_whole.ensures c.abort-ended.ensures.keeps c.abort-ended.ensures.named (brings q g.N.Life.made c.abort-ended.new.life.pass.log c.abort-ended.result c.abort-ended.ensures.open c.abort-ended.ensures.refused)
 
 pub returns-clause-aborts : goal.returns-clause-aborts
@@ -32,13 +32,13 @@ returns-clause-names g c =
 pub returns-clause-goes : goal.returns-clause-goes
 returns-clause-goes g c =
     let new = state_of c.see_whole.new.journal.counts c.see_whole.new.journal.journal c.see_whole.new.life in
-    let q = called_by c.self.inside.journal.counts c.self.inside.journal.journal c.self.inside.life c.args.self.now c.self.invariant c.self.view_is c.see_whole.ensures c.requires.open c.abort-ended.ensures.keeps in
+    let q = called_by c.self.inside.journal.counts c.self.inside.journal.journal c.self.inside.life c.args.self.now c.self.invariant c.self.view_is c.see_whole.ensures c.requires.open c.abort-ended.ensures.keeps c.abort-ended.ensures.durable in
     subst (λ (r : Result ℕ Fault). OnOk r (GoesOn c.args.self.now new)) (sym c.unvaulted.ensures)
     (vault_on_ok (GoesOn c.args.self.now new) c.abort-ended.result (meets_done q g.N.Life.made c.abort-ended.new.life.pass.log c.abort-ended.result c.abort-ended.ensures.open))
 
 pub returns-clause-refused : goal.returns-clause-refused
 returns-clause-refused g c =
     let new = state_of c.see_whole.new.journal.counts c.see_whole.new.journal.journal c.see_whole.new.life in
-    let q = called_by c.self.inside.journal.counts c.self.inside.journal.journal c.self.inside.life c.args.self.now c.self.invariant c.self.view_is c.see_whole.ensures c.requires.open c.abort-ended.ensures.keeps in
+    let q = called_by c.self.inside.journal.counts c.self.inside.journal.journal c.self.inside.life c.args.self.now c.self.invariant c.self.view_is c.see_whole.ensures c.requires.open c.abort-ended.ensures.keeps c.abort-ended.ensures.durable in
     subst (λ (r : Result ℕ Fault). IfErr r (Fails g.N.Life.opens c.args.self.now new)) (sym c.unvaulted.ensures)
     (bring_refused q g.N.Life.made c.abort-ended.new.life.pass.log c.abort-ended.result c.abort-ended.ensures.refused)

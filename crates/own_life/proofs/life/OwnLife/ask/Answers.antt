@@ -17,7 +17,7 @@ use Rattle.own_life.proofs.life.OwnLife.ask.Goals as goal
 
 pub invariant_of-self : goal.invariant_of-self
 invariant_of-self g c =
-    let q = called_by c.self.inside.journal.counts c.self.inside.journal.journal c.self.inside.life c.args.self.now c.self.invariant c.self.view_is c.see_whole.ensures c.requires.open c.ask-answered.ensures.keeps in
+    let q = called_by c.self.inside.journal.counts c.self.inside.journal.journal c.self.inside.life c.args.self.now c.self.invariant c.self.view_is c.see_whole.ensures c.requires.open c.ask-answered.ensures.keeps c.ask-answered.ensures.durable in
     kept_by c.self.inside.journal.counts c.self.inside.journal.journal c.self.inside.life c.args.self.now c.self.invariant c.self.view_is c.see_whole.ensures c.ask-answered.ensures.keeps c.ask-answered.ensures.named (asks q g.N.Life.made c.ask-answered.new.life.pass.log (IsRefusal c.args.request) c.ask-answered.result c.ask-answered.ensures.open c.ask-answered.ensures.refused)
 
 pub returns-clause-asks : goal.returns-clause-asks
@@ -58,13 +58,13 @@ returns-clause-gives_none g c =
 pub returns-clause-goes : goal.returns-clause-goes
 returns-clause-goes g c =
     let new = state_of c.see_whole.new.journal.counts c.see_whole.new.journal.journal c.see_whole.new.life in
-    let q = called_by c.self.inside.journal.counts c.self.inside.journal.journal c.self.inside.life c.args.self.now c.self.invariant c.self.view_is c.see_whole.ensures c.requires.open c.ask-answered.ensures.keeps in
+    let q = called_by c.self.inside.journal.counts c.self.inside.journal.journal c.self.inside.life c.args.self.now c.self.invariant c.self.view_is c.see_whole.ensures c.requires.open c.ask-answered.ensures.keeps c.ask-answered.ensures.durable in
     subst (λ (r : Result Answered Fault). OnOk r (GoesOn c.args.self.now new)) (sym c.unvaulted.ensures)
     (vault_on_ok (GoesOn c.args.self.now new) c.ask-answered.result (meets_done q g.N.Life.made c.ask-answered.new.life.pass.log c.ask-answered.result c.ask-answered.ensures.open))
 
 pub returns-clause-refused : goal.returns-clause-refused
 returns-clause-refused g c =
     let new = state_of c.see_whole.new.journal.counts c.see_whole.new.journal.journal c.see_whole.new.life in
-    let q = called_by c.self.inside.journal.counts c.self.inside.journal.journal c.self.inside.life c.args.self.now c.self.invariant c.self.view_is c.see_whole.ensures c.requires.open c.ask-answered.ensures.keeps in
+    let q = called_by c.self.inside.journal.counts c.self.inside.journal.journal c.self.inside.life c.args.self.now c.self.invariant c.self.view_is c.see_whole.ensures c.requires.open c.ask-answered.ensures.keeps c.ask-answered.ensures.durable in
     subst (λ (r : Result Answered Fault). IfErr r (FailsToAnswer (IsRefusal c.args.request) g.N.Life.opens c.args.self.now new)) (sym c.unvaulted.ensures)
     (answer_refused q g.N.Life.made c.ask-answered.new.life.pass.log (IsRefusal c.args.request) c.ask-answered.result c.ask-answered.ensures.refused)

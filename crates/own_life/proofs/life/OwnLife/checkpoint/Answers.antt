@@ -9,7 +9,7 @@ use Rattle.own_life.proofs.life.OwnLife.checkpoint.Goals as goal
 
 pub invariant_of-self : goal.invariant_of-self
 invariant_of-self g c =
-    let q = called_by c.self.inside.journal.counts c.self.inside.journal.journal c.self.inside.life c.args.self.now c.self.invariant c.self.view_is c.see_whole.ensures c.requires.open c.checkpoint-taken.ensures.keeps in
+    let q = called_by c.self.inside.journal.counts c.self.inside.journal.journal c.self.inside.life c.args.self.now c.self.invariant c.self.view_is c.see_whole.ensures c.requires.open c.checkpoint-taken.ensures.keeps c.checkpoint-taken.ensures.durable in
     kept_by c.self.inside.journal.counts c.self.inside.journal.journal c.self.inside.life c.args.self.now c.self.invariant c.self.view_is c.see_whole.ensures c.checkpoint-taken.ensures.keeps c.checkpoint-taken.ensures.named (ends q g.N.Life.made c.checkpoint-taken.new.self.pass.log c.checkpoint-taken.result c.checkpoint-taken.ensures.ends)
 
 pub returns-clause-entered : goal.returns-clause-entered
@@ -22,10 +22,10 @@ returns-clause-names g c = names_left c.self.inside.journal.counts c.self.inside
 
 pub returns-clause-goes : goal.returns-clause-goes
 returns-clause-goes g c =
-    let q = called_by c.self.inside.journal.counts c.self.inside.journal.journal c.self.inside.life c.args.self.now c.self.invariant c.self.view_is c.see_whole.ensures c.requires.open c.checkpoint-taken.ensures.keeps in
+    let q = called_by c.self.inside.journal.counts c.self.inside.journal.journal c.self.inside.life c.args.self.now c.self.invariant c.self.view_is c.see_whole.ensures c.requires.open c.checkpoint-taken.ensures.keeps c.checkpoint-taken.ensures.durable in
     ends_done q g.N.Life.made c.checkpoint-taken.new.self.pass.log c.checkpoint-taken.result c.checkpoint-taken.ensures.ends
 
 pub returns-clause-refused : goal.returns-clause-refused
 returns-clause-refused g c =
-    let q = called_by c.self.inside.journal.counts c.self.inside.journal.journal c.self.inside.life c.args.self.now c.self.invariant c.self.view_is c.see_whole.ensures c.requires.open c.checkpoint-taken.ensures.keeps in
+    let q = called_by c.self.inside.journal.counts c.self.inside.journal.journal c.self.inside.life c.args.self.now c.self.invariant c.self.view_is c.see_whole.ensures c.requires.open c.checkpoint-taken.ensures.keeps c.checkpoint-taken.ensures.durable in
     flush_refused q g.N.Life.made c.checkpoint-taken.new.self.pass.log c.checkpoint-taken.result c.checkpoint-taken.ensures.refused c.checkpoint-taken.ensures.ends

@@ -11,7 +11,7 @@ use Rattle.own_life.proofs.life.OwnLife.commit.Goals as goal
 
 pub invariant_of-self : goal.invariant_of-self
 invariant_of-self g c =
-    let q = called_by c.self.inside.journal.counts c.self.inside.journal.journal c.self.inside.life c.args.self.now c.self.invariant c.self.view_is c.see_whole.ensures c.requires.open c.commit-committed.ensures.keeps in
+    let q = called_by c.self.inside.journal.counts c.self.inside.journal.journal c.self.inside.life c.args.self.now c.self.invariant c.self.view_is c.see_whole.ensures c.requires.open c.commit-committed.ensures.keeps c.commit-committed.ensures.durable in
     let there = stands_for c.self.inside.journal.counts c.self.inside.journal.journal c.self.inside.life c.args.self.now c.self.invariant c.self.view_is c.args.name.now c.requires.active in
     kept_by c.self.inside.journal.counts c.self.inside.journal.journal c.self.inside.life c.args.self.now c.self.invariant c.self.view_is c.see_whole.ensures c.commit-committed.ensures.keeps c.commit-committed.ensures.named (ends q g.N.Life.made c.commit-committed.new.self.pass.log c.commit-committed.result (c.commit-committed.ensures.ends there.0 there.1))
 
@@ -26,12 +26,12 @@ returns-clause-names g c = names_left c.self.inside.journal.counts c.self.inside
 
 pub returns-clause-goes : goal.returns-clause-goes
 returns-clause-goes g c =
-    let q = called_by c.self.inside.journal.counts c.self.inside.journal.journal c.self.inside.life c.args.self.now c.self.invariant c.self.view_is c.see_whole.ensures c.requires.open c.commit-committed.ensures.keeps in
+    let q = called_by c.self.inside.journal.counts c.self.inside.journal.journal c.self.inside.life c.args.self.now c.self.invariant c.self.view_is c.see_whole.ensures c.requires.open c.commit-committed.ensures.keeps c.commit-committed.ensures.durable in
     let there = stands_for c.self.inside.journal.counts c.self.inside.journal.journal c.self.inside.life c.args.self.now c.self.invariant c.self.view_is c.args.name.now c.requires.active in
     ends_done q g.N.Life.made c.commit-committed.new.self.pass.log c.commit-committed.result (c.commit-committed.ensures.ends there.0 there.1)
 
 pub returns-clause-refused : goal.returns-clause-refused
 returns-clause-refused g c =
-    let q = called_by c.self.inside.journal.counts c.self.inside.journal.journal c.self.inside.life c.args.self.now c.self.invariant c.self.view_is c.see_whole.ensures c.requires.open c.commit-committed.ensures.keeps in
+    let q = called_by c.self.inside.journal.counts c.self.inside.journal.journal c.self.inside.life c.args.self.now c.self.invariant c.self.view_is c.see_whole.ensures c.requires.open c.commit-committed.ensures.keeps c.commit-committed.ensures.durable in
     let there = stands_for c.self.inside.journal.counts c.self.inside.journal.journal c.self.inside.life c.args.self.now c.self.invariant c.self.view_is c.args.name.now c.requires.active in
     commit_refused q g.N.Life.made c.commit-committed.new.self.pass.log c.commit-committed.result (c.commit-committed.ensures.refused there.0 there.1) (c.commit-committed.ensures.ends there.0 there.1)

@@ -10,7 +10,7 @@ use Rattle.own_life.proofs.life.OwnLife.survey.Goals as goal
 
 pub invariant_of-self : goal.invariant_of-self
 invariant_of-self g c =
-    let q = called_by c.self.inside.journal.counts c.self.inside.journal.journal c.self.inside.life c.args.self.now c.self.invariant c.self.view_is c.see_whole.ensures c.requires.open c.survey-known.ensures.keeps in
+    let q = called_by c.self.inside.journal.counts c.self.inside.journal.journal c.self.inside.life c.args.self.now c.self.invariant c.self.view_is c.see_whole.ensures c.requires.open c.survey-known.ensures.keeps c.survey-known.ensures.durable in
     kept_by c.self.inside.journal.counts c.self.inside.journal.journal c.self.inside.life c.args.self.now c.self.invariant c.self.view_is c.see_whole.ensures c.survey-known.ensures.keeps (λ has. subst (λ (l : List Entry). AreNamed l (actives c.survey-known.new.self.named.items)) (sym c.survey-known.ensures.same) (subst (λ v. AreNamed c.self.inside.life.pass.log (actives v.items)) (sym c.survey-known.ensures.names) has)) (ends q g.N.Life.made c.survey-known.new.self.pass.log c.survey-known.result c.survey-known.ensures.ends)
 
 pub returns-clause-same : goal.returns-clause-same
@@ -24,10 +24,10 @@ returns-clause-survey g c = surveyed g.N.Life.opens c.survey-known.new.self.pass
 
 pub returns-clause-goes : goal.returns-clause-goes
 returns-clause-goes g c =
-    let q = called_by c.self.inside.journal.counts c.self.inside.journal.journal c.self.inside.life c.args.self.now c.self.invariant c.self.view_is c.see_whole.ensures c.requires.open c.survey-known.ensures.keeps in
+    let q = called_by c.self.inside.journal.counts c.self.inside.journal.journal c.self.inside.life c.args.self.now c.self.invariant c.self.view_is c.see_whole.ensures c.requires.open c.survey-known.ensures.keeps c.survey-known.ensures.durable in
     ends_done q g.N.Life.made c.survey-known.new.self.pass.log c.survey-known.result c.survey-known.ensures.ends
 
 pub returns-clause-refused : goal.returns-clause-refused
 returns-clause-refused g c =
-    let q = called_by c.self.inside.journal.counts c.self.inside.journal.journal c.self.inside.life c.args.self.now c.self.invariant c.self.view_is c.see_whole.ensures c.requires.open c.survey-known.ensures.keeps in
+    let q = called_by c.self.inside.journal.counts c.self.inside.journal.journal c.self.inside.life c.args.self.now c.self.invariant c.self.view_is c.see_whole.ensures c.requires.open c.survey-known.ensures.keeps c.survey-known.ensures.durable in
     look_refused q g.N.Life.made c.survey-known.new.self.pass.log c.survey-known.result c.survey-known.ensures.refused c.survey-known.ensures.ends

@@ -1,0 +1,70 @@
+//! A life is closed.
+ghost use Rattle.std.specs.Prelude.{◌≡◌, ◌≤◌, ℕ, None, [], IfErr, IfOk};
+ghost use Rattle.script.specs.declared.command.Command.TheVariants as commands;
+ghost use Rattle.life_commands.specs.Causes.{LifeCause};
+ghost use Rattle.life_commands.specs.Promises.{Closed, Refused};
+
+use crate::failing::{MOST, fail};
+use crate::status::Status;
+use media::{Disk, PageDevice};
+use own_life::{LifePages, OwnLife};
+use page_ops::Life;
+use script::Device;
+use std::alloc::Global;
+use std::sync::Wait;
+use transcript::Upkeep;
+
+/// Closes a life in which no name is active: its dirty pages are written, and then the whole log is durable. Also where the log fails
+/// in it, or had ended the life before, the life is over with the line that is given.
+pub fn close<'a, N: Life, L: Disk, D: PageDevice, P: LifePages<N, D>, R: Wait>(
+    rt: &R,
+    alloc: Global,
+    life: &mut OwnLife<'a, L, N>,
+    pages: &mut P,
+    line: u64,
+) -> Result<Vec<u8>, Status>
+    requires idle { P.idle pages.old }
+    ensures idle { P.idle pages.new }
+    ensures ok { IfOk result (λ lines. Closed L.Disk D.PageDevice N.opens life.old life.new lines.items) }
+    ensures err { IfErr result (Refused L.Disk N.opens life.old life.new commands.Close line) }
+    ensures cause { IfErr result (LifeCause life.old.calls.own life.new.calls.own) }
+    ensures later { life.old.calls.own ≤ life.new.calls.own }
+{
+    if life.active() > 0 {
+        return Err(Status::Script { line });
+    }
+    match life.ended() {
+        Some(at) => Ok(transcript::upkeep_ended(alloc, Upkeep::Close, at)?),
+        None => close_open(rt, alloc, life, pages),
+    }
+}
+
+/// Closes a life that goes on.
+fn close_open<'a, N: Life, L: Disk, D: PageDevice, P: LifePages<N, D>, R: Wait>(
+    rt: &R,
+    alloc: Global,
+    life: &mut OwnLife<'a, L, N>,
+    pages: &mut P,
+) -> Result<Vec<u8>, Status>
+    requires goes { life.old.ended ≡ None }
+    requires active { life.old.active ≡ [] }
+    requires idle { P.idle pages.old }
+    ensures idle { P.idle pages.new }
+    ensures ok { IfOk result (λ lines. Closed L.Disk D.PageDevice N.opens life.old life.new lines.items) }
+    ensures err { IfErr result (λ status. (line : ℕ) → Refused L.Disk N.opens life.old life.new commands.Close line status) }
+    ensures cause { IfErr result (LifeCause life.old.calls.own life.new.calls.own) }
+    ensures later { life.old.calls.own ≤ life.new.calls.own }
+{
+    let before = life.refused();
+    if before >= MOST {
+        return Err(Status::Memory);
+    }
+    let done = transcript::upkeep_line(alloc, Upkeep::Close)?;
+    let failed = transcript::upkeep_failed(alloc, Upkeep::Close, Device::Log)?;
+    let closed = life.close(rt, alloc, pages);
+    life.look();
+    match closed {
+        Ok(()) => Ok(done),
+        Err(fault) => fail(fault, failed, before, life.refused()),
+    }
+}

@@ -1,0 +1,102 @@
+//! Faults of the devices, as the script asks for them.
+ghost use Rattle.std.specs.Prelude.{◌≡◌, ◌≢◌, ◌≤◌, ◌++◌, IfErr, IfOk, codes};
+ghost use Rattle.std.specs.Fmt.{decimal};
+ghost use Rattle.journal.specs.State.{ArmsDisk};
+ghost use Rattle.script.specs.declared.command.Command.TheVariants as commands;
+ghost use Rattle.script.specs.declared.command.Device.TheVariants.{Log};
+ghost use Rattle.life_commands.specs.Causes.{LifeCause};
+ghost use Rattle.life_commands.specs.Promises.{Did, Refused};
+ghost use Rattle.life_commands.specs.declared.status.Status.TheVariants as statuses;
+
+use crate::status::Status;
+use media::{Disk, PageDevice};
+use own_life::{LifePages, OwnLife};
+use page_ops::Life;
+use script::Device;
+use std::alloc::Global;
+use store_model::PageNo;
+
+/// Reads of the page from the data device fail verification until its next write. That the device fails to be spoiled is told
+/// nowhere.
+pub fn damage<N: Life, D: PageDevice, P: LifePages<N, D>>(
+    alloc: Global,
+    pages: &mut P,
+    page: PageNo,
+) -> Result<Vec<u8>, Status>
+    requires idle { P.idle pages.old }
+    ensures idle { P.idle pages.new }
+    ensures line { IfOk result (λ out. out.items ≡ codes "damage " ++ decimal page ++ codes "\n") }
+    ensures memory { IfErr result (λ status. status ≡ statuses.Memory) }
+{
+    let out = transcript::damage_line(alloc, page)?;
+    pages.damage(page);
+    Ok(out)
+}
+
+/// Arms a device's fuse, which lets so many more calls pass.
+pub fn fuse<'a, N: Life, L: Disk, D: PageDevice, P: LifePages<N, D>>(
+    alloc: Global,
+    life: &mut OwnLife<'a, L, N>,
+    pages: &mut P,
+    device: Device,
+    calls: u64,
+    line: u64,
+) -> Result<Vec<u8>, Status>
+    requires idle { P.idle pages.old }
+    ensures idle { P.idle pages.new }
+    ensures ok { IfOk result (λ lines. Did L.Disk N.opens life.old life.new (commands.Fuse device calls) lines.items) }
+    ensures err { IfErr result (Refused L.Disk N.opens life.old life.new (commands.Fuse device calls) line) }
+    ensures cause { IfErr result (LifeCause life.old.calls.own life.new.calls.own) }
+    ensures later { life.old.calls.own ≤ life.new.calls.own }
+{
+    if device == Device::Vault {
+        return Err(Status::NotBuilt { line });
+    }
+    let out = transcript::fuse_line(alloc, device, calls)?;
+    arm(life, pages, device, Some(calls));
+    Ok(out)
+}
+
+/// Renews a device's fuse.
+pub fn renew<'a, N: Life, L: Disk, D: PageDevice, P: LifePages<N, D>>(
+    alloc: Global,
+    life: &mut OwnLife<'a, L, N>,
+    pages: &mut P,
+    device: Device,
+    line: u64,
+) -> Result<Vec<u8>, Status>
+    requires idle { P.idle pages.old }
+    ensures idle { P.idle pages.new }
+    ensures ok { IfOk result (λ lines. Did L.Disk N.opens life.old life.new (commands.Renew device) lines.items) }
+    ensures err { IfErr result (Refused L.Disk N.opens life.old life.new (commands.Renew device) line) }
+    ensures cause { IfErr result (LifeCause life.old.calls.own life.new.calls.own) }
+    ensures later { life.old.calls.own ≤ life.new.calls.own }
+{
+    if device == Device::Vault {
+        return Err(Status::NotBuilt { line });
+    }
+    let out = transcript::renew_line(alloc, device)?;
+    arm(life, pages, device, None);
+    Ok(out)
+}
+
+/// Arms the fuse of a device that a life calls, or renews it. The vault is none.
+fn arm<'a, N: Life, L: Disk, D: PageDevice, P: LifePages<N, D>>(
+    life: &mut OwnLife<'a, L, N>,
+    pages: &mut P,
+    device: Device,
+    n: Option<u64>,
+)
+    requires idle { P.idle pages.old }
+    ensures idle { P.idle pages.new }
+    ensures same { (life.new.history ≡ life.old.history) × (life.new.active ≡ life.old.active) × (life.new.ended ≡ life.old.ended) }
+    ensures own { life.new.calls.own ≡ life.old.calls.own }
+    ensures log { device ≡ Log → ArmsDisk L.fuses n life.old.calls life.new.calls }
+    ensures other { device ≢ Log → life.new.calls ≡ life.old.calls }
+{
+    match device {
+        Device::Log => life.fuse(n),
+        Device::Data => pages.fuse(n),
+        Device::Vault => {}
+    }
+}

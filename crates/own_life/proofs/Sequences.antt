@@ -1,0 +1,101 @@
+-- Calls of a life one after the other: what they make of it together, and which pages are then dirty.
+use Rattle.std.proofs.Common.{◌≡◌, ℕ, ◌<◌, ◌≤◌, List, Option, Some, None, Bool, true, false, Result, Ok, Err, refl, ltb-true, ◌∙◌, arith, inl, inr}
+use Rattle.std.specs.Prelude.{◌⊎◌, IfErr, OnOk}
+use Rattle.std.proofs.Math.Dec.{ltb}
+use Rattle.std.proofs.lemmas.Bool.{ltb-false}
+use Rattle.media.specs.Cause.{Rose}
+use Rattle.store_model.specs.declared.fault.Fault.{Fault}
+use Rattle.store_model.specs.declared.fault.Fault.TheVariants as faults
+use Rattle.wal_record.specs.declared.record.Record.{Record}
+use Rattle.page_ops.specs.Seeing.{Calls}
+use Rattle.own_life.specs.Pages.{IsNextWritten}
+use Rattle.own_life.specs.State.{BreaksOff, CallsGoOn, Fails, FailsToFlush, GoesOn, LifeState}
+
+-- ---- how they leave the life
+
+calls_then : (failed : Type 0) (x y z : Calls) → CallsGoOn ⊥ x y → CallsGoOn failed y z → CallsGoOn failed x z
+calls_then failed x y z a b =
+    let r = a.refused in
+    let r' = b.refused in
+    let o = a.own in
+    let o' = b.own in
+    record {
+      unarmed = λ none. let first = a.unarmed none in let then = b.unarmed first.0 in (then.0, then.1 ∙ first.1);
+      refused = omega (arith, r, r');
+      own = omega (arith, o, o');
+      cause = λ f. rose (b.cause f);
+    }
+  where
+    then_rose : (k l m : ℕ) → k ≤ l → Rose l m → Rose k m
+    then_rose k l m more up = omega (arith, more, up)
+
+    rose : Rose y.own z.own ⊎ Rose y.refused z.refused → Rose x.own z.own ⊎ Rose x.refused z.refused
+    rose (inl h) = inl (then_rose x.own y.own z.own a.own h)
+    rose (inr h) = inr (then_rose x.refused y.refused z.refused a.refused h)
+
+pub goes_self : (x : LifeState) → x.ended ≡ None → GoesOn x x
+goes_self x none = record {
+  ended = none;
+  later = omega arith;
+  calls = record { unarmed = λ is. (is, refl); refused = omega arith; own = omega arith; cause = λ no. absurd no };
+}
+
+pub goes_then : (x y z : LifeState) → GoesOn x y → GoesOn y z → GoesOn x z
+goes_then x y z a b =
+    let l = a.later in
+    let l' = b.later in
+    record { ended = b.ended; later = omega (arith, l, l'); calls = calls_then ⊥ x.calls y.calls z.calls a.calls b.calls }
+
+module _ (opens : List Record → Type 0) (x y z : LifeState) (a : GoesOn x y) where
+  breaks_then : BreaksOff opens y z → BreaksOff opens x z
+  breaks_then b =
+      let l = a.later in
+      let l' = b.later in
+      record { at = b.at; ended = b.ended; later = omega (arith, l, l'); durable = b.durable; calls = calls_then (Unit {0}) x.calls y.calls z.calls a.calls b.calls }
+
+  pub fails_then : (f : Fault) → Fails opens y z f → Fails opens x z f
+  fails_then faults.Memory b = goes_then x y z a b
+  fails_then faults.LogFault b = breaks_then b
+  fails_then (faults.LogBad block byte) b = (goes_then x y z a b.0, b.1)
+  fails_then _ b = absurd b
+
+  flush_fails : (f : Fault) → FailsToFlush opens y z f → Fails opens x z f
+  flush_fails faults.Memory b = goes_then x y z a b
+  flush_fails faults.LogFault b = breaks_then b
+  flush_fails _ b = absurd b
+
+  pub flush_then : {T : Type 0} (r : Result T Fault) → IfErr r (FailsToFlush opens y z) → IfErr r (Fails opens x z)
+  flush_then (Ok t) b = tt
+  flush_then (Err f) b = flush_fails f b
+
+  pub done_then : {T : Type 0} (r : Result T Fault) → OnOk r (GoesOn y z) → OnOk r (GoesOn x z)
+  done_then (Ok t) b = goes_then x y z a b
+  done_then (Err f) b = tt
+
+-- ---- which pages are dirty
+
+-- none from the first one up to this one
+abbrev pub CleanUpto : (ℕ → Type 0) → ℕ → Type 0
+CleanUpto dirty upto = (page : ℕ) → 0 < page → page ≤ upto → dirty page → ⊥
+
+pub more_clean : (was is : ℕ → Type 0) (upto page : ℕ) → CleanUpto was upto → ((q : ℕ) → is q → was q) → IsNextWritten is upto (Some page) → CleanUpto is page
+more_clean was is upto page clean fewer next q some low dirty = by (ltb upto q) refl
+  where
+    by : (b : Bool) → ltb upto q ≡ b → ⊥
+    by true above = next.1 q (ltb-true upto q above) low dirty
+    by false below = clean q some (ltb-false upto q below) (fewer q dirty)
+
+pub all_clean : (was is : ℕ → Type 0) (upto : ℕ) → CleanUpto was upto → ((q : ℕ) → is q → was q) → IsNextWritten is upto None → (page : ℕ) → 0 < page → is page → ⊥
+all_clean was is upto clean fewer none q some dirty = by (ltb upto q) refl
+  where
+    by : (b : Bool) → ltb upto q ≡ b → ⊥
+    by true above = none q (ltb-true upto q above) dirty
+    by false below = clean q some (ltb-false upto q below) (fewer q dirty)
+
+pub no_more : (o : Option ℕ) → ((page : ℕ) → o ≡ Some page → ⊥) → o ≡ None
+no_more None none = refl
+no_more (Some page) none = absurd (none page refl)
+
+pub on_ok : {T : Type 0} {Q : Type 0} (r : Result T Fault) → Q → OnOk r Q
+on_ok (Ok x) q = q
+on_ok (Err f) q = tt

@@ -1,0 +1,17 @@
+use Rattle.std.proofs.Common.{◌≡◌, ◌-◌, ◌^◌}
+use Rattle.own_life.specs.Pages.{WritesPages}
+use Rattle.own_life.specs.State.{GoesOn}
+use Rattle.own_life.proofs.Sequences.{CleanUpto}
+use Rattle.own_life.proofs.life.OwnLife.close.Given as goal
+
+abbrev pub invariant-loop-page : goal.invariant-loop-page
+invariant-loop-page g l = record {
+  goes : GoesOn l.fn.self l.self;
+  writes : WritesPages l.fn.self.history l.self.history;
+  names : l.self.active ≡ l.fn.self.active;
+  clean : CleanUpto (g.P.LifePages.dirty l.pages) l.after;
+  idle : g.P.LifePages.idle l.pages;
+}
+
+abbrev pub decreases-loop-page : goal.decreases-loop-page
+decreases-loop-page g l = 2 ^ 32 - l.after

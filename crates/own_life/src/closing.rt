@@ -1,0 +1,82 @@
+//! A life is closed: its pages are written, and its log is made durable.
+ghost use Rattle.std.specs.Prelude.{◌≡◌, ◌<◌, ◌≤◌, ℕ, List, None, IfErr, IfOk, OnOk, length};
+ghost use Rattle.wal_record.specs.History.{life_log};
+ghost use Rattle.wal_record.specs.declared.record.Record.{Record};
+ghost use Rattle.own_life.specs.Pages.{IsNextWritten, WritesPages};
+ghost use Rattle.own_life.specs.State.{Fails, FailsToFlush, GoesOn};
+
+use crate::life::OwnLife;
+use crate::life_pages::LifePages;
+use crate::seeing::see_whole;
+use media::{Disk, PageDevice};
+use page_ops::{Entering, Life};
+use std::alloc::Global;
+use std::sync::Wait;
+use store_model::{Fault, PageNo};
+
+impl<'a, L: Disk, N: Life> OwnLife<'a, L, N> {
+    /// Writes the least dirty page above this one, and gives its number; none where no page above it is dirty.
+    fn write_next<D: PageDevice, P: LifePages<N, D>, R: Wait>(
+        &mut self,
+        rt: &R,
+        alloc: Global,
+        pages: &mut P,
+        after: PageNo,
+    ) -> Result<Option<PageNo>, Fault>
+        requires open { self.old.ended ≡ None }
+        requires idle { P.idle pages.old }
+        ensures idle { P.idle pages.new }
+        ensures next { IfOk result (IsNextWritten (P.dirty pages.new) after) }
+        ensures fewer { (page : ℕ) → P.dirty pages.new page → P.dirty pages.old page }
+        ensures written { WritesPages self.old.history self.new.history }
+        ensures names { self.new.active ≡ self.old.active }
+        ensures goes { OnOk result (GoesOn self.old self.new) }
+        ensures refused { IfErr result (Fails N.opens self.old self.new) }
+    {
+        let OwnLife { journal, life } = self;
+        let written = pages.write_next(rt, alloc, journal, life, after);
+        see_whole(journal, life);
+        written
+    }
+
+    /// Makes the whole log durable.
+    fn flush<R: Wait>(&mut self, rt: &R) -> Result<(), Fault>
+        requires open { self.old.ended ≡ None }
+        ensures same { self.new.history ≡ self.old.history }
+        ensures names { self.new.active ≡ self.old.active }
+        ensures durable { OnOk result ((opening : List Record) → N.opens opening → length (life_log opening self.new.history) ≤ self.new.durable) }
+        ensures goes { OnOk result (GoesOn self.old self.new) }
+        ensures refused { IfErr result (FailsToFlush N.opens self.old self.new) }
+    {
+        let OwnLife { journal, life } = self;
+        let last = journal.journal.last();
+        let flushed = journal.flush(rt, last, &mut life.pass);
+        see_whole(journal, life);
+        flushed
+    }
+
+    /// Writes each dirty page to the data device, and then makes the whole log durable, so that the next life finds it as it is and
+    /// its pages on the device. A page that the device fails to take is dropped: the next life rebuilds it from the log.
+    pub fn close<D: PageDevice, P: LifePages<N, D>, R: Wait>(
+        &mut self,
+        rt: &R,
+        alloc: Global,
+        pages: &mut P,
+    ) -> Result<(), Fault>
+        requires open { self.old.ended ≡ None }
+        requires idle { P.idle pages.old }
+        ensures idle { P.idle pages.new }
+        ensures written { WritesPages self.old.history self.new.history }
+        ensures clean { OnOk result ((page : ℕ) → 0 < page → P.dirty pages.new page → ⊥) }
+        ensures names { self.new.active ≡ self.old.active }
+        ensures durable { OnOk result ((opening : List Record) → N.opens opening → length (life_log opening self.new.history) ≤ self.new.durable) }
+        ensures goes { OnOk result (GoesOn self.old self.new) }
+        ensures refused { IfErr result (Fails N.opens self.old self.new) }
+    {
+        let mut after = 0;
+        while let Some(page) = self.write_next(rt, alloc, pages, after)? {
+            after = page;
+        }
+        self.flush(rt)
+    }
+}

@@ -1,0 +1,159 @@
+//! The pages of a life over its data device.
+ghost use Rattle.std.specs.Prelude.{◌≡◌, ◌≤◌, ℕ, Some, IfErr, IfOk, OnOk, false, true};
+ghost use mathlib.Core.List.{IsPrefix};
+ghost use Rattle.buffer_pool.specs.Writes.{no_faults};
+ghost use Rattle.command_laws.specs.Names.{Active, active_of, is_active};
+ghost use Rattle.engine.specs.Answers.{FailsToAsk};
+ghost use Rattle.engine.specs.Applies.{GivesNone};
+ghost use Rattle.engine.specs.Requests.{IsRefusal, lock_of};
+ghost use Rattle.engine.specs.Writes.{LacksRoom};
+ghost use Rattle.page_ops.specs.Causes.{FailsToBring, FailsToReserve, MeetsNoEnd};
+ghost use Rattle.page_ops.specs.Outcomes.{IsConflict};
+ghost use Rattle.page_ops.specs.Seeing.{Keeps};
+ghost use Rattle.page_repair.specs.Images.{AreWritten};
+ghost use Rattle.store_life.specs.SoFar.{HasNames, Runs, actives, left_by};
+ghost use Rattle.store_life.specs.Turns.{Asks, EndsBy, IsTold};
+ghost use Rattle.own_life.specs.Pages.{IsNextWritten, Lacks, WritesPages};
+
+use crate::supply::LogAlone;
+use buffer_pool::PlainPool;
+use engine::Answered;
+use front::Pass;
+use media::PageDevice;
+use operators::Operators;
+use page_ops::{Entering, Journaling, Life};
+use page_repair::OwnImages;
+use script::Name;
+use std::alloc::Global;
+use std::sync::Wait;
+use store_life::StoreLife;
+use store_model::{Fault, PageNo, Pos, Request};
+use wal_record::Entry;
+
+/// The pages of a life over a data device: a page that this lacks, or gives damaged or too old, is rebuilt from the log. Whoever
+/// lends them to a life keeps them in a type of its own that is a [`LifePages`](crate::LifePages) by these calls.
+#[derive(Drop)]
+pub struct StorePages<'a, D: PageDevice, N: Life> {
+    pub(crate) pool: PlainPool<OwnImages<'a, D, N>, LogAlone<'a>, N>,
+    pub(crate) operators: &'a Operators,
+}
+
+impl<'a, D: PageDevice, N: Life> StorePages<'a, D, N> {
+    /// As `StoreLife::ask`, of an active transaction.
+    pub fn ask<J: Journaling<N>, R: Wait>(
+        &mut self,
+        rt: &R,
+        alloc: Global,
+        journal: &mut J,
+        life: &mut StoreLife<N>,
+        name: &Name,
+        request: Request,
+    ) -> Result<Answered, Fault>
+        requires idle { (self.old.pool.out ≡ 0) × (self.old.pool.reserves ≡ false) }
+        requires runs { Runs N.opens N.entries (J.account journal.old) life.old }
+        requires active { is_active (actives life.old.named.items) name.now ≡ true }
+        ensures idle { (self.new.pool.out ≡ 0) × (self.new.pool.reserves ≡ false) }
+        ensures runs { Runs N.opens N.entries (J.account journal.new) life.new }
+        ensures asks { (a : Active) → active_of (actives life.old.named.items) name.now ≡ Some a → Asks N.opens a.session a.tx request result life.old.pass.log life.new.pass.log }
+        ensures told { (a : Active) → active_of (actives life.old.named.items) name.now ≡ Some a → IfOk result (IsTold N.opens a.session a.tx request life.new.pass.log) }
+        ensures names { actives life.new.named.items ≡ actives life.old.named.items }
+        ensures named { HasNames life.old → HasNames life.new }
+        ensures conflict { IfErr result (IsConflict N.opens life.new.pass.log (lock_of request)) }
+        ensures full { IfErr result (LacksRoom N.opens life.new.pass.log) }
+        ensures gives_none { IfErr result (GivesNone N.opens request life.new.pass.log) }
+        ensures durable { life.old.pass.durable ≤ life.new.pass.durable }
+        ensures keeps { Keeps (J.account journal.old) (J.account journal.new) }
+        ensures open { OnOk result (MeetsNoEnd (J.account journal.old) (J.account journal.new)) }
+        ensures refused { IfErr result (FailsToAsk (IsRefusal request) N.opens N.log_faults N.made no_faults no_faults (J.account journal.old) (J.account journal.new) life.new.pass.log) }
+    {
+        let pool = &mut self.pool;
+        life.ask(rt, alloc, pool, journal, self.operators, name, request)
+    }
+
+    /// As `StoreLife::abort`, of an active transaction.
+    pub fn abort<J: Journaling<N>, R: Wait>(
+        &mut self,
+        rt: &R,
+        alloc: Global,
+        journal: &mut J,
+        life: &mut StoreLife<N>,
+        name: &Name,
+    ) -> Result<Pos, Fault>
+        requires idle { (self.old.pool.out ≡ 0) × (self.old.pool.reserves ≡ false) }
+        requires runs { Runs N.opens N.entries (J.account journal.old) life.old }
+        requires active { is_active (actives life.old.named.items) name.now ≡ true }
+        ensures idle { (self.new.pool.out ≡ 0) × (self.new.pool.reserves ≡ false) }
+        ensures runs { Runs N.opens N.entries (J.account journal.new) life.new }
+        ensures aborts { (a : Active) → active_of (actives life.old.named.items) name.now ≡ Some a → EndsBy N.opens a.tx result life.old.pass.log life.new.pass.log }
+        ensures names { actives life.new.named.items ≡ left_by result (actives life.old.named.items) name.now }
+        ensures named { HasNames life.old → HasNames life.new }
+        ensures durable { life.old.pass.durable ≤ life.new.pass.durable }
+        ensures keeps { Keeps (J.account journal.old) (J.account journal.new) }
+        ensures open { OnOk result (MeetsNoEnd (J.account journal.old) (J.account journal.new)) }
+        ensures refused { IfErr result (FailsToBring N.opens N.log_faults N.made no_faults no_faults (J.account journal.old) (J.account journal.new) life.new.pass.log) }
+    {
+        life.abort(rt, alloc, &mut self.pool, journal, name)
+    }
+
+    /// Writes the least dirty page above this one to the data device, once the log is durable up to its LSN, and gives its number;
+    /// none where no page above it is dirty. Where the device fails the page is dropped, and no answer tells of it.
+    pub fn write_next<J: Entering<N>, R: Wait>(
+        &mut self,
+        rt: &R,
+        alloc: Global,
+        journal: &mut J,
+        life: &mut StoreLife<N>,
+        after: PageNo,
+    ) -> Result<Option<PageNo>, Fault>
+        requires idle { (self.old.pool.out ≡ 0) × (self.old.pool.reserves ≡ false) }
+        requires runs { Runs N.opens N.entries (J.account journal.old) life.old }
+        ensures idle { (self.new.pool.out ≡ 0) × (self.new.pool.reserves ≡ false) }
+        ensures runs { Runs N.opens N.entries (J.account journal.new) life.new }
+        ensures next { IfOk result (IsNextWritten (Lacks self.new.pool.frames) after) }
+        ensures fewer { (page : ℕ) → Lacks self.new.pool.frames page → Lacks self.old.pool.frames page }
+        ensures writes { WritesPages life.old.pass.log life.new.pass.log }
+        ensures names { life.new.named ≡ life.old.named }
+        ensures named { HasNames life.old → HasNames life.new }
+        ensures durable { life.old.pass.durable ≤ life.new.pass.durable }
+        ensures keeps { Keeps (J.account journal.old) (J.account journal.new) }
+        ensures open { OnOk result (MeetsNoEnd (J.account journal.old) (J.account journal.new)) }
+        ensures refused { IfErr result (FailsToReserve N.opens N.log_faults N.made no_faults no_faults (J.account journal.old) (J.account journal.new) life.new.pass.log) }
+    {
+        let Some(page) = self.pool.next_dirty(after) else {
+            return Ok(None);
+        };
+        match self
+            .pool
+            .write_out(rt, alloc, journal, page, &mut life.pass)
+        {
+            Ok(()) => Ok(Some(page)),
+            Err(fault) => Err(fault),
+        }
+    }
+
+    /// Reads of the page from the data device fail verification until its next write. No answer tells whether the device did so.
+    pub fn damage(&mut self, page: PageNo)
+        requires idle { (self.old.pool.out ≡ 0) × (self.old.pool.reserves ≡ false) }
+        ensures idle { (self.new.pool.out ≡ 0) × (self.new.pool.reserves ≡ false) }
+    {
+        let _ = self.pool.spoil(page);
+    }
+
+    /// Arms the data device's fuse, which lets n more calls pass, or renews it.
+    pub fn fuse(&mut self, n: Option<u64>)
+        requires idle { (self.old.pool.out ≡ 0) × (self.old.pool.reserves ≡ false) }
+        ensures idle { (self.new.pool.out ≡ 0) × (self.new.pool.reserves ≡ false) }
+    {
+        self.pool.fuse(n);
+    }
+
+    /// The data device, as it is. The pass then has seen what its images are made of.
+    pub fn into_device(self, pass: &mut Pass<Entry, N>) -> D
+        ensures written { D.tells → AreWritten N.opens D.told pass.new result }
+        ensures seen { IsPrefix pass.old.log pass.new.log × (pass.old.durable ≤ pass.new.durable) }
+    {
+        let StorePages { pool, operators: _ } = self;
+        let (images, _supply) = pool.into_parts();
+        images.into_device(pass)
+    }
+}
