@@ -1,1 +1,2 @@
 mod Checkpoints
+mod Steps

@@ -1,15 +1,25 @@
-//! Maintenance: what keeps openings and repairs short.
+//! Maintenance: what keeps openings and repairs short, and what an opening has left to do.
 //!
 //! [`checkpoint`] enters a Checkpoint through any journal and makes the log durable up to it, so that an opening reads the log
 //! from there on (fuzzy checkpoints, as in Mohan et al., TODS 1992: no page is written for it, and nobody waits). The journal
 //! fills in what the record lists, in the same hold of its lock in which it is entered; so it says what the log before it says.
 //!
-//! What is promised: where it is done, exactly one Checkpoint was entered by this call, its LSN is the answer, and the log is
-//! durable up to it (`entered`, `durable`). Refused for want of memory, it has entered nothing; where the log disk fails in it,
+//! What is promised of it: where it is done, exactly one Checkpoint was entered by this call, its LSN is the answer, and the log
+//! is durable up to it (`entered`, `durable`). Refused for want of memory, it has entered nothing; where the log disk fails in it,
 //! the Checkpoint stands in the history, and whether the next opening finds it is open. Each refusal has its cause (`refused`,
 //! `ends`).
+//!
+//! [`undo_step`] takes one step to undo the losers of the opening log, which an opening leaves as they are. It is the undo pass
+//! of a restart, one write at a time and beside other work. What is promised (`takes`): one Undo or one End was entered by this
+//! call, of the loser that was the least one left; or no loser is left without an End; or another thread ended that loser
+//! meanwhile. Beside it stands upkeep of the tree and of pages alone. Refused, it has entered no Undo and no End, and each
+//! refusal has its cause (`refused`).
 #![tactic(auto)]
 
 mod checkpointing;
+mod step;
+mod undoing;
 
 pub use checkpointing::checkpoint;
+pub use step::Step;
+pub use undoing::undo_step;
