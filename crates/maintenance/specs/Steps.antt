@@ -55,9 +55,9 @@ HasStepped opens h tx (steps.Undone pos) = IsUndoAt tx h pos
 HasStepped opens h tx (steps.Ended pos) = IsEndAt tx h pos
 HasStepped opens h tx (steps.Late pos) = (opening : List Record) → opens opening → list_any (finishes tx) (life_log opening h) ≡ true
 
--- of the least loser that was left as the call looked that became; or none is left
+-- That became of the least loser that was left as the call looked; or none is left, and nothing was entered.
 abbrev pub Steps : (List Record → Type 0) → List Entry → List Entry → ℕ → Step → Type 0
-Steps opens looked h tx steps.NoLoser = AreAllOver opens h
+Steps opens looked h tx steps.NoLoser = (h ≡ looked) × AreAllOver opens h
 Steps opens looked h tx step = IsLeastLeft opens looked tx × HasStepped opens h tx step
 
 -- The call has looked, and what it entered then are one step on the least loser and upkeep, or nothing; a refused one has entered

@@ -54,14 +54,14 @@ unfolding last_entry later
 last_push [] e = refl
 last_push (x ∷ es) e = ap (λ (o : Option Entry). later o x) (last_push es e)
 
-ends : (es : List Entry) → (es ≡ []) ⊎ ((front : List Entry) × (last : Entry) × (es ≡ front ++ last ∷ []))
+pub ends : (es : List Entry) → (es ≡ []) ⊎ ((front : List Entry) × (last : Entry) × (es ≡ front ++ last ∷ []))
 ends [] = inl refl
 ends (e ∷ es) = elim (ends es) [
   | inl none ↦ inr ([], e, ap (λ (l : List Entry). e ∷ l) none)
   | inr some ↦ inr (e ∷ some.0, some.1, ap (λ (l : List Entry). e ∷ l) some.2)
 ]
 
-same_last : (h front before : List Entry) (last e : Entry) → h ++ (front ++ last ∷ []) ≡ before ++ e ∷ [] → last ≡ e
+pub same_last : (h front before : List Entry) (last e : Entry) → h ++ (front ++ last ∷ []) ≡ before ++ e ∷ [] → last ≡ e
 same_last h front before last e is =
     let two : Some last ≡ Some e = sym (last_push (h ++ front) last) ∙ ap last_entry (append_assoc h front (last ∷ []) ∙ is) ∙ last_push before e in
     cc
@@ -89,7 +89,7 @@ each opens tx (e ∷ es) is none =
     (one (IsUntold opens) tx e both.0 (λ some opening stands. not_both (list_any (finishes tx) (log_of (e ∷ []))) some (parts opening stands).0))
     (each opens tx es both.1 (λ opening stands. (parts opening stands).1))
 
-all_front : (f : Entry → Bool) (xs ys : List Entry) → list_all f (xs ++ ys) ≡ true → list_all f xs ≡ true
+pub all_front : (f : Entry → Bool) (xs ys : List Entry) → list_all f (xs ++ ys) ≡ true → list_all f xs ≡ true
 all_front f [] ys is = refl
 all_front f (x ∷ xs) ys is = let both = both_true (f x) (list_all f (xs ++ ys)) is in and_true (f x) (list_all f xs) both.0 (all_front f xs ys both.1)
 

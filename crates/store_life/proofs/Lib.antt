@@ -5,3 +5,4 @@ pub mod Aborted
 pub mod Sessions
 pub mod Naming
 pub mod Looked
+pub mod Stepped

@@ -2,7 +2,7 @@
 //!
 //! [`StoreLife`] has the active transactions of a life by name, each with its session, beside a journal and pages that are
 //! lent to each call. There is one call for each command: [`StoreLife::begin`], [`StoreLife::ask`], [`StoreLife::commit`],
-//! [`StoreLife::abort`], [`StoreLife::checkpoint`] and [`StoreLife::survey`]. Whoever calls them has all parts of the ledger of
+//! [`StoreLife::abort`], [`StoreLife::checkpoint`] and [`StoreLife::survey`]; and [`StoreLife::undo_next`] for one step of a help. Whoever calls them has all parts of the ledger of
 //! entries, so nobody else enters anything (`Runs` of `specs/SoFar`), and the history is known whole: each call says which
 //! entries it added (`specs/Turns`).
 //!
@@ -11,7 +11,8 @@
 //!
 //! 1. A call adds its command's own entries in their order, and beside them what may stand there, and nothing else. Behind a
 //!    refusal that isn't an answer there are none of its own but an abort's undos, and a Commit or a Checkpoint that met the
-//!    end of the life. A refused abort has entered no End.
+//!    end of the life. A refused abort has entered no End. A step on the losers of the opening log adds one Undo or one End,
+//!    of the least that is left, and before it upkeep (`specs/Steps`).
 //! 2. The history is legal and the log of the life sound, for each log with which the life may have begun; so its committed
 //!    transactions are serial, and a stop leaves the first of them, at each moment ([`StoreLife::look`]).
 //! 3. At most 64 names are active: where 64 are, a begin is refused. Where each live transaction of the history has a name
@@ -29,5 +30,6 @@ mod asking;
 mod beginning;
 mod ending;
 mod life;
+mod undoing;
 
 pub use life::{Named, StoreLife};

@@ -25,7 +25,7 @@ returns-in_default-clause-takes g c =
       desk = refl;
       tx = 0;
       enters = enters_none g.N.Life.opens g.N.Life.entries g.N.Life.session_entries 0 (g.P.Pages.desk c.args.pages.now) (g.J.Entering.account c.args.journal.now) (g.J.Entering.account c.work.new.self) c.args.pass.now c.work.new.pass c.work.ensures.seen;
-      done = λ opening stands. none_left opening c.work.new.pass.log c.in-Ok.work.loser c.in_default.is (c.in-Ok.ensures.work.loser opening stands);
+      done = (refl, λ opening stands. none_left opening c.work.new.pass.log c.in-Ok.work.loser c.in_default.is (c.in-Ok.ensures.work.loser opening stands));
     }
 
 pub returns-then-not-is_number-clause-takes : goal.returns-then-not-is_number-clause-takes
