@@ -10,7 +10,7 @@ use Rattle.page_ops.specs.Claims.{IsInRange}
 use Rattle.page_ops.specs.Hands.{Hand}
 use Rattle.buffer_pool.specs.declared.frame.Frame.{Frame}
 use Rattle.buffer_pool.specs.declared.frame.Frame.TheVariants.{Empty, Kept, Full}
-use Rattle.buffer_pool.specs.Tables.{Table, IsOf, HasFrame, IsKept, Moves, PutsIn, SendsHome, Stays, Stores, frame_of, right_of}
+use Rattle.buffer_pool.specs.Tables.{Table, IsOf, HasFrame, IsDropped, IsKept, IsStored, Moves, PutsIn, SendsHome, Stays, frame_of, right_of}
 
 pub kept_new : (frames : List (Frame Hand)) (index : Index) → length frames ≡ limit_of index → ((i : ℕ) → slice_index_or frames i Empty ≡ Empty) → ((page : ℕ) → IfSome (home_of index page) IsInRange)
     → IsKept (record { frames = frames; index = index })
@@ -89,48 +89,42 @@ frame_at t page n d f is inside at = sym (for_page-within Empty d t.frames page 
 
 module _ (page : ℕ) (h : Hand) (t t1 : Table) (was : frame_of t page ≡ Full h) (takes : Moves page Kept (right_of t page) t t1) (inside : HasFrame t page) (whose : h.page ≡ page) where
   -- it was written
-  pub stored : (h' : Hand) (t2 t3 : Table) (lsn : ℕ) → h' ≡ record h { dirty = false } → Stays t1 t2 → (HasFrame t1 page → written_of t2.index page ≡ lsn) → lsn ≡ h.lsn → PutsIn h' t2 t3 → Stores page t t3
+  pub stored : (h' : Hand) (t2 t3 : Table) (lsn : ℕ) → h' ≡ record h { dirty = false } → Stays t1 t2 → (HasFrame t1 page → written_of t2.index page ≡ lsn) → lsn ≡ h.lsn → PutsIn h' t2 t3 → IsStored page h t t3
   stored h' t2 t3 lsn is noted wrote told puts =
       let page_is : h'.page ≡ page = ap (λ (x : Hand). x.page) is ∙ whose in
       let limits : limit_of t1.index ≡ limit_of t.index = takes.becomes.limit in
       let limits' : limit_of t2.index ≡ limit_of t1.index = noted.limit in
       let has : HasFrame t2 page = (inside.0, let i = inside.1 in omega (arith, i, limits, limits')) in
       let put = subst (λ (p : ℕ). Moves p (Full h') (right_of t2 p) t2 t3) page_is (puts.there (subst (HasFrame t2) (sym page_is) has)) in
-      inr (
-        h,
-        inl (record {
-          was = was;
-          frame = record {
-            limit = put.becomes.limit ∙ limits' ∙ limits;
-            frame = put.becomes.frame ∙ (λ i. Full (is i));
-            right = put.becomes.right ∙ noted.rights page ∙ takes.becomes.right;
-            frames = λ q apart. put.becomes.frames q apart ∙ noted.frames q ∙ takes.becomes.frames q apart;
-            rights = λ q apart. put.becomes.rights q apart ∙ noted.rights q ∙ takes.becomes.rights q apart;
-          };
-          written = put.written page ∙ wrote (inside.0, let i = inside.1 in omega (arith, i, limits)) ∙ told;
-        }),
-      )
+      record {
+        was = was;
+        frame = record {
+          limit = put.becomes.limit ∙ limits' ∙ limits;
+          frame = put.becomes.frame ∙ (λ i. Full (is i));
+          right = put.becomes.right ∙ noted.rights page ∙ takes.becomes.right;
+          frames = λ q apart. put.becomes.frames q apart ∙ noted.frames q ∙ takes.becomes.frames q apart;
+          rights = λ q apart. put.becomes.rights q apart ∙ noted.rights q ∙ takes.becomes.rights q apart;
+        };
+        written = put.written page ∙ wrote (inside.0, let i = inside.1 in omega (arith, i, limits)) ∙ told;
+      }
 
   -- it was dropped
-  pub dropped : (h' : Hand) (t3 : Table) (p : PageClaim) → h' ≡ h → p ≡ record { page = h'.page; lsn = h'.lsn } → SendsHome p t1 t3 → Stores page t t3
+  pub dropped : (h' : Hand) (t3 : Table) (p : PageClaim) → h' ≡ h → p ≡ record { page = h'.page; lsn = h'.lsn } → SendsHome p t1 t3 → IsDropped page h t t3
   dropped h' t3 p is right sends =
       let right_is : p ≡ record { page = page; lsn = h.lsn } = right ∙ (λ i. record { page = (ap (λ (x : Hand). x.page) is ∙ whose) i; lsn = (is i).lsn }) in
       let limits : limit_of t1.index ≡ limit_of t.index = takes.becomes.limit in
       let has : HasFrame t1 page = (inside.0, let i = inside.1 in omega (arith, i, limits)) in
       let home = subst (λ (r : PageClaim). HasFrame t1 r.page → Moves r.page Empty (Some r) t1 t3) right_is sends.there has in
-      inr (
-        h,
-        inr (record {
-          was = was;
-          frame = record {
-            limit = home.becomes.limit ∙ limits;
-            frame = home.becomes.frame;
-            right = home.becomes.right;
-            frames = λ q apart. home.becomes.frames q apart ∙ takes.becomes.frames q apart;
-            rights = λ q apart. home.becomes.rights q apart ∙ takes.becomes.rights q apart;
-          };
-        }),
-      )
+      record {
+        was = was;
+        frame = record {
+          limit = home.becomes.limit ∙ limits;
+          frame = home.becomes.frame;
+          right = home.becomes.right;
+          frames = λ q apart. home.becomes.frames q apart ∙ takes.becomes.frames q apart;
+          rights = λ q apart. home.becomes.rights q apart ∙ takes.becomes.rights q apart;
+        };
+      }
 
   -- it is as before
   pub put_again : (h' : Hand) (t3 : Table) → h' ≡ h → PutsIn h' t1 t3 → Stays t t3

@@ -62,6 +62,9 @@ restored_kind (entries.Began session tx) h = absurd (cc h)
 pub none_written : (e : Entry) → is_none e ≡ true → is_written e ≡ true
 none_written e is = absurd (cc is)
 
+pub none_restored : (e : Entry) → is_none e ≡ true → is_restored e ≡ true
+none_restored e is = absurd (cc is)
+
 pub none_kind : (e : Entry) → is_none e ≡ true → is_upkeep e ≡ true
 none_kind e h = absurd (cc h)
 
@@ -194,6 +197,10 @@ module _ (opens : List Record → Type 0) (ledger sessions : LedgerName) (page :
 
   pub repairs_given : {T : Type 0} (given : Bool) (x : T) (a b : Known) → given ≡ true → Upholds opens ledger sessions is_none a b → Repairs opens ledger sessions page given (Ok x) a b
   repairs_given {T} given x a b is u = subst (λ (g : Bool). Repairs opens ledger sessions page g (Ok x) a b) (sym is) (record { own = []; is = refl; gains = gains_none opens ledger sessions a b u })
+
+  -- behind a call that enters nothing of its own
+  pub repairs_behind : {T : Type 0} (given : Bool) (r : Result T Fault) (a b c : Known) → Upholds opens ledger sessions is_none a b → Repairs opens ledger sessions page given r b c → Repairs opens ledger sessions page given r a c
+  repairs_behind given r a b c u x = record { own = x.own; is = x.is; gains = gains_behind opens ledger sessions x.own a b c u x.gains }
 
   module _ (a a' a'' : Account) (s s' s'' : PassSeen Entry) (u : Upholds opens ledger sessions is_none (known a s no_claims) (known a' s' no_claims)) where
     pub repairs_ok : {T : Type 0} (given : Bool) (x : T) (o : Option ℕ) → given ≡ false → Enters opens ledger sessions (known a' s' no_claims) (repairs {T = ℕ} page (Ok o)) (known a'' s'' no_claims)

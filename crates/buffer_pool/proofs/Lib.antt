@@ -3,3 +3,5 @@ pub mod Serving
 pub mod Entering
 pub mod Storing
 pub mod Losing
+pub mod Coming
+pub mod WrittenOut

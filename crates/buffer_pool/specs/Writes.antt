@@ -1,5 +1,5 @@
 -- What a page that is written to the data device enters, and what becomes of it.
-use Rattle.std.specs.Prelude.{◌≡◌, ◌⊎◌, ℕ, List, [], ◌∷◌, Bool, true, false, Result, Ok, Err, None}
+use Rattle.std.specs.Prelude.{◌≡◌, ◌⊎◌, ℕ, List, [], ◌∷◌, Bool, true, false, Result, Ok, Err, None, if◌then◌else◌}
 use Rattle.store_model.specs.declared.fault.Fault.{Fault}
 use Rattle.wal_record.specs.declared.record.Record.{Record}
 use Rattle.wal_record.specs.declared.record.Record.TheVariants as kinds
@@ -11,6 +11,9 @@ use Rattle.page_ops.specs.Names.{LedgerName}
 use Rattle.page_ops.specs.Gains.{Gains}
 use Rattle.page_ops.specs.Seeing.{Known}
 use Rattle.page_ops.specs.declared.group.Group.{Group}
+use Rattle.buffer_pool.specs.Tables.{Table, frame_of}
+use Rattle.buffer_pool.specs.declared.frame.Frame.{Frame}
+use Rattle.buffer_pool.specs.declared.frame.Frame.TheVariants.{Empty, Kept, Full}
 
 -- of a call that makes no device calls of its own but on the data device
 abbrev pub no_faults : Faults
@@ -42,3 +45,18 @@ abbrev pub IsWrittenAs : Result Bool Fault → Hand → Hand → Type 0
 IsWrittenAs (Ok true) old new = new ≡ record old { dirty = false }
 IsWrittenAs (Ok false) old new = new ≡ old
 IsWrittenAs (Err fault) old new = new ≡ old
+
+-- ---- a page of the pool
+
+-- that it was written as its LSN, exactly where it was dirty in its frame and is there still
+abbrev pub written_out : ℕ → ℕ → Frame Hand → Frame Hand → List Entry
+written_out page at (Full h) (Full now) = if h.dirty then entries.Rec at (written_of page h.lsn) ∷ [] else []
+written_out page at (Full h) Kept = []
+written_out page at (Full h) Empty = []
+written_out page at Kept now = []
+written_out page at Empty now = []
+
+-- That, and nothing else, was entered; after a refusal nothing.
+abbrev pub WritesOut : {T : Type 0} → (List Record → Type 0) → LedgerName → LedgerName → ℕ → Result T Fault → Table → Table → Known → Known → Type 0
+WritesOut opens ledger sessions page (Ok x) t t' old new = (at : ℕ) × Gains opens ledger sessions (written_out page at (frame_of t page) (frame_of t' page)) old new
+WritesOut opens ledger sessions page (Err fault) t t' old new = Gains opens ledger sessions [] old new

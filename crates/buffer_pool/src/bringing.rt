@@ -1,11 +1,15 @@
 //! A page on its way to its frame.
-ghost use Rattle.std.specs.Prelude.{◌≡◌, IfOk, IfErr, IfSome, OnErr, OnOk};
+ghost use Rattle.std.specs.Prelude.{◌≡◌, ◌≤◌, false, true, IfErr, IfNone, IfOk, IfSome, OnErr, OnOk};
+ghost use Rattle.media.specs.Cause.{Rose};
 ghost use Rattle.page_ops.specs.Causes.{FailsToBring, MeetsNoEnd};
 ghost use Rattle.page_ops.specs.Claims.{IsInRange, PageAgrees, no_claims};
 ghost use Rattle.page_ops.specs.Desks.{KeepsFaults};
-ghost use Rattle.page_ops.specs.Seeing.{IsConsistent, Upholds, is_upkeep, known};
+ghost use Rattle.page_ops.specs.Seeing.{IsConsistent, Upholds, is_none, is_upkeep, known};
+ghost use Rattle.page_repair.specs.Supplies.{is_restored};
 ghost use Rattle.buffer_pool.specs.Bases.{IsGiven};
+ghost use Rattle.buffer_pool.specs.Brings.{BringsInHand, WasWritten};
 ghost use Rattle.buffer_pool.specs.Hands.{one_right};
+ghost use Rattle.buffer_pool.specs.Repairs.{Repairs};
 
 use crate::base::{base_in, read_image};
 use crate::rebuilding::in_hand;
@@ -34,7 +38,9 @@ fn made_ready<N: Life, J: Entering<N>, I: Images<N>, S: Supply<N, J>, R: Wait>(
     requires right { rights.old ≡ one_right (record { page = page; lsn = lsn }) }
     requires range { IsInRange (record { page = page; lsn = lsn }) }
     ensures same { rights.new ≡ rights.old }
-    ensures entered { Upholds N.opens N.entries N.session_entries is_upkeep (known (J.account journal.old) pass.old no_claims) (known (J.account journal.new) pass.new no_claims) }
+    ensures written { IfOk result (WasWritten N.opens pass.old.log pass.new.log page) }
+    ensures images { I.faults images.old ≤ I.faults images.new }
+    ensures entered { Upholds N.opens N.entries N.session_entries is_restored (known (J.account journal.old) pass.old no_claims) (known (J.account journal.new) pass.new no_claims) }
     ensures faults { KeepsFaults (S.faults supply.old) (S.faults supply.new) }
     ensures open { OnOk result (MeetsNoEnd (J.account journal.old) (J.account journal.new)) }
     ensures refused { IfErr result (FailsToBring N.opens N.log_faults N.made (S.faults supply.old) (S.faults supply.new) (J.account journal.old) (J.account journal.new) pass.new.log) }
@@ -61,9 +67,10 @@ fn seen_image<N: Life, J: Entering<N>, I: Images<N>, R: Wait>(
     requires right { rights.old ≡ one_right (record { page = page; lsn = lsn }) }
     ensures same { rights.new ≡ rights.old }
     ensures image { IfSome result (IsGiven N.opens pass.new page) }
+    ensures failed { IfNone result (Rose (I.faults images.old) (I.faults images.new)) }
     ensures consistent { IsConsistent N.opens pass.new.log }
     ensures agrees { PageAgrees N.opens pass.new.log (record { page = page; lsn = lsn }) }
-    ensures entered { Upholds N.opens N.entries N.session_entries is_upkeep (known (J.account journal.old) pass.old no_claims) (known (J.account journal.new) pass.new no_claims) }
+    ensures entered { Upholds N.opens N.entries N.session_entries is_none (known (J.account journal.old) pass.old no_claims) (known (J.account journal.new) pass.new no_claims) }
     ensures open { MeetsNoEnd (J.account journal.old) (J.account journal.new) }
 {
     let bytes = read_image(rt, images, page, pass);
@@ -86,7 +93,7 @@ pub(crate) fn brought<N: Life, J: Entering<N>, I: Images<N>, S: Supply<N, J>, R:
 ) -> Result<Held<N>, Fault>
     requires right { rights.old ≡ one_right (record { page = page; lsn = lsn }) }
     requires range { IsInRange (record { page = page; lsn = lsn }) }
-    ensures page { IfOk result (λ held. held.page ≡ page) }
+    ensures brings { BringsInHand N.opens N.entries N.session_entries page lsn (I.faults images.old) (I.faults images.new) result (known (J.account journal.old) pass.old no_claims) (known (J.account journal.new) pass.new no_claims) }
     ensures same { OnErr result (rights.new ≡ rights.old) }
     ensures entered { Upholds N.opens N.entries N.session_entries is_upkeep (known (J.account journal.old) pass.old no_claims) (known (J.account journal.new) pass.new no_claims) }
     ensures faults { KeepsFaults (S.faults supply.old) (S.faults supply.new) }
@@ -114,7 +121,8 @@ pub(crate) fn anew<N: Life, J: Entering<N>, S: Supply<N, J>, R: Wait>(
 ) -> Result<Held<N>, Fault>
     requires right { rights.old ≡ one_right (record { page = page; lsn = lsn }) }
     requires range { IsInRange (record { page = page; lsn = lsn }) }
-    ensures page { IfOk result (λ held. held.page ≡ page) }
+    ensures page { IfOk result (λ held. (held.page ≡ page) × (held.lsn ≡ lsn) × (held.dirty ≡ true)) }
+    ensures repairs { Repairs N.opens N.entries N.session_entries page false result (known (J.account journal.old) pass.old no_claims) (known (J.account journal.new) pass.new no_claims) }
     ensures same { OnErr result (rights.new ≡ rights.old) }
     ensures entered { Upholds N.opens N.entries N.session_entries is_upkeep (known (J.account journal.old) pass.old no_claims) (known (J.account journal.new) pass.new no_claims) }
     ensures faults { KeepsFaults (S.faults supply.old) (S.faults supply.new) }

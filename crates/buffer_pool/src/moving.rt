@@ -1,11 +1,14 @@
 //! Pages into their frames, and out to the data device.
-ghost use Rattle.std.specs.Prelude.{◌≡◌, true, false, IfErr, OnErr, OnOk};
+ghost use Rattle.std.specs.Prelude.{◌≡◌, ◌⊎◌, true, false, IfErr, OnErr, OnOk};
+ghost use Rattle.media.specs.Cause.{Rose};
 ghost use Rattle.page_ops.specs.Causes.{FailsToBring, FailsToReserve, MeetsNoEnd};
 ghost use Rattle.page_ops.specs.Claims.{no_claims};
 ghost use Rattle.page_ops.specs.Desks.{KeepsFaults};
 ghost use Rattle.page_ops.specs.Seeing.{Upholds, is_upkeep, known};
-ghost use Rattle.buffer_pool.specs.Tables.{HasFrame, SendsHome, Stays, Stores, frame_of, is_dirty, is_full};
-ghost use Rattle.buffer_pool.specs.Writes.{is_written, no_faults};
+ghost use Rattle.buffer_pool.specs.Brings.{Brings, Renews};
+ghost use Rattle.buffer_pool.specs.Repairs.{Repairs};
+ghost use Rattle.buffer_pool.specs.Tables.{Stays, Stores, frame_of, is_dirty, is_full};
+ghost use Rattle.buffer_pool.specs.Writes.{WritesOut, is_written, no_faults};
 
 use crate::bringing::{anew, brought};
 use crate::dropping::into_right;
@@ -32,7 +35,7 @@ pub(crate) fn fetch<N: Life, J: Entering<N>, I: Images<N>, S: Supply<N, J>, R: W
     pass: &mut Pass<Entry, N>,
 ) -> Result<(), Fault>
     ensures framed { OnOk result (is_full (frame_of frames.new page) ≡ true) }
-    ensures same { OnErr result (Stays frames.old frames.new) }
+    ensures brings { Brings N.opens N.entries N.session_entries page (I.faults images.old) (I.faults images.new) result frames.old frames.new (known (J.account journal.old) pass.old no_claims) (known (J.account journal.new) pass.new no_claims) }
     ensures entered { Upholds N.opens N.entries N.session_entries is_upkeep (known (J.account journal.old) pass.old no_claims) (known (J.account journal.new) pass.new no_claims) }
     ensures faults { KeepsFaults (S.faults supply.old) (S.faults supply.new) }
     ensures open { OnOk result (MeetsNoEnd (J.account journal.old) (J.account journal.new)) }
@@ -84,8 +87,8 @@ pub(crate) fn fetch_anew<N: Life, J: Entering<N>, S: Supply<N, J>, R: Wait>(
     held: Held<N>,
     pass: &mut Pass<Entry, N>,
 ) -> Result<(), Fault>
-    ensures framed { OnOk result (HasFrame frames.old held.page → is_full (frame_of frames.new held.page) ≡ true) }
-    ensures home { OnErr result (SendsHome (record { page = held.page; lsn = held.lsn }) frames.old frames.new) }
+    ensures renews { Renews held result frames.old frames.new }
+    ensures repairs { Repairs N.opens N.entries N.session_entries held.page false result (known (J.account journal.old) pass.old no_claims) (known (J.account journal.new) pass.new no_claims) }
     ensures entered { Upholds N.opens N.entries N.session_entries is_upkeep (known (J.account journal.old) pass.old no_claims) (known (J.account journal.new) pass.new no_claims) }
     ensures faults { KeepsFaults (S.faults supply.old) (S.faults supply.new) }
     ensures open { OnOk result (MeetsNoEnd (J.account journal.old) (J.account journal.new)) }
@@ -123,7 +126,9 @@ pub(crate) fn store<N: Life, J: Entering<N>, I: Images<N>, R: Wait>(
 ) -> Result<(), Fault>
     ensures clean { OnOk result (is_dirty (frame_of frames.new page) ≡ false) }
     ensures stored { OnOk result (Stores page frames.old frames.new) }
+    ensures dropped { OnOk result ((is_full (frame_of frames.new page) ≡ is_full (frame_of frames.old page)) ⊎ Rose (I.faults images.old) (I.faults images.new)) }
     ensures same { OnErr result (Stays frames.old frames.new) }
+    ensures writes { WritesOut N.opens N.entries N.session_entries page result frames.old frames.new (known (J.account journal.old) pass.old no_claims) (known (J.account journal.new) pass.new no_claims) }
     ensures entered { Upholds N.opens N.entries N.session_entries is_written (known (J.account journal.old) pass.old no_claims) (known (J.account journal.new) pass.new no_claims) }
     ensures open { OnOk result (MeetsNoEnd (J.account journal.old) (J.account journal.new)) }
     ensures refused { IfErr result (FailsToReserve N.opens N.log_faults N.made no_faults no_faults (J.account journal.old) (J.account journal.new) pass.new.log) }

@@ -1,14 +1,19 @@
 //! The pool of one thread.
-ghost use Rattle.std.specs.Prelude.{◌≡◌, false, ℕ, None, IfErr, IfOk, IfSome, OnErr, OnOk};
-ghost use Rattle.media.specs.Cause.{HasCause};
+ghost use Rattle.std.specs.Prelude.{◌≡◌, ◌⊎◌, false, true, ℕ, None, IfErr, IfOk, IfSome, IsSome, OnErr, OnOk};
+ghost use Rattle.media.specs.Cause.{HasCause, Rose};
 ghost use Rattle.media.specs.Counted.{Armed};
 ghost use Rattle.media.specs.Images.{SameImages};
 ghost use Rattle.page_index.specs.Index.{home_of};
-ghost use Rattle.page_ops.specs.Causes.{FailsToReserve, MeetsNoEnd};
+ghost use Rattle.page_ops.specs.Causes.{FailsToBring, FailsToReserve, MeetsNoEnd};
 ghost use Rattle.page_ops.specs.Claims.{IsInRange, no_claims};
-ghost use Rattle.page_ops.specs.Seeing.{Upholds, known};
-ghost use Rattle.buffer_pool.specs.Tables.{IsNextDirty, Loses, Stays, Stores, frame_of, is_dirty};
-ghost use Rattle.buffer_pool.specs.Writes.{is_written, no_faults};
+ghost use Rattle.page_ops.specs.Desks.{IsMade, KeepsFaults};
+ghost use Rattle.page_ops.specs.Hands.{Hand};
+ghost use Rattle.page_ops.specs.Seeing.{Upholds, is_upkeep, known};
+ghost use Rattle.restart.specs.Plans.{Comes, IsNextAwaiting};
+ghost use Rattle.buffer_pool.specs.Brings.{Brings, Renews};
+ghost use Rattle.buffer_pool.specs.Repairs.{Repairs};
+ghost use Rattle.buffer_pool.specs.Tables.{IsNextDirty, Loses, Stays, Stores, frame_of, is_dirty, is_full};
+ghost use Rattle.buffer_pool.specs.Writes.{WritesOut, is_written, no_faults};
 ghost use Rattle.buffer_pool.specs.declared.frame.Frame.TheVariants.{Empty};
 
 use crate::frames::Frames;
@@ -18,18 +23,20 @@ use media::{Failed, PageDevice};
 use page_index::PageIndex;
 use page_ops::{Entering, Held, Life, Pages, Rights, Taken};
 use page_repair::{Images, OwnImages, Supply};
+use restart::RestartPlan;
 use std::alloc::Global;
 use std::sync::Wait;
 use store_model::{Fault, PageNo};
 use wal_record::Entry;
 
 /// A pool that one thread owns, over a data device and a supply of pages. It has a frame for each page, and one more for a
-/// page to be made, so that nobody waits for a frame.
+/// page to be made, so that nobody waits for a frame. It knows which pages await redo.
 #[derive(Drop)]
 pub struct PlainPool<I, S, N: Life> {
     images: I,
     supply: S,
     frames: Frames<N>,
+    plan: RestartPlan,
     out: u32,
     reserves: bool,
 }
@@ -42,18 +49,19 @@ pub struct PoolRefused<I, S> {
 }
 
 impl<I, S, N: Life> PlainPool<I, S, N> {
-    /// No page is in its frame.
+    /// No page is in its frame, and none of those that await redo has come.
     pub fn new(
         alloc: Global,
         images: I,
         supply: S,
         index: PageIndex<N>,
+        plan: RestartPlan,
     ) -> Result<PlainPool<I, S, N>, PoolRefused<I, S>>
         requires rights { (page : ℕ) → IfSome (home_of index page) IsInRange }
         ensures none { IfOk result (λ pool. (pool.out ≡ 0) × (pool.reserves ≡ false)) }
         ensures empty { IfOk result (λ pool. (page : ℕ) → frame_of pool.frames page ≡ Empty) }
         ensures index { IfOk result (λ pool. pool.frames.index ≡ index) }
-        ensures parts { IfOk result (λ pool. (pool.images ≡ images) × (pool.supply ≡ supply)) }
+        ensures parts { IfOk result (λ pool. (pool.images ≡ images) × (pool.supply ≡ supply) × (pool.plan ≡ plan)) }
         ensures refused { IfErr result (λ parts. (parts.images ≡ images) × (parts.supply ≡ supply)) }
     {
         match Frames::new(alloc, index) {
@@ -61,6 +69,7 @@ impl<I, S, N: Life> PlainPool<I, S, N> {
                 images,
                 supply,
                 frames,
+                plan,
                 out: 0,
                 reserves: false,
             }),
@@ -82,11 +91,19 @@ impl<I, S, N: Life> PlainPool<I, S, N> {
     {
         self.frames.next_dirty(after)
     }
+
+    /// The least page above this one that awaits redo: its head in the opening log is above its written LSN, and it hasn't come
+    /// since.
+    pub fn next_redo(&self, after: PageNo) -> Option<PageNo>
+        ensures { IsNextAwaiting self.now.plan after result }
+    {
+        self.plan.next(after)
+    }
 }
 
 impl<I: Images<N>, S, N: Life> PlainPool<I, S, N> {
     /// Writes the page to the data device, if it is in its frame and dirty, once the log is durable up to its LSN. Where the
-    /// device fails the page is dropped, and no answer tells of it.
+    /// device fails the page is dropped, and no answer tells of it. After a refusal each frame is as before.
     pub fn write_out<J: Entering<N>, R: Wait>(
         &mut self,
         rt: &R,
@@ -97,8 +114,10 @@ impl<I: Images<N>, S, N: Life> PlainPool<I, S, N> {
     ) -> Result<(), Fault>
         ensures clean { OnOk result (is_dirty (frame_of self.new.frames page) ≡ false) }
         ensures stored { OnOk result (Stores page self.old.frames self.new.frames) }
+        ensures dropped { OnOk result ((is_full (frame_of self.new.frames page) ≡ is_full (frame_of self.old.frames page)) ⊎ Rose (I.faults self.old.images) (I.faults self.new.images)) }
         ensures same { OnErr result (Stays self.old.frames self.new.frames) }
-        ensures others { (self.new.out ≡ self.old.out) × (self.new.reserves ≡ self.old.reserves) × (self.new.supply ≡ self.old.supply) }
+        ensures others { (self.new.out ≡ self.old.out) × (self.new.reserves ≡ self.old.reserves) × (self.new.supply ≡ self.old.supply) × (self.new.plan ≡ self.old.plan) }
+        ensures writes { WritesOut N.opens N.entries N.session_entries page result self.old.frames self.new.frames (known (J.account journal.old) pass.old no_claims) (known (J.account journal.new) pass.new no_claims) }
         ensures entered { Upholds N.opens N.entries N.session_entries is_written (known (J.account journal.old) pass.old no_claims) (known (J.account journal.new) pass.new no_claims) }
         ensures open { OnOk result (MeetsNoEnd (J.account journal.old) (J.account journal.new)) }
         ensures refused { IfErr result (FailsToReserve N.opens N.log_faults N.made no_faults no_faults (J.account journal.old) (J.account journal.new) pass.new.log) }
@@ -120,7 +139,7 @@ impl<I: Images<N>, S, N: Life> PlainPool<I, S, N> {
         requires none { self.old.out ≡ 0 }
         ensures lost { Loses self.old.frames self.new.frames }
         ensures empty { I.tells → OnOk result ((page : ℕ) → I.newest self.new.images page ≡ None) }
-        ensures others { (self.new.out ≡ self.old.out) × (self.new.reserves ≡ self.old.reserves) × (self.new.supply ≡ self.old.supply) }
+        ensures others { (self.new.out ≡ self.old.out) × (self.new.reserves ≡ self.old.reserves) × (self.new.supply ≡ self.old.supply) × (self.new.plan ≡ self.old.plan) }
         ensures cause { HasCause I.faults self.old.images self.new.images result }
     {
         self.frames.lose();
@@ -132,7 +151,7 @@ impl<'a, D: PageDevice, S, N: Life> PlainPool<OwnImages<'a, D, N>, S, N> {
     /// Reads of the page from the data device fail verification until its next write. After `Failed` they may.
     pub fn spoil(&mut self, page: PageNo) -> Result<(), Failed>
         ensures damaged { D.tells → OnOk result (D.spoiled self.new.images page) }
-        ensures others { (self.new.frames ≡ self.old.frames) × (self.new.out ≡ self.old.out) × (self.new.reserves ≡ self.old.reserves) × (self.new.supply ≡ self.old.supply) }
+        ensures others { (self.new.frames ≡ self.old.frames) × (self.new.out ≡ self.old.out) × (self.new.reserves ≡ self.old.reserves) × (self.new.supply ≡ self.old.supply) × (self.new.plan ≡ self.old.plan) }
         ensures same { D.tells → SameImages D.told D.newest self.old.images self.new.images }
         ensures cause { HasCause D.faults self.old.images self.new.images result }
     {
@@ -141,7 +160,7 @@ impl<'a, D: PageDevice, S, N: Life> PlainPool<OwnImages<'a, D, N>, S, N> {
 
     /// Arms the data device's fuse, which lets n more calls pass, or renews it.
     pub fn fuse(&mut self, n: Option<u64>)
-        ensures others { (self.new.frames ≡ self.old.frames) × (self.new.out ≡ self.old.out) × (self.new.reserves ≡ self.old.reserves) × (self.new.supply ≡ self.old.supply) }
+        ensures others { (self.new.frames ≡ self.old.frames) × (self.new.out ≡ self.old.out) × (self.new.reserves ≡ self.old.reserves) × (self.new.supply ≡ self.old.supply) × (self.new.plan ≡ self.old.plan) }
         ensures same { D.tells → SameImages D.told D.newest self.old.images self.new.images }
         ensures fuse { Armed D.fuses D.passes D.refused D.own n self.old.images self.new.images }
     {
@@ -181,7 +200,19 @@ impl<N: Life, J: Entering<N>, I: Images<N>, S: Supply<N, J>> Pages<N, J> for Pla
         journal: &mut J,
         page: PageNo,
         pass: &mut Pass<Entry, N>,
-    ) -> Result<(), Fault> {
+    ) -> Result<(), Fault>
+        requires none { self.old.out ≡ 0 }
+        requires made { IsMade N.opens pass.old.log page }
+        ensures framed { OnOk result (is_full (frame_of self.new.frames page) ≡ true) }
+        ensures brings { Brings N.opens N.entries N.session_entries page (I.faults self.old.images) (I.faults self.new.images) result self.old.frames self.new.frames (known (J.account journal.old) pass.old no_claims) (known (J.account journal.new) pass.new no_claims) }
+        ensures came { OnOk result (Comes page self.old.plan self.new.plan) }
+        ensures awaits { OnErr result (self.new.plan ≡ self.old.plan) }
+        ensures out { (self.new.out ≡ 0) × (self.new.reserves ≡ self.old.reserves) }
+        ensures faults { KeepsFaults (S.faults self.old.supply) (S.faults self.new.supply) }
+        ensures entered { Upholds N.opens N.entries N.session_entries is_upkeep (known (J.account journal.old) pass.old no_claims) (known (J.account journal.new) pass.new no_claims) }
+        ensures open { OnOk result (MeetsNoEnd (J.account journal.old) (J.account journal.new)) }
+        ensures refused { IfErr result (FailsToBring N.opens N.log_faults N.made (S.faults self.old.supply) (S.faults self.new.supply) (J.account journal.old) (J.account journal.new) pass.new.log) }
+    {
         fetch(
             rt,
             alloc,
@@ -191,7 +222,9 @@ impl<N: Life, J: Entering<N>, I: Images<N>, S: Supply<N, J>> Pages<N, J> for Pla
             &mut self.frames,
             page,
             pass,
-        )
+        )?;
+        self.plan.came(page);
+        Ok(())
     }
 
     fn renew<R: Wait>(
@@ -201,10 +234,25 @@ impl<N: Life, J: Entering<N>, I: Images<N>, S: Supply<N, J>> Pages<N, J> for Pla
         journal: &mut J,
         held: &mut Option<Held<N>>,
         pass: &mut Pass<Entry, N>,
-    ) -> Result<(), Fault> {
+    ) -> Result<(), Fault>
+        requires held { IsSome held.old }
+        requires alone { self.old.out ≡ 1 }
+        ensures held { held.new ≡ None }
+        ensures renews { IfSome held.old (λ h. Renews h result self.old.frames self.new.frames) }
+        ensures repairs { IfSome held.old (λ h. Repairs N.opens N.entries N.session_entries h.page false result (known (J.account journal.old) pass.old no_claims) (known (J.account journal.new) pass.new no_claims)) }
+        ensures came { IfSome held.old (λ h. OnOk result (Comes h.page self.old.plan self.new.plan)) }
+        ensures awaits { OnErr result (self.new.plan ≡ self.old.plan) }
+        ensures images { self.new.images ≡ self.old.images }
+        ensures out { (self.new.out ≡ 0) × (self.new.reserves ≡ self.old.reserves) }
+        ensures faults { KeepsFaults (S.faults self.old.supply) (S.faults self.new.supply) }
+        ensures entered { Upholds N.opens N.entries N.session_entries is_upkeep (known (J.account journal.old) pass.old no_claims) (known (J.account journal.new) pass.new no_claims) }
+        ensures open { OnOk result (MeetsNoEnd (J.account journal.old) (J.account journal.new)) }
+        ensures refused { IfErr result (FailsToBring N.opens N.log_faults N.made (S.faults self.old.supply) (S.faults self.new.supply) (J.account journal.old) (J.account journal.new) pass.new.log) }
+    {
         let Some(held) = held.take() else {
             unreachable!()
         };
+        let renewed = held.page;
         self.out -= 1;
         fetch_anew(
             rt,
@@ -214,7 +262,9 @@ impl<N: Life, J: Entering<N>, I: Images<N>, S: Supply<N, J>> Pages<N, J> for Pla
             &mut self.frames,
             held,
             pass,
-        )
+        )?;
+        self.plan.came(renewed);
+        Ok(())
     }
 
     fn put_back<R: Wait>(&mut self, _rt: &R, held: &mut Option<Held<N>>) {

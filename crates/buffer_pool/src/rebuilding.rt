@@ -79,7 +79,7 @@ pub(crate) fn in_hand<N: Life, J: Entering<N>, S: Supply<N, J>, R: Wait>(
     requires consistent { IsConsistent N.opens pass.old.log }
     requires agrees { PageAgrees N.opens pass.old.log (record { page = page; lsn = lsn }) }
     requires base { IfSome base (IsBase N.opens pass.old.log page lsn) }
-    ensures page { IfOk result (λ held. (held.page ≡ page) × (held.dirty ≡ not (is_current lsn base))) }
+    ensures page { IfOk result (λ held. (held.page ≡ page) × (held.lsn ≡ lsn) × (held.dirty ≡ not (is_current lsn base))) }
     ensures same { OnErr result (rights.new ≡ rights.old) }
     ensures repairs { Repairs N.opens N.entries N.session_entries page (is_some base) result (known (J.account journal.old) pass.old no_claims) (known (J.account journal.new) pass.new no_claims) }
     ensures entered { Upholds N.opens N.entries N.session_entries is_upkeep (known (J.account journal.old) pass.old no_claims) (known (J.account journal.new) pass.new no_claims) }

@@ -1,20 +1,25 @@
 //! A store is opened.
-ghost use Rattle.std.specs.Prelude.{◌≡◌, ◌<◌, ◌≤◌, ℕ, List, [], None, false, length, IfErr, IfOk};
+ghost use Rattle.std.specs.Prelude.{◌≡◌, ◌<◌, ◌≤◌, ℕ, List, [], None, false, length, map, IfErr, IfOk};
 ghost use Rattle.buffer_pool.specs.Tables.{frame_of};
 ghost use Rattle.buffer_pool.specs.declared.frame.Frame.TheVariants.{Empty};
 ghost use Rattle.journal.specs.State.{calls_of};
+ghost use Rattle.log_index.specs.Listing.{IsListingOf};
 ghost use Rattle.opening.specs.Begins.{MayBegin, all_parts};
 ghost use Rattle.opening_rights.specs.Opened.{AreAtHome};
+ghost use Rattle.restart.specs.Plans.{is_behind};
+ghost use Rattle.wal_record.specs.Checkpoints.{page_heads};
 ghost use Rattle.wal_record.specs.declared.record.Record.{Record};
 ghost use Rattle.plain_store.specs.Opens.{AreEarlier};
 
 use crate::store::PlainStore;
 use buffer_pool::{PlainPool, PoolRefused};
 use listed_log::ListedLog;
+use log_index::Listing;
 use media::{Disk, PageDevice};
 use opening::{Begun, Prepared, prepare, start};
 use page_ops::{Ground, Life, Tokens};
 use page_repair::OwnImages;
+use restart::RestartPlan;
 use std::alloc::Global;
 use store_model::Memory;
 
@@ -48,6 +53,8 @@ pub fn open_store<'a, L: Disk, P: PageDevice, S, N: Life>(
     ensures empty { IfOk result (λ s. (page : ℕ) → frame_of s.pages.frames page ≡ Empty) }
     ensures none { IfOk result (λ s. (s.pages.out ≡ 0) × (s.pages.reserves ≡ false)) }
     ensures homes { IfOk result (λ s. (opening : List Record) → N.opens opening → AreAtHome opening s.pages.frames.index) }
+    // Each page with a record behind its written image in the opening log awaits redo, and no other one.
+    ensures redo { IfOk result (λ s. (opening : List Record) → N.opens opening → s.pages.plan ≡ map is_behind (page_heads opening)) }
     // The life has just begun, and of the log disk's calls is known what was known before.
     ensures begins { IfOk result (λ s. (s.journal.journal.history ≡ []) × (s.journal.journal.ended ≡ None)) }
     ensures calls { IfOk result (λ s. s.journal.journal.calls ≡ calls_of L.passes L.refused L.own log.log.log.device) }
@@ -73,12 +80,15 @@ pub fn open_store<'a, L: Disk, P: PageDevice, S, N: Life>(
         next_tx,
         losers,
     } = prepared;
+    let Ok(plan) = redo_plan(alloc, log.listing()) else {
+        return Err(refused(log, device, supply));
+    };
     // The images of earlier lives are of the opening log, which is durable.
     tokens
         .mark
         .store(&ground.board, log.durable(), &mut tokens.pass);
     let images = OwnImages::new(ground, device, tokens.pass.copy(&ground.board));
-    let pages = match PlainPool::new(alloc, images, supply, index) {
+    let pages = match PlainPool::new(alloc, images, supply, index, plan) {
         Ok(pages) => pages,
         Err(parts) => {
             let PoolRefused { images, supply } = parts;
@@ -100,6 +110,13 @@ pub fn open_store<'a, L: Disk, P: PageDevice, S, N: Life>(
         vault_faults,
         data_faults,
     })
+}
+
+/// Which pages of the log with this listing await redo.
+fn redo_plan(alloc: Global, listing: &Listing) -> Result<RestartPlan, Memory>
+    ensures { (log : List Record) → IsListingOf log listing.now → IfOk result (λ plan. plan ≡ map is_behind (page_heads log)) }
+{
+    RestartPlan::new(alloc, &listing.analysis(alloc)?)
 }
 
 /// The devices are handed back.

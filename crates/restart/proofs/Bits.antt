@@ -1,12 +1,15 @@
 -- Bits in words, and the list of truth values for which they stand.
-use Rattle.std.proofs.Common.{◌≡◌, ◌≢◌, ℕ, zero, suc, ◌+◌, ◌/◌, ◌%◌, ◌<◌, ◌≤◌, eqb, List, [], ◌∷◌, length, get_or, Bool, true, false, Some, refl, sym, ap, ◌∙◌, subst, arith, inl, inr}
+use Rattle.std.proofs.Common.{◌≡◌, ◌≢◌, ◌⊎◌, ℕ, zero, suc, ◌+◌, ◌-◌, ◌/◌, ◌%◌, ◌^◌, ◌<◌, ◌≤◌, eqb, List, [], ◌∷◌, length, get_or, Bool, true, false, Some, None, refl, sym, ap, ◌∙◌, arith, inl, inr, w64}
 use Rattle.std.specs.Prelude.{map, slice_get, slice_set, slice_index_or}
-use Rattle.std.specs.Int.{bit_at}
+use Rattle.std.specs.Int.{bit_at, trailing_zeros}
 use Rattle.std.specs.List.{range_with_len}
+use Rattle.std.proofs.Math.Nat.{div-div-eq-div-mul}
 use Rattle.std.proofs.lemmas.Bool.{cases_eq, cases_lt}
+use Rattle.std.proofs.lemmas.Nat.{pow-add, shr_le}
+use Rattle.std.proofs.lemmas.Nat.Bits.{bit_at-trailing_zeros, bit_at-zero, bit_at_above}
 use Rattle.std.proofs.lemmas.List.{get_or-set_same, get_or-set_other}
 use Rattle.std.proofs.lemmas.List.FromFn.{get_or-map-range_with_len, length-map-range_with_len}
-use Rattle.restart.specs.Plans.{awaits, Comes, flag_at, flags}
+use Rattle.restart.specs.Plans.{awaits, Comes, IsNextAwaiting, IsNextFlag, flag_at, flags}
 
 -- ---- one bit of a word changes
 
@@ -23,6 +26,48 @@ flag_other words n x inside rest m apart = elim (cases_eq (m / 64) (n / 64)) [
       ∙ ap (λ (w : ℕ). eqb (bit_at (get_or words w 0) (m % 64)) 1) (sym e)
   | inr d ↦ ap (λ (w : ℕ). eqb (bit_at w (m % 64)) 1) (get_or-set_other words (n / 64) (m / 64) x 0 d)
 ]
+
+-- ---- the lowest bit of a word from some place on
+
+-- a bit of what is left of a word that is shifted
+shifted : (w k i : ℕ) → bit_at (w / 2 ^ k) i ≡ bit_at w (k + i)
+shifted w k i = ap (λ (v : ℕ). v % 2) (div-div-eq-div-mul w (2 ^ k) (2 ^ i) ∙ ap (λ (m : ℕ). w / m) (sym (pow-add 2 k i)))
+
+module _ (words : List ℕ) (place : ℕ) where
+  abbrev pub rest : ℕ
+  rest = get_or words (place / 64) 0 / 2 ^ (place % 64)
+
+  flag_ahead : (i : ℕ) → place % 64 + i < 64 → flag_at words (place + i) ≡ eqb (bit_at rest i) 1
+  flag_ahead i inside =
+      let word : (place + i) / 64 ≡ place / 64 = omega (arith, inside) in
+      let bit : (place + i) % 64 ≡ place % 64 + i = omega (arith, inside) in
+      (λ j. eqb (bit_at (get_or words (word j) 0) (bit j)) 1) ∙ ap (λ (v : ℕ). eqb v 1) (sym (shifted (get_or words (place / 64) 0) (place % 64) i))
+
+  -- the word has none from the place on
+  pub none_ahead : rest ≡ 0 → (n : ℕ) → place ≤ n → n < place + (64 - place % 64) → flag_at words n ≡ false
+  none_ahead zero_is n from below =
+      ap (flag_at words) (omega (arith, from)) ∙ flag_ahead (n - place) (omega (arith, from, below)) ∙ ap (λ (v : ℕ). eqb (bit_at v (n - place)) 1) zero_is ∙ ap (λ (v : ℕ). eqb v 1) (bit_at-zero (n - place))
+
+  -- else the lowest is so far ahead
+  module _ (some : 0 < rest) (small : get_or words (place / 64) 0 < 2 ^ 64) where
+    abbrev pub ahead : ℕ
+    ahead = trailing_zeros w64 rest
+
+    lowest : (ahead < 64) × (bit_at rest ahead ≡ 1) × ((i : ℕ) → i < ahead → bit_at rest i ≡ 0)
+    lowest = bit_at-trailing_zeros w64 rest some (let le = shr_le (get_or words (place / 64) 0) (place % 64) in omega (arith, le, small))
+
+    within : place % 64 + ahead < 64
+    within = elim (cases_lt (place % 64 + ahead) 64) [
+      | inl is ↦ is
+      | inr over ↦ absurd (cc (sym lowest.1 ∙ shifted (get_or words (place / 64) 0) (place % 64) ahead ∙ bit_at_above (get_or words (place / 64) 0) 64 (place % 64 + ahead) small over))
+    ]
+
+    pub found_there : flag_at words (place + ahead) ≡ true
+    found_there = flag_ahead ahead within ∙ ap (λ (v : ℕ). eqb v 1) lowest.1
+
+    pub none_before : (n : ℕ) → place ≤ n → n < place + ahead → flag_at words n ≡ false
+    none_before n from below =
+        ap (flag_at words) (omega (arith, from)) ∙ flag_ahead (n - place) (let i = within in omega (arith, from, below, i)) ∙ ap (λ (v : ℕ). eqb v 1) (lowest.2 (n - place) (omega (arith, from, below)))
 
 -- ---- the list
 
@@ -85,3 +130,27 @@ pub item_within : {A : Type 0} (xs : List A) (n : ℕ) (x : A) → slice_get xs 
 item_within [] n x at = absurd (cc at)
 item_within (y ∷ ys) zero x at = omega arith
 item_within (y ∷ ys) (suc n) x at = let l = item_within ys n x at in omega (arith, l)
+
+-- ---- the next page
+
+module _ (plan : List Bool) (count : ℕ) (words : List ℕ) (is : flags count words ≡ plan) (after : ℕ) where
+  awaits_at : (m : ℕ) → m < count → awaits plan (suc m) ≡ flag_at words m
+  awaits_at m inside = ap (λ (l : List Bool). slice_index_or l m false) (sym is) ∙ flags_at count m words inside
+
+  -- pages whose bits are off
+  none_of : (q upto : ℕ) → ((n : ℕ) → after ≤ n → n < upto → flag_at words n ≡ false) → count ≤ upto ⊎ (q ≤ upto) → after < q → awaits plan q ≡ false
+  none_of zero upto off far above = absurd (omega (arith, above))
+  none_of (suc m) upto off far above = elim (cases_lt m count) [
+    | inl inside ↦ awaits_at m inside ∙ off m (omega (arith, above)) (elim far [ inl all ↦ omega (arith, inside, all) | inr some ↦ omega (arith, some) ])
+    | inr over ↦ plan_outside plan (suc m) (λ some. let l = plan_length plan count words is in omega (arith, l, over))
+  ]
+
+  pub next_there : (place : ℕ) → IsNextFlag words after count (Some place) → IsNextAwaiting plan after (Some (place + 1))
+  next_there place (from, inside, on, off) = (
+    omega (arith, from),
+    ap (awaits plan) {y = suc place} (omega arith) ∙ awaits_at place inside ∙ on,
+    λ q above below. none_of q place off (inr (omega (arith, below))) above,
+  )
+
+  pub next_none : IsNextFlag words after count None → IsNextAwaiting plan after None
+  next_none off q above = none_of q count off (inl (omega arith)) above

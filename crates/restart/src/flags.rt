@@ -1,6 +1,6 @@
 //! Truth values in words, 64 in each.
-ghost use Rattle.std.specs.Prelude.{◌≡◌, ◌≢◌, ◌*◌, ◌<◌, ◌≤◌, ℕ, true, false, length, IfOk};
-ghost use Rattle.restart.specs.Plans.{flag_at};
+ghost use Rattle.std.specs.Prelude.{◌≡◌, ◌≢◌, ◌*◌, ◌^◌, ◌<◌, ◌≤◌, ℕ, true, false, length, IfOk};
+ghost use Rattle.restart.specs.Plans.{IsNextFlag, flag_at};
 
 use std::alloc::{AllocError, Global};
 
@@ -37,4 +37,22 @@ pub(crate) fn clear_flag(words: &mut [u64], n: usize)
     ensures others { (m : ℕ) → m ≢ n → flag_at words.new m ≡ flag_at words.old m }
 {
     words[n / 64] &= !(1 << (n % 64));
+}
+
+/// The least true value from this place on, among the first so many. Words that have none are passed over.
+pub(crate) fn next_flag(words: &[u64], from: usize, count: usize) -> Option<usize>
+    requires within { count ≤ 64 * length words.now }
+    requires few { count < 2 ^ 32 }
+    ensures { IsNextFlag words.now from count result }
+{
+    let mut place = from;
+    while place < count {
+        let rest = words[place / 64] >> (place % 64);
+        if rest != 0 {
+            let found = place + rest.trailing_zeros() as usize;
+            return if found < count { Some(found) } else { None };
+        }
+        place += 64 - place % 64;
+    }
+    None
 }

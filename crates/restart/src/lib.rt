@@ -6,7 +6,7 @@
 //!
 //! - [`RestartPlan`] knows which pages await redo. Its model is a list with a truth value for each page from 1 on
 //!   (`specs/Plans`): at first exactly the pages whose head is above their written LSN, and then those of them that
-//!   haven't come.
+//!   haven't come. The next of them above a page is found by words of 64 pages.
 //! - [`choose`] names the step of maintenance that goes first, exactly (`specs/Steps`).
 #![tactic(auto)]
 

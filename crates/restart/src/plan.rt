@@ -1,8 +1,8 @@
 //! Which pages await redo.
 ghost use Rattle.std.specs.Prelude.{◌≡◌, ◌<◌, ◌≤◌, suc, length, map, IfOk, IfSome, IfNone};
-ghost use Rattle.restart.specs.Plans.{awaits, is_behind, Comes};
+ghost use Rattle.restart.specs.Plans.{awaits, is_behind, Comes, IsNextAwaiting};
 
-use crate::flags::{clear_flag, flag, no_flags, set_flag};
+use crate::flags::{clear_flag, flag, next_flag, no_flags, set_flag};
 use std::alloc::Global;
 use std::marker::Model;
 use store_model::{Memory, PageNo};
@@ -12,7 +12,7 @@ use wal_record::Analysis;
 #[derive(Drop)]
 pub struct RestartPlan {
     words: Vec<u64>,
-    pages: usize,
+    pages: PageNo,
 }
 
 impl Model for RestartPlan {
@@ -32,16 +32,16 @@ impl RestartPlan {
         ensures { IfOk result (λ p. p ≡ map is_behind analysis.now.heads) }
     {
         let heads = analysis.heads.as_slice();
+        let Ok(pages) = PageNo::try_from(heads.len()) else {
+            return Err(Memory);
+        };
         let mut words = no_flags(alloc, heads.len())?;
         for (place, head) in heads.iter().enumerate() {
             if head.written < head.head {
                 set_flag(words.as_mut_slice(), place);
             }
         }
-        Ok(RestartPlan {
-            words,
-            pages: heads.len(),
-        })
+        Ok(RestartPlan { words, pages })
     }
 
     /// Whether the page awaits redo. A page that the log hadn't made doesn't.
@@ -63,6 +63,14 @@ impl RestartPlan {
         }
     }
 
+    /// The least page above this one that awaits redo.
+    pub fn next(&self, after: PageNo) -> Option<PageNo>
+        ensures { IsNextAwaiting self.now after result }
+    {
+        let place = next_flag(self.words.as_slice(), after as usize, self.pages as usize)?;
+        Some(place as PageNo + 1)
+    }
+
     /// Where the plan has the page, if it has it.
     fn place_of(&self, page: PageNo) -> Option<usize>
         ensures page { IfSome result (λ place. page ≡ suc place) }
@@ -70,7 +78,7 @@ impl RestartPlan {
         ensures outside { IfNone result (1 ≤ page → length self.now < page) }
     {
         let place = (page as usize).checked_sub(1)?;
-        if place < self.pages {
+        if place < self.pages as usize {
             Some(place)
         } else {
             None

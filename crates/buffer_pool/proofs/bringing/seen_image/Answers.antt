@@ -1,5 +1,5 @@
 use Rattle.std.proofs.Common.{◌∙◌}
-use Rattle.page_ops.specs.Seeing.{is_upkeep}
+use Rattle.page_ops.specs.Seeing.{is_none}
 use Rattle.page_ops.proofs.Gaining.{goes_met, upheld_then}
 use Rattle.buffer_pool.proofs.Entering.{looks}
 use Rattle.buffer_pool.proofs.Serving.{agrees_of, given_later}
@@ -13,4 +13,4 @@ returns-clause-agrees g c = agrees_of _ _ _ (record { page = c.args.page; lsn = 
 
 pub returns-clause-entered : goal.returns-clause-entered
 returns-clause-entered g c =
-    upheld_then is_upkeep _ _ _ _ _ _ (goes_met is_upkeep _ _ _ _ c.read_image-bytes.ensures.seen.0 c.read_image-bytes.ensures.seen.1) (looks _ _ _ is_upkeep _ _ _ _ _ _ c.see.ensures.seen)
+    upheld_then is_none _ _ _ _ _ _ (goes_met is_none _ _ _ _ c.read_image-bytes.ensures.seen.0 c.read_image-bytes.ensures.seen.1) (looks _ _ _ is_none _ _ _ _ _ _ c.see.ensures.seen)

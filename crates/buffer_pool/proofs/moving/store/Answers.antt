@@ -2,6 +2,7 @@ use Rattle.std.proofs.Common.{◌≡◌, Bool, true, false, Ok, ap, subst, ◌�
 use Rattle.page_ops.specs.Hands.{Hand}
 use Rattle.buffer_pool.specs.Writes.{is_written, IsWrittenAs}
 use Rattle.buffer_pool.proofs.Changes.{dropped, put_again, stored}
+use Rattle.buffer_pool.proofs.WrittenOut.{clean_writes, dropped_writes, stored_full, stored_writes}
 use Rattle.buffer_pool.proofs.Entering.{looks}
 use Rattle.buffer_pool.proofs.moving.store.Goals as goal
 
@@ -14,17 +15,12 @@ false_is b old new is w = subst (λ (x : Bool). IsWrittenAs (Ok x) old new) is w
 pub returns-then-not-is_dirty-clause-entered : goal.returns-then-not-is_dirty-clause-entered
 returns-then-not-is_dirty-clause-entered g c = looks _ _ _ is_written _ _ _ _ _ _ c.see.ensures.seen
 
-pub returns-in-Ok-true-clause-stored : goal.returns-in-Ok-true-clause-stored
-returns-in-Ok-true-clause-stored g c =
-    stored c.args.page c.in-Page.held c.args.frames.now c.try_take.new.self c.in-Page.ensures.taken.0 c.in-Page.ensures.taken.1 c.in-Page.ensures.inside c.in-Page.ensures.page c.write_page.new.held c.note_written.new.self c.put.new.self c.held.inside.lsn
-    (true_is _ _ _ c.in-Ok-true.field-0-test c.in-Ok-true.ensures.written) c.note_written.ensures.same c.note_written.ensures.written
-    (ap (λ (x : Hand). x.lsn) (c.held.view_is ∙ true_is _ _ _ c.in-Ok-true.field-0-test c.in-Ok-true.ensures.written)) c.put.ensures
-
-pub returns-in-Ok-false-clause-stored : goal.returns-in-Ok-false-clause-stored
-returns-in-Ok-false-clause-stored g c =
-    dropped c.args.page c.in-Page.held c.args.frames.now c.try_take.new.self c.in-Page.ensures.taken.0 c.in-Page.ensures.taken.1 c.in-Page.ensures.inside c.in-Page.ensures.page c.write_page.new.held c.send_home.new.self c.into_right.result
-    (false_is _ _ _ c.in-Ok-false.field-0-test c.in-Ok-false.ensures.written) c.into_right.ensures.right c.send_home.ensures
-
 pub returns-in-Err-clause-same : goal.returns-in-Err-clause-same
 returns-in-Err-clause-same g c =
     put_again c.args.page c.in-Page.held c.args.frames.now c.try_take.new.self c.in-Page.ensures.taken.0 c.in-Page.ensures.taken.1 c.in-Page.ensures.inside c.in-Page.ensures.page c.write_page.new.held c.put-in-Err.new.self c.in-Err.ensures.written c.put-in-Err.ensures
+
+pub returns-in-Ok-true-clause-stored : goal.returns-in-Ok-true-clause-stored
+returns-in-Ok-true-clause-stored g c = ?
+
+pub returns-in-Ok-true-clause-writes : goal.returns-in-Ok-true-clause-writes
+returns-in-Ok-true-clause-writes g c = ?

@@ -1,4 +1,4 @@
-use Rattle.std.proofs.Common.{◌/◌, ◌%◌, ◌<◌, length, arith, w64}
+use Rattle.std.proofs.Common.{◌%◌, arith, w64}
 use Rattle.std.proofs.lemmas.Nat.Bits.{bit_at_clear_same, bit_at_clear_other}
 use Rattle.restart.proofs.Bits.{flag_same, flag_other}
 use Rattle.restart.proofs.flags.clear_flag.Goals as goal

@@ -1,7 +1,7 @@
 use Rattle.std.proofs.Common.{List, length, ℕ, Bool, arith, ap, subst, sym, ◌∙◌}
 use Rattle.std.proofs.lemmas.List.{with_items_is}
 use Rattle.restart.specs.Plans.{Comes, flag_at, flags}
-use Rattle.restart.proofs.Bits.{comes, plan_length, plan_outside}
+use Rattle.restart.proofs.Bits.{comes, plan_length}
 use Rattle.restart.proofs.plan.RestartPlan.came.Goals as goal
 
 pub clear_flag-requires : goal.clear_flag-requires
