@@ -1,3 +1,4 @@
+pub mod Helps
 pub mod Kept
 pub mod Pages
 pub mod State

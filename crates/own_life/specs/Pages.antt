@@ -1,6 +1,7 @@
 -- What a life's pages have written to their data device.
-use Rattle.std.specs.Prelude.{◌≡◌, ◌<◌, ◌≤◌, ℕ, List, ◌++◌, Option, Some, None, true}
-use Rattle.std.specs.List.{All}
+use Rattle.std.specs.Prelude.{◌≡◌, ◌≢◌, ◌⊎◌, ◌<◌, ◌≤◌, ◌==◌, ℕ, List, ◌++◌, length, Option, Some, None, Bool, true, IsTrue}
+use Rattle.std.specs.List.{All, list_any}
+use Rattle.restart.specs.Plans.{awaits}
 use Rattle.buffer_pool.specs.Tables.{Table, frame_of, is_dirty}
 use Rattle.wal_record.specs.declared.record.Record.TheVariants as kinds
 use Rattle.wal_record.specs.declared.entry.Entry.{Entry}
@@ -9,6 +10,10 @@ use Rattle.wal_record.specs.declared.entry.Entry.TheVariants.{Rec}
 -- the data device lacks the page as it is in its frame
 abbrev pub Lacks : Table → ℕ → Type 0
 Lacks t page = is_dirty (frame_of t page) ≡ true
+
+-- the page awaits redo by this plan
+abbrev pub AwaitsRedo : List Bool → ℕ → Type 0
+AwaitsRedo plan page = awaits plan page ≡ true
 
 -- From this page on up to the one that was written none is dirty, and none at all where there was none to write.
 abbrev pub IsNextWritten : (ℕ → Type 0) → ℕ → Option ℕ → Type 0
@@ -23,3 +28,24 @@ IsWrittenEntry e = ⊥
 -- that alone was added, of any number of pages
 abbrev pub WritesPages : List Entry → List Entry → Type 0
 WritesPages h h' = (es : List Entry) × All IsWrittenEntry es × (h' ≡ h ++ es)
+
+-- so many at most
+abbrev pub WritesUpto : ℕ → List Entry → List Entry → Type 0
+WritesUpto most h h' = (es : List Entry) × All IsWrittenEntry es × (length es ≤ most) × (h' ≡ h ++ es)
+
+-- each other page that was so still is
+abbrev pub OthersStay : ℕ → (ℕ → Type 0) → (ℕ → Type 0) → Type 0
+OthersStay page old new = (q : ℕ) → q ≢ page → old q → new q
+
+abbrev pub OneLess : (ℕ → Type 0) → (ℕ → Type 0) → Option ℕ → Type 0
+OneLess old new (Some page) = OthersStay page old new
+OneLess old new None = Unit {0}
+
+-- The least page that awaited redo has come, and each other one still awaits it if it did; or none awaits it.
+abbrev pub IsNextRedone : (ℕ → Type 0) → (ℕ → Type 0) → Option ℕ → Type 0
+IsNextRedone old new (Some page) = old page × (new page → ⊥) × ((q : ℕ) → q < page → old q → ⊥) × OthersStay page old new
+IsNextRedone old new None = (q : ℕ) → new q → ⊥
+
+-- each page that was so still is, but for so many at most
+abbrev pub AllBut : ℕ → (ℕ → Type 0) → (ℕ → Type 0) → Type 0
+AllBut most old new = (gone : List ℕ) × (length gone ≤ most) × ((q : ℕ) → old q → new q ⊎ IsTrue (list_any (λ p. q == p) gone))

@@ -2,7 +2,7 @@
 ghost use Rattle.std.specs.Prelude.{◌≡◌, ◌<◌, ◌≤◌, ℕ, List, None, IfErr, IfOk, OnOk, length};
 ghost use Rattle.wal_record.specs.History.{life_log};
 ghost use Rattle.wal_record.specs.declared.record.Record.{Record};
-ghost use Rattle.own_life.specs.Pages.{IsNextWritten, WritesPages};
+ghost use Rattle.own_life.specs.Pages.{IsNextWritten, OneLess, WritesPages, WritesUpto};
 ghost use Rattle.own_life.specs.State.{Fails, FailsToFlush, GoesOn};
 
 use crate::life::OwnLife;
@@ -16,7 +16,7 @@ use store_model::{Fault, PageNo};
 
 impl<'a, L: Disk, N: Life> OwnLife<'a, L, N> {
     /// Writes the least dirty page above this one, and gives its number; none where no page above it is dirty.
-    fn write_next<D: PageDevice, P: LifePages<N, D>, R: Wait>(
+    pub(crate) fn write_next<D: PageDevice, P: LifePages<N, D>, R: Wait>(
         &mut self,
         rt: &R,
         alloc: Global,
@@ -28,7 +28,9 @@ impl<'a, L: Disk, N: Life> OwnLife<'a, L, N> {
         ensures idle { P.idle pages.new }
         ensures next { IfOk result (IsNextWritten (P.dirty pages.new) after) }
         ensures fewer { (page : ℕ) → P.dirty pages.new page → P.dirty pages.old page }
-        ensures written { WritesPages self.old.history self.new.history }
+        ensures one { IfOk result (OneLess (P.dirty pages.old) (P.dirty pages.new)) }
+        ensures awaits { (page : ℕ) → P.awaits pages.new page → P.awaits pages.old page }
+        ensures written { WritesUpto 1 self.old.history self.new.history }
         ensures names { self.new.active ≡ self.old.active }
         ensures goes { OnOk result (GoesOn self.old self.new) }
         ensures refused { IfErr result (Fails N.opens self.old self.new) }

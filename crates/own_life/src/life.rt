@@ -253,7 +253,7 @@ fn place_of<N: Life>(life: &StoreLife<N>, tx: TxId) -> Option<usize>
 }
 
 /// No vault is read.
-fn unvaulted<T>(answer: Result<T, Fault>) -> Result<T, Fault>
+pub(crate) fn unvaulted<T>(answer: Result<T, Fault>) -> Result<T, Fault>
     ensures { result ≡ without_vault answer }
 {
     match answer {

@@ -1,5 +1,5 @@
 //! What a life asks of its pages.
-ghost use Rattle.std.specs.Prelude.{◌≡◌, ◌≤◌, ℕ, Some, IfErr, IfOk, OnOk, true};
+ghost use Rattle.std.specs.Prelude.{◌≡◌, ◌≤◌, ◌⊎◌, ℕ, Some, IfErr, IfOk, OnOk, true};
 ghost use mathlib.Core.List.{IsPrefix};
 ghost use Rattle.buffer_pool.specs.Writes.{no_faults};
 ghost use Rattle.command_laws.specs.Names.{Active, active_of, is_active};
@@ -7,13 +7,17 @@ ghost use Rattle.engine.specs.Answers.{FailsToAsk};
 ghost use Rattle.engine.specs.Applies.{GivesNone};
 ghost use Rattle.engine.specs.Requests.{IsRefusal, lock_of};
 ghost use Rattle.engine.specs.Writes.{LacksRoom};
+ghost use Rattle.media.specs.Cause.{Rose};
+ghost use Rattle.media.specs.Counted.{Armed};
+ghost use Rattle.media.specs.Images.{SameImages};
 ghost use Rattle.page_ops.specs.Causes.{FailsToBring, FailsToReserve, MeetsNoEnd};
 ghost use Rattle.page_ops.specs.Outcomes.{IsConflict};
 ghost use Rattle.page_ops.specs.Seeing.{Keeps};
 ghost use Rattle.page_repair.specs.Images.{AreWritten};
 ghost use Rattle.store_life.specs.SoFar.{HasNames, Runs, actives, left_by};
+ghost use Rattle.store_life.specs.Steps.{AddsUpkeep, StepsBack};
 ghost use Rattle.store_life.specs.Turns.{Asks, EndsBy, IsTold};
-ghost use Rattle.own_life.specs.Pages.{IsNextWritten, WritesPages};
+ghost use Rattle.own_life.specs.Pages.{IsNextRedone, IsNextWritten, OneLess, WritesUpto};
 
 use engine::Answered;
 use front::Pass;
@@ -34,6 +38,12 @@ pub trait LifePages<N: Life, D: PageDevice> {
 
     /// The pages that the data device lacks.
     ghost dirty: { Self → ℕ → Type 0 };
+
+    /// The pages that await redo.
+    ghost awaits: { Self → ℕ → Type 0 };
+
+    /// The data device.
+    ghost device: { Self → D };
 
     /// As `StoreLife::ask`, of an active transaction.
     fn ask<J: Journaling<N>, R: Wait>(
@@ -84,6 +94,48 @@ pub trait LifePages<N: Life, D: PageDevice> {
         ensures open { OnOk result (MeetsNoEnd (J.account journal.old) (J.account journal.new)) }
         ensures refused { IfErr result (FailsToBring N.opens N.log_faults N.made no_faults no_faults (J.account journal.old) (J.account journal.new) life.new.pass.log) };
 
+    /// As `StoreLife::undo_next`.
+    fn undo_next<J: Journaling<N>, R: Wait>(
+        &mut self,
+        rt: &R,
+        alloc: Global,
+        journal: &mut J,
+        life: &mut StoreLife<N>,
+    ) -> Result<bool, Fault>
+        requires idle { idle self.old }
+        requires runs { Runs N.opens N.entries (J.account journal.old) life.old }
+        ensures idle { idle self.new }
+        ensures runs { Runs N.opens N.entries (J.account journal.new) life.new }
+        ensures steps { StepsBack N.opens result life.old.pass.log life.new.pass.log }
+        ensures names { life.new.named ≡ life.old.named }
+        ensures named { HasNames life.old → HasNames life.new }
+        ensures durable { life.old.pass.durable ≤ life.new.pass.durable }
+        ensures keeps { Keeps (J.account journal.old) (J.account journal.new) }
+        ensures open { OnOk result (MeetsNoEnd (J.account journal.old) (J.account journal.new)) }
+        ensures refused { IfErr result (FailsToBring N.opens N.log_faults N.made no_faults no_faults (J.account journal.old) (J.account journal.new) life.new.pass.log) };
+
+    /// Brings the least page that awaits redo, and gives its number; none where no page awaits it.
+    fn redo_next<J: Journaling<N>, R: Wait>(
+        &mut self,
+        rt: &R,
+        alloc: Global,
+        journal: &mut J,
+        life: &mut StoreLife<N>,
+    ) -> Result<Option<PageNo>, Fault>
+        requires idle { idle self.old }
+        requires runs { Runs N.opens N.entries (J.account journal.old) life.old }
+        ensures idle { idle self.new }
+        ensures runs { Runs N.opens N.entries (J.account journal.new) life.new }
+        ensures next { IfOk result (IsNextRedone (awaits self.old) (awaits self.new)) }
+        ensures fewer { (page : ℕ) → awaits self.new page → awaits self.old page }
+        ensures upkeep { AddsUpkeep life.old.pass.log life.new.pass.log }
+        ensures names { life.new.named ≡ life.old.named }
+        ensures named { HasNames life.old → HasNames life.new }
+        ensures durable { life.old.pass.durable ≤ life.new.pass.durable }
+        ensures keeps { Keeps (J.account journal.old) (J.account journal.new) }
+        ensures open { OnOk result (MeetsNoEnd (J.account journal.old) (J.account journal.new)) }
+        ensures refused { IfErr result (FailsToBring N.opens N.log_faults N.made no_faults no_faults (J.account journal.old) (J.account journal.new) life.new.pass.log) };
+
     /// Writes the least dirty page above this one to the data device, once the log is durable up to its LSN, and gives its number;
     /// none where no page above it is dirty. Where the device fails the page is dropped, and no answer tells of it.
     fn write_next<J: Entering<N>, R: Wait>(
@@ -100,7 +152,9 @@ pub trait LifePages<N: Life, D: PageDevice> {
         ensures runs { Runs N.opens N.entries (J.account journal.new) life.new }
         ensures next { IfOk result (IsNextWritten (dirty self.new) after) }
         ensures fewer { (page : ℕ) → dirty self.new page → dirty self.old page }
-        ensures writes { WritesPages life.old.pass.log life.new.pass.log }
+        ensures one { IfOk result (OneLess (dirty self.old) (dirty self.new)) }
+        ensures awaits { (page : ℕ) → awaits self.new page → awaits self.old page }
+        ensures writes { WritesUpto 1 life.old.pass.log life.new.pass.log }
         ensures names { life.new.named ≡ life.old.named }
         ensures named { HasNames life.old → HasNames life.new }
         ensures durable { life.old.pass.durable ≤ life.new.pass.durable }
@@ -111,12 +165,18 @@ pub trait LifePages<N: Life, D: PageDevice> {
     /// Reads of the page from the data device fail verification until its next write. No answer tells whether the device did so.
     fn damage(&mut self, page: PageNo)
         requires idle { idle self.old }
-        ensures idle { idle self.new };
+        ensures idle { idle self.new }
+        ensures damaged { D.tells → D.spoiled (device self.new) page ⊎ Rose (D.faults (device self.old)) (D.faults (device self.new)) }
+        ensures same { D.tells → SameImages D.told D.newest (device self.old) (device self.new) }
+        ensures pages { (dirty self.new ≡ dirty self.old) × (awaits self.new ≡ awaits self.old) };
 
     /// Arms the data device's fuse, which lets n more calls pass, or renews it.
     fn fuse(&mut self, n: Option<u64>)
         requires idle { idle self.old }
-        ensures idle { idle self.new };
+        ensures idle { idle self.new }
+        ensures fuse { Armed D.fuses D.passes D.refused D.own n (device self.old) (device self.new) }
+        ensures same { D.tells → SameImages D.told D.newest (device self.old) (device self.new) }
+        ensures pages { (dirty self.new ≡ dirty self.old) × (awaits self.new ≡ awaits self.old) };
 
     /// The data device, as it is. The pass then has seen what its images are made of.
     fn into_device(self, pass: &mut Pass<Entry, N>) -> D

@@ -1,5 +1,5 @@
 //! The pages of a life over its data device.
-ghost use Rattle.std.specs.Prelude.{◌≡◌, ◌≤◌, ℕ, Some, IfErr, IfOk, OnOk, false, true};
+ghost use Rattle.std.specs.Prelude.{◌≡◌, ◌≤◌, ◌⊎◌, ℕ, Some, IfErr, IfOk, OnOk, false, true};
 ghost use mathlib.Core.List.{IsPrefix};
 ghost use Rattle.buffer_pool.specs.Writes.{no_faults};
 ghost use Rattle.command_laws.specs.Names.{Active, active_of, is_active};
@@ -7,13 +7,17 @@ ghost use Rattle.engine.specs.Answers.{FailsToAsk};
 ghost use Rattle.engine.specs.Applies.{GivesNone};
 ghost use Rattle.engine.specs.Requests.{IsRefusal, lock_of};
 ghost use Rattle.engine.specs.Writes.{LacksRoom};
+ghost use Rattle.media.specs.Cause.{Rose};
+ghost use Rattle.media.specs.Counted.{Armed};
+ghost use Rattle.media.specs.Images.{SameImages};
 ghost use Rattle.page_ops.specs.Causes.{FailsToBring, FailsToReserve, MeetsNoEnd};
 ghost use Rattle.page_ops.specs.Outcomes.{IsConflict};
 ghost use Rattle.page_ops.specs.Seeing.{Keeps};
 ghost use Rattle.page_repair.specs.Images.{AreWritten};
 ghost use Rattle.store_life.specs.SoFar.{HasNames, Runs, actives, left_by};
+ghost use Rattle.store_life.specs.Steps.{AddsUpkeep, StepsBack};
 ghost use Rattle.store_life.specs.Turns.{Asks, EndsBy, IsTold};
-ghost use Rattle.own_life.specs.Pages.{IsNextWritten, Lacks, WritesPages};
+ghost use Rattle.own_life.specs.Pages.{AwaitsRedo, IsNextRedone, IsNextWritten, Lacks, OneLess, WritesUpto};
 
 use crate::supply::LogAlone;
 use buffer_pool::PlainPool;
@@ -21,7 +25,7 @@ use engine::Answered;
 use front::Pass;
 use media::PageDevice;
 use operators::Operators;
-use page_ops::{Entering, Journaling, Life};
+use page_ops::{Entering, Journaling, Life, Pages};
 use page_repair::OwnImages;
 use script::Name;
 use std::alloc::Global;
@@ -95,6 +99,64 @@ impl<'a, D: PageDevice, N: Life> StorePages<'a, D, N> {
         life.abort(rt, alloc, &mut self.pool, journal, name)
     }
 
+    /// As `StoreLife::undo_next`.
+    pub fn undo_next<J: Journaling<N>, R: Wait>(
+        &mut self,
+        rt: &R,
+        alloc: Global,
+        journal: &mut J,
+        life: &mut StoreLife<N>,
+    ) -> Result<bool, Fault>
+        requires idle { (self.old.pool.out ≡ 0) × (self.old.pool.reserves ≡ false) }
+        requires runs { Runs N.opens N.entries (J.account journal.old) life.old }
+        ensures idle { (self.new.pool.out ≡ 0) × (self.new.pool.reserves ≡ false) }
+        ensures runs { Runs N.opens N.entries (J.account journal.new) life.new }
+        ensures steps { StepsBack N.opens result life.old.pass.log life.new.pass.log }
+        ensures names { life.new.named ≡ life.old.named }
+        ensures named { HasNames life.old → HasNames life.new }
+        ensures durable { life.old.pass.durable ≤ life.new.pass.durable }
+        ensures keeps { Keeps (J.account journal.old) (J.account journal.new) }
+        ensures open { OnOk result (MeetsNoEnd (J.account journal.old) (J.account journal.new)) }
+        ensures refused { IfErr result (FailsToBring N.opens N.log_faults N.made no_faults no_faults (J.account journal.old) (J.account journal.new) life.new.pass.log) }
+    {
+        life.undo_next(rt, alloc, &mut self.pool, journal)
+    }
+
+    /// Brings the least page that awaits redo, and gives its number; none where no page awaits it.
+    pub fn redo_next<J: Journaling<N>, R: Wait>(
+        &mut self,
+        rt: &R,
+        alloc: Global,
+        journal: &mut J,
+        life: &mut StoreLife<N>,
+    ) -> Result<Option<PageNo>, Fault>
+        requires idle { (self.old.pool.out ≡ 0) × (self.old.pool.reserves ≡ false) }
+        requires runs { Runs N.opens N.entries (J.account journal.old) life.old }
+        ensures idle { (self.new.pool.out ≡ 0) × (self.new.pool.reserves ≡ false) }
+        ensures runs { Runs N.opens N.entries (J.account journal.new) life.new }
+        ensures next { IfOk result (IsNextRedone (AwaitsRedo self.old.pool.plan) (AwaitsRedo self.new.pool.plan)) }
+        ensures fewer { (page : ℕ) → AwaitsRedo self.new.pool.plan page → AwaitsRedo self.old.pool.plan page }
+        ensures upkeep { AddsUpkeep life.old.pass.log life.new.pass.log }
+        ensures names { life.new.named ≡ life.old.named }
+        ensures named { HasNames life.old → HasNames life.new }
+        ensures durable { life.old.pass.durable ≤ life.new.pass.durable }
+        ensures keeps { Keeps (J.account journal.old) (J.account journal.new) }
+        ensures open { OnOk result (MeetsNoEnd (J.account journal.old) (J.account journal.new)) }
+        ensures refused { IfErr result (FailsToBring N.opens N.log_faults N.made no_faults no_faults (J.account journal.old) (J.account journal.new) life.new.pass.log) }
+    {
+        let Some(page) = self.pool.next_redo(0) else {
+            return Ok(None);
+        };
+        // What awaits redo is there, in every log that is told.
+        if page > journal.pages(rt, &mut life.pass) {
+            return Err(Fault::Memory);
+        }
+        match self.pool.bring(rt, alloc, journal, page, &mut life.pass) {
+            Ok(()) => Ok(Some(page)),
+            Err(fault) => Err(fault),
+        }
+    }
+
     /// Writes the least dirty page above this one to the data device, once the log is durable up to its LSN, and gives its number;
     /// none where no page above it is dirty. Where the device fails the page is dropped, and no answer tells of it.
     pub fn write_next<J: Entering<N>, R: Wait>(
@@ -111,7 +173,9 @@ impl<'a, D: PageDevice, N: Life> StorePages<'a, D, N> {
         ensures runs { Runs N.opens N.entries (J.account journal.new) life.new }
         ensures next { IfOk result (IsNextWritten (Lacks self.new.pool.frames) after) }
         ensures fewer { (page : ℕ) → Lacks self.new.pool.frames page → Lacks self.old.pool.frames page }
-        ensures writes { WritesPages life.old.pass.log life.new.pass.log }
+        ensures one { IfOk result (OneLess (Lacks self.old.pool.frames) (Lacks self.new.pool.frames)) }
+        ensures awaits { (page : ℕ) → AwaitsRedo self.new.pool.plan page → AwaitsRedo self.old.pool.plan page }
+        ensures writes { WritesUpto 1 life.old.pass.log life.new.pass.log }
         ensures names { life.new.named ≡ life.old.named }
         ensures named { HasNames life.old → HasNames life.new }
         ensures durable { life.old.pass.durable ≤ life.new.pass.durable }
@@ -135,6 +199,9 @@ impl<'a, D: PageDevice, N: Life> StorePages<'a, D, N> {
     pub fn damage(&mut self, page: PageNo)
         requires idle { (self.old.pool.out ≡ 0) × (self.old.pool.reserves ≡ false) }
         ensures idle { (self.new.pool.out ≡ 0) × (self.new.pool.reserves ≡ false) }
+        ensures damaged { D.tells → D.spoiled self.new.pool.images page ⊎ Rose (D.faults self.old.pool.images) (D.faults self.new.pool.images) }
+        ensures same { D.tells → SameImages D.told D.newest self.old.pool.images self.new.pool.images }
+        ensures pages { (self.new.pool.frames ≡ self.old.pool.frames) × (self.new.pool.plan ≡ self.old.pool.plan) }
     {
         let _ = self.pool.spoil(page);
     }
@@ -143,6 +210,9 @@ impl<'a, D: PageDevice, N: Life> StorePages<'a, D, N> {
     pub fn fuse(&mut self, n: Option<u64>)
         requires idle { (self.old.pool.out ≡ 0) × (self.old.pool.reserves ≡ false) }
         ensures idle { (self.new.pool.out ≡ 0) × (self.new.pool.reserves ≡ false) }
+        ensures fuse { Armed D.fuses D.passes D.refused D.own n self.old.pool.images self.new.pool.images }
+        ensures same { D.tells → SameImages D.told D.newest self.old.pool.images self.new.pool.images }
+        ensures pages { (self.new.pool.frames ≡ self.old.pool.frames) × (self.new.pool.plan ≡ self.old.pool.plan) }
     {
         self.pool.fuse(n);
     }

@@ -1,19 +1,25 @@
 -- A step on the least loser, where nobody else enters anything.
 use Rattle.std.proofs.Common.{◌≡◌, ℕ, ◌≤◌, Bool, true, false, cond, List, [], ◌∷◌, ◌++◌, length, Result, Ok, Err, refl, sym, ap, subst, ◌∙◌, append-nil, length-append, arith, inl, inr}
-use Rattle.std.specs.Prelude.{◌==◌, IfErr, IfOk, OnOk, filter}
-use Rattle.std.specs.List.{All, list_all}
+use Rattle.std.specs.Prelude.{◌==◌, ◌||◌, IfErr, IfOk, OnOk, filter, not}
+use Rattle.std.specs.List.{All, list_all, list_any}
 use Rattle.std.proofs.lemmas.List.Elements.{All-append, All-cons, All-nil, filter-append}
+use Rattle.std.proofs.lemmas.List.Folds.{list_any-append}
 use Rattle.front.proofs.Keeping.{prefix_self}
-use Rattle.store_model.proofs.Bools.{both_true, not_both}
+use Rattle.store_model.proofs.Bools.{both_true, not_both, or_left}
 use Rattle.store_model.specs.declared.fault.Fault.{Fault}
+use Rattle.wal_record.specs.Chains.{finishes}
+use Rattle.wal_record.specs.History.{log_of}
+use Rattle.wal_record.specs.OpenWrites.{losers}
 use Rattle.wal_record.specs.declared.record.Record.{Record}
 use Rattle.wal_record.specs.declared.record.Record.TheVariants as kinds
 use Rattle.wal_record.specs.declared.entry.Entry.{Entry}
 use Rattle.wal_record.specs.declared.entry.Entry.TheVariants.{Rec, Repaired}
+use Rattle.life_laws.proofs.Leaving.{log_of_append}
 use Rattle.log_laws.proofs.Central.{eqb_self}
 use Rattle.page_ops.specs.Causes.{FailsToBring, MeetsNoEnd}
 use Rattle.page_ops.specs.Desks.{Desk, Faults, KeepsFaults}
 use Rattle.page_ops.specs.Names.{LedgerName}
+use Rattle.page_ops.specs.Outcomes.{losers_left}
 use Rattle.page_ops.specs.Seeing.{Account, Keeps}
 use Rattle.page_ops.proofs.Gaining.{keeps_then}
 use Rattle.command_laws.specs.Alone.{IsAlone}
@@ -165,3 +171,28 @@ stepped_named opens (Ok true) h h' active a named =
     subst (λ (l : List Entry). AreNamed l active) (sym a.added) (still_named h (a.before ++ a.step ∷ []) active none named)
 stepped_named opens (Ok false) h h' active a named = subst (λ (l : List Entry). AreNamed l active) (sym a.0) named
 stepped_named opens (Err f) h h' active a named = upkeep_named h h' active a named
+
+-- ---- who is over stays so
+
+fewer_left : (f g : ℕ → Bool) → ((t : ℕ) → g t ≡ true → f t ≡ true) → (ns : List ℕ) → filter f ns ≡ [] → filter g ns ≡ []
+fewer_left f g more [] none = refl
+fewer_left f g more (n ∷ ns) none = by (f n) refl (g n) refl none (fewer_left f g more ns)
+  where
+    by : (b : Bool) → f n ≡ b → (c : Bool) → g n ≡ c → cond b (n ∷ filter f ns) (filter f ns) ≡ [] → (filter f ns ≡ [] → filter g ns ≡ []) → cond c (n ∷ filter g ns) (filter g ns) ≡ []
+    by true fs c gs k rest = absurd (cc k)
+    by false fs true gs k rest = absurd (not_both (f n) (more n gs) fs)
+    by false fs false gs k rest = rest k
+
+not_finished : (t : ℕ) (h es : List Entry) → not (list_any (finishes t) (log_of (h ++ es))) ≡ true → not (list_any (finishes t) (log_of h)) ≡ true
+not_finished t h es is = by (list_any (finishes t) (log_of h)) refl
+  where
+    whole : list_any (finishes t) (log_of (h ++ es)) ≡ (list_any (finishes t) (log_of h) || list_any (finishes t) (log_of es))
+    whole = ap (list_any (finishes t)) (log_of_append h es) ∙ list_any-append (finishes t) (log_of h) (log_of es)
+
+    by : (b : Bool) → list_any (finishes t) (log_of h) ≡ b → not (list_any (finishes t) (log_of h)) ≡ true
+    by false k = ap not k
+    by true k = let two : not true ≡ true = sym (ap not (whole ∙ or_left (list_any (finishes t) (log_of h)) (list_any (finishes t) (log_of es)) k)) ∙ is in absurd (cc two)
+
+pub over_later : (opens : List Record → Type 0) (h es h' : List Entry) → h' ≡ h ++ es → AreAllOver opens h → AreAllOver opens h'
+over_later opens h es h' is over = λ opening stands. ap (losers_left opening) is
+    ∙ fewer_left (λ (t : ℕ). not (list_any (finishes t) (log_of h))) (λ (t : ℕ). not (list_any (finishes t) (log_of (h ++ es)))) (λ t k. not_finished t h es k) (losers opening) (over opening stands)

@@ -1,0 +1,174 @@
+//! Help: what an opening has left to do, and what a close would have to, step by step.
+ghost use Rattle.std.specs.Prelude.{◌≡◌, ◌⊎◌, ◌<◌, ◌≤◌, ℕ, None, IfErr, IfOk, OnErr, OnOk};
+ghost use Rattle.maintenance.specs.Steps.{AreAllOver};
+ghost use Rattle.rollback.specs.Owners.{IsLoserOf};
+ghost use Rattle.store_life.specs.Steps.{AddsUpkeep, StepsBack};
+ghost use Rattle.own_life.specs.Helps.{AddsSteps, Helps, Undoes, UndoesSome};
+ghost use Rattle.own_life.specs.Pages.{AllBut, IsNextRedone, WritesUpto};
+ghost use Rattle.own_life.specs.State.{Fails, GoesOn};
+
+use crate::life::{OwnLife, unvaulted};
+use crate::life_pages::LifePages;
+use crate::seeing::see_whole;
+use media::{Disk, PageDevice};
+use page_ops::Life;
+use std::alloc::Global;
+use std::sync::Wait;
+use store_model::{Fault, PageNo};
+
+impl<'a, L: Disk, N: Life> OwnLife<'a, L, N> {
+    /// Takes so many steps, or fewer where no step has work, and tells how many. A step is the first of these that has work: a
+    /// write of the least loser is undone, or it is ended; the least page that awaits redo is brought; the least dirty page is
+    /// written, and dropped where the device fails. By one thread no work comes back of a kind that is done: a page that is
+    /// brought or written makes no loser, and one that is written awaits no redo.
+    pub fn help<D: PageDevice, P: LifePages<N, D>, R: Wait>(
+        &mut self,
+        rt: &R,
+        alloc: Global,
+        pages: &mut P,
+        steps: u32,
+    ) -> Result<u32, Fault>
+        requires open { self.old.ended ≡ None }
+        requires idle { P.idle pages.old }
+        ensures idle { P.idle pages.new }
+        ensures helps { Helps (IsLoserOf N.opens) steps self.old.history self.new.history }
+        ensures taken { IfOk result (λ taken. taken ≤ steps) }
+        ensures losers { IfOk result (λ taken. AreAllOver N.opens self.new.history ⊎ ((taken ≡ steps) × AddsSteps steps self.old.history self.new.history)) }
+        ensures redone { IfOk result (λ taken. taken < steps → (page : ℕ) → P.awaits pages.new page → ⊥) }
+        ensures written { IfOk result (λ taken. taken < steps → (page : ℕ) → 0 < page → P.dirty pages.new page → ⊥) }
+        ensures names { self.new.active ≡ self.old.active }
+        ensures goes { OnOk result (GoesOn self.old self.new) }
+        ensures refused { IfErr result (Fails N.opens self.old self.new) }
+    {
+        let undone = self.undo_losers(rt, alloc, pages, steps)?;
+        let redone = self.redo_pages(rt, alloc, pages, steps - undone)?;
+        let written = self.write_pages(rt, alloc, pages, steps - undone - redone)?;
+        Ok(undone + redone + written)
+    }
+
+    /// Undoes losers, the least first, in so many steps at most.
+    fn undo_losers<D: PageDevice, P: LifePages<N, D>, R: Wait>(
+        &mut self,
+        rt: &R,
+        alloc: Global,
+        pages: &mut P,
+        steps: u32,
+    ) -> Result<u32, Fault>
+        requires open { self.old.ended ≡ None }
+        requires idle { P.idle pages.old }
+        ensures idle { P.idle pages.new }
+        ensures few { IfOk result (λ taken. taken ≤ steps) }
+        ensures undoes { IfOk result (λ taken. Undoes (IsLoserOf N.opens) taken self.old.history self.new.history) }
+        ensures over { IfOk result (λ taken. taken < steps → AreAllOver N.opens self.new.history) }
+        ensures some { OnErr result (UndoesSome (IsLoserOf N.opens) steps self.old.history self.new.history) }
+        ensures names { self.new.active ≡ self.old.active }
+        ensures goes { OnOk result (GoesOn self.old self.new) }
+        ensures refused { IfErr result (Fails N.opens self.old self.new) }
+    {
+        for taken in 0..steps {
+            if !self.undo_next(rt, alloc, pages)? {
+                return Ok(taken);
+            }
+        }
+        Ok(steps)
+    }
+
+    /// Brings so many pages that await redo at most, the least first.
+    fn redo_pages<D: PageDevice, P: LifePages<N, D>, R: Wait>(
+        &mut self,
+        rt: &R,
+        alloc: Global,
+        pages: &mut P,
+        steps: u32,
+    ) -> Result<u32, Fault>
+        requires open { self.old.ended ≡ None }
+        requires idle { P.idle pages.old }
+        ensures idle { P.idle pages.new }
+        ensures few { IfOk result (λ taken. taken ≤ steps) }
+        ensures come { OnOk result (AllBut steps (P.awaits pages.old) (P.awaits pages.new)) }
+        ensures redone { IfOk result (λ taken. taken < steps → (page : ℕ) → P.awaits pages.new page → ⊥) }
+        ensures upkeep { AddsUpkeep self.old.history self.new.history }
+        ensures names { self.new.active ≡ self.old.active }
+        ensures goes { OnOk result (GoesOn self.old self.new) }
+        ensures refused { IfErr result (Fails N.opens self.old self.new) }
+    {
+        for taken in 0..steps {
+            if self.redo_next(rt, alloc, pages)?.is_none() {
+                return Ok(taken);
+            }
+        }
+        Ok(steps)
+    }
+
+    /// Writes so many dirty pages at most, the least first.
+    fn write_pages<D: PageDevice, P: LifePages<N, D>, R: Wait>(
+        &mut self,
+        rt: &R,
+        alloc: Global,
+        pages: &mut P,
+        steps: u32,
+    ) -> Result<u32, Fault>
+        requires open { self.old.ended ≡ None }
+        requires idle { P.idle pages.old }
+        ensures idle { P.idle pages.new }
+        ensures few { IfOk result (λ taken. taken ≤ steps) }
+        ensures stored { OnOk result (AllBut steps (P.dirty pages.old) (P.dirty pages.new)) }
+        ensures clean { IfOk result (λ taken. taken < steps → (page : ℕ) → 0 < page → P.dirty pages.new page → ⊥) }
+        ensures awaits { (page : ℕ) → P.awaits pages.new page → P.awaits pages.old page }
+        ensures written { WritesUpto steps self.old.history self.new.history }
+        ensures names { self.new.active ≡ self.old.active }
+        ensures goes { OnOk result (GoesOn self.old self.new) }
+        ensures refused { IfErr result (Fails N.opens self.old self.new) }
+    {
+        for taken in 0..steps {
+            if self.write_next(rt, alloc, pages, 0)?.is_none() {
+                return Ok(taken);
+            }
+        }
+        Ok(steps)
+    }
+
+    /// Takes a step in undoing the least loser, if any is left.
+    fn undo_next<D: PageDevice, P: LifePages<N, D>, R: Wait>(
+        &mut self,
+        rt: &R,
+        alloc: Global,
+        pages: &mut P,
+    ) -> Result<bool, Fault>
+        requires open { self.old.ended ≡ None }
+        requires idle { P.idle pages.old }
+        ensures idle { P.idle pages.new }
+        ensures steps { StepsBack N.opens result self.old.history self.new.history }
+        ensures names { self.new.active ≡ self.old.active }
+        ensures goes { OnOk result (GoesOn self.old self.new) }
+        ensures refused { IfErr result (Fails N.opens self.old self.new) }
+    {
+        let OwnLife { journal, life } = self;
+        let undone = pages.undo_next(rt, alloc, journal, life);
+        see_whole(journal, life);
+        unvaulted(undone)
+    }
+
+    /// Brings the least page that awaits redo, and gives its number; none where no page awaits it.
+    fn redo_next<D: PageDevice, P: LifePages<N, D>, R: Wait>(
+        &mut self,
+        rt: &R,
+        alloc: Global,
+        pages: &mut P,
+    ) -> Result<Option<PageNo>, Fault>
+        requires open { self.old.ended ≡ None }
+        requires idle { P.idle pages.old }
+        ensures idle { P.idle pages.new }
+        ensures next { IfOk result (IsNextRedone (P.awaits pages.old) (P.awaits pages.new)) }
+        ensures fewer { (page : ℕ) → P.awaits pages.new page → P.awaits pages.old page }
+        ensures upkeep { AddsUpkeep self.old.history self.new.history }
+        ensures names { self.new.active ≡ self.old.active }
+        ensures goes { OnOk result (GoesOn self.old self.new) }
+        ensures refused { IfErr result (Fails N.opens self.old self.new) }
+    {
+        let OwnLife { journal, life } = self;
+        let redone = pages.redo_next(rt, alloc, journal, life);
+        see_whole(journal, life);
+        unvaulted(redone)
+    }
+}
