@@ -1,7 +1,8 @@
 -- What each command of a life adds, over any stage.
-use Rattle.std.proofs.Common.{◌≡◌, ℕ, ◌<◌, Bool, true, false, List, [], ◌∷◌, ◌++◌, Option, Some, None, refl, sym, ap, subst, ◌∙◌, arith, inl, inr, length}
-use Rattle.std.specs.Prelude.{codes}
+use Rattle.std.proofs.Common.{◌≡◌, ℕ, ◌<◌, Bool, true, false, List, [], ◌∷◌, ◌++◌, Option, Some, None, refl, sym, ap, subst, ◌∙◌, append-nil, arith, inl, inr, length}
+use Rattle.std.specs.Prelude.{◌⊎◌, codes, filter}
 use Rattle.std.specs.List.{All}
+use Rattle.std.proofs.lemmas.List.{append_cancel_left}
 use Rattle.std.specs.Fmt.{decimal}
 use Rattle.media.specs.declared.disk.Disk.{Ghosts}
 use Rattle.store_model.specs.declared.limits.TheConstants.{MOST_ACTIVE}
@@ -18,12 +19,17 @@ use Rattle.wal_record.specs.declared.entry.Entry.TheVariants.{Rec, Declined, Ack
 use Rattle.log_laws.specs.Right.{IsRight}
 use Rattle.journal.specs.Stops.{IsDurableUpto}
 use Rattle.page_ops.specs.Causes.{IsUntold}
+use Rattle.page_ops.specs.Outcomes.{losers_left}
 use Rattle.page_ops.specs.Seeing.{Calls}
 use Rattle.command_laws.specs.Commands.{Among, Answers, Aborts, Begins, Commits, IsBesideRequest, IsUpkeep, commit_record, end_record}
 use Rattle.command_laws.specs.Names.{Active, active_of, began, is_active, without}
+use Rattle.maintenance.specs.Steps.{AreAllOver}
+use Rattle.rollback.specs.Owners.{IsLoserOf}
 use Rattle.engine.specs.Beside.{IsInWay}
 use Rattle.engine.specs.Requests.{lock_of}
+use Rattle.store_life.specs.Steps.{IsStep}
 use Rattle.store_life.specs.Turns.{IsOfAbort, WasInWay}
+use Rattle.own_life.specs.Helps.{AddsSteps, Helps, takes_back}
 use Rattle.own_life.specs.State.{BreaksOff, CallsGoOn, GoesOn, LifeState}
 use Rattle.script.specs.declared.command.Command.{Command}
 use Rattle.script.specs.declared.command.Command.TheVariants as commands
@@ -31,15 +37,15 @@ use Rattle.script.specs.declared.command.Device.TheVariants.{Log}
 use Rattle.transcript.specs.Lines.{ended_line, failed_line, refused_line, stat_line, upkeep_line}
 use Rattle.transcript.specs.declared.upkeep.Stat.{Stat}
 use Rattle.transcript.specs.declared.upkeep.Upkeep.TheVariants as upkeeps
-use Rattle.life_commands.specs.Figures.{IsStat}
+use Rattle.life_commands.specs.Figures.{IsHelped, IsStat}
 use Rattle.life_commands.specs.LogDisk.{Keeps}
 use Rattle.life_commands.specs.Living.{Adds, IsArmed, IsDiskOf, Within}
 use Rattle.life_commands.specs.Refusals.{CutAt, IsNotBuilt, LeftAs, RefusesAt}
-use Rattle.life_commands.specs.Rows.{Calls as CallsDevice, FitsAt, IsBeside, IsCutOff, IsEnd, IsInWayOf, IsNoClose, IsOfLife, MayEnter, WroteInRoom, is_lawful, no_life}
+use Rattle.life_commands.specs.Rows.{Calls as CallsDevice, FitsAt, IsBeside, IsCutOff, IsEnd, IsInWayOf, IsLoserIn, IsNoClose, IsOfLife, IsOwn, MayEnter, WroteInRoom, is_lawful, no_life}
 use Rattle.life_commands.specs.Text.{answer_lines, head}
 use Rattle.life_commands.specs.Turns.{turn, Turn, Life, Fuses, with_entries, Stage, Done, TooMany, LogFault, Ended, Cut, Numbered, Counted, history_of, lives, lives_of, last_after, IsRightLife, close_over, done, failed_stage, last_turn, stage_step, longer, log_of_life}
 use Rattle.life_commands.specs.declared.status.Status.TheVariants as statuses
-use Rattle.life_commands.proofs.Entered.{all_taken, among_last, among_map, beside_map, answer_own, enters_among, enters_own, room_declined, undoes}
+use Rattle.life_commands.proofs.Entered.{all_map, all_taken, among_last, among_map, beside_map, answer_own, enters_among, enters_own, room_declined, step_map, undoes}
 use Rattle.life_commands.proofs.Lives.{has_life, life_keeps, right_more}
 
 -- ---- the fuse
@@ -58,6 +64,7 @@ failed_is s (commands.Ask name request) es at kind calls = refl
 failed_is s (commands.Commit name) es at kind calls = refl
 failed_is s (commands.Abort name) es at kind calls = refl
 failed_is s commands.Checkpoint es at kind calls = refl
+failed_is s (commands.Help steps) es at kind calls = refl
 failed_is s commands.Close es at kind calls = refl
 failed_is s (commands.Begin name) es at kind calls = absurd calls
 failed_is s commands.Stat es at kind calls = absurd calls
@@ -429,6 +436,52 @@ module _ {D : Type 0} (L : Ghosts D) (opens : List Record → Type 0) (x : LifeS
           holds = next y taken grew right (stage_step s t) refl refl (h.active ∙ sym active) (goes_on none ∙ sym goes.ended) refl refl (armed_next L.fuses ⊥ x.calls y.calls s.armed.log goes.calls h.fused);
           lines = text;
         }
+
+  -- ---- help
+
+  loses_in : (t : ℕ) → IsLoserOf opens t → IsLoserIn L.tells s.life t
+  loses_in t loser = subst (λ (o : Option Life). IsLoserIn L.tells o t) (sym h.life) (λ u. loser h.here.opening (h.begins u))
+
+  module _ (none : x.ended ≡ None) (steps : ℕ) (y : LifeState) (k : Helps (IsLoserOf opens) steps x.history y.history) where
+    helps_own : IsOwn L.tells s (commands.Help steps) k.own
+    helps_own = record {
+      undone = k.are.undone;
+      each = all_map (IsStep (IsLoserOf opens)) (IsStep (IsLoserIn L.tells s.life)) (step_map (IsLoserOf opens) (IsLoserIn L.tells s.life) loses_in) k.are.undone k.are.each;
+      redone = k.are.redone;
+      kept_up = k.are.kept_up;
+      written = k.are.written;
+      pages = k.are.pages;
+      few = k.are.few;
+      is = k.are.is;
+    }
+
+    help_enters : MayEnter L.tells s (commands.Help steps) k.entries
+    help_enters = enters_among L.tells s (commands.Help steps) k.own k.entries tt helps_own k.among
+
+    pub help_cut : IsCutOff L.tells s (commands.Help steps) k.entries
+    help_cut = record { goes = goes_on none; rest = []; enters = subst (MayEnter L.tells s (commands.Help steps)) (sym (append-nil k.entries)) help_enters; part = tt }
+
+    module _ (right : (opening : List Record) → opens opening → IsRight opening y.history) (far : AreAllOver opens y.history ⊎ AddsSteps steps x.history y.history) where
+      -- how far it went
+      went : L.tells → IsHelped steps (longer s.life k.entries) k.entries
+      went t = subst (λ (o : Option Life). IsHelped steps o k.entries) (sym (longer_is y k.entries k.added right)) (elim far [
+        | inl over ↦ inl (subst (λ (l : List Entry). losers_left h.here.opening l ≡ []) (sym (history_is y k.entries k.added right)) (over h.here.opening (h.begins t)))
+        | inr all ↦ inr (ap (λ (l : List Entry). length (filter takes_back l)) (append_cancel_left x.history k.entries all.0 (sym k.added ∙ all.1)) ∙ all.2)
+      ])
+
+      help_fits : FitsAt L.tells s (turn (commands.Help steps) k.entries Done)
+      help_fits = record { goes = h.goes; lawful = may_look; row = (goes_on none, help_enters, went) }
+
+      pub did_help : GoesOn x y → y.active ≡ x.active → (out : List ℕ) → out ≡ upkeep_line upkeeps.Help → Adds L.tells (In y) s (commands.Help steps) out
+      did_help goes active out text =
+          let t : Turn = turn (commands.Help steps) k.entries Done in
+          record {
+            turn = t;
+            is = refl;
+            fits = help_fits;
+            holds = next y k.entries k.added right (stage_step s t) refl refl (h.active ∙ sym active) (goes_on none ∙ sym goes.ended) refl refl (armed_next L.fuses ⊥ x.calls y.calls s.armed.log goes.calls h.fused);
+            lines = text;
+          }
 
   -- ---- stat
 

@@ -1,6 +1,6 @@
 -- What the other commands of a life make of the turns.
-use Rattle.std.proofs.Common.{◌≡◌, ◌≢◌, ℕ, ◌<◌, ◌/◌, ◌%◌, Bool, true, false, List, [], ◌∷◌, ◌++◌, Option, Some, None, refl, sym, ap, subst, ◌∙◌, Ok, Err, append-nil, length, arith, ⊎_elim}
-use Rattle.std.specs.Prelude.{◌+◌, ◌-◌, codes, min}
+use Rattle.std.proofs.Common.{◌≡◌, ◌≢◌, ℕ, ◌<◌, ◌/◌, ◌%◌, Bool, true, false, List, [], ◌∷◌, ◌++◌, Option, Some, None, refl, sym, ap, subst, ◌∙◌, Ok, Err, append-nil, length, arith, inl, inr, ⊎_elim}
+use Rattle.std.specs.Prelude.{◌+◌, ◌-◌, ◌⊎◌, codes, min}
 use Rattle.std.specs.Fmt.{decimal}
 use Rattle.std.specs.List.{All}
 use Rattle.std.proofs.lemmas.List.FromFn.{length-range_with_len, length-map-range_with_len}
@@ -24,6 +24,9 @@ use Rattle.page_ops.specs.declared.outcome.Committed.{Committed}
 use Rattle.page_ops.specs.declared.outcome.Survey.{Survey}
 use Rattle.command_laws.specs.Commands.{Among, Amid, IsUpkeep, commit_record}
 use Rattle.command_laws.specs.Names.{Active, active_of, is_active, without}
+use Rattle.maintenance.specs.Steps.{AreAllOver}
+use Rattle.rollback.specs.Owners.{IsLoserOf}
+use Rattle.own_life.specs.Helps.{AddsSteps, Helps}
 use Rattle.store_life.specs.Turns.{EndsBy, HasCheckpoint, IsCheckpointed}
 use Rattle.own_life.specs.State.{BeginsAs, BreaksOff, Fails, FailsToFlush, GoesOn, IsCommitted, LifeState}
 use Rattle.script.specs.declared.command.Command.{Command}
@@ -182,6 +185,15 @@ module _ {D : Type 0} (L : Ghosts D) (opens : List Record → Type 0) (x y : Lif
     checkpoint_ends before now faults.LogFault entered p status says line = ends_run L opens x y active right commands.Checkpoint tt refl (checkpoint_cut entered.0 entered.1) before now faults.LogFault p status says line
     checkpoint_ends before now _ entered p status says line = absurd p
 
+  -- ---- help
+
+  module _ (steps : ℕ) (helps : Helps (IsLoserOf opens) steps x.history y.history) where
+    pub help_cut : (v : View L.tells) (s : Stage) → Within (seen L v) opens x s → IsCut (seen L v) y x s (commands.Help steps)
+    help_cut v s h = record { entries = helps.entries; added = helps.added; lawful = c.may_look (seen L v) opens x s h; off = c.help_cut (seen L v) opens x s h none steps y helps }
+
+    pub helps_line : (taken : ℕ) → ((opening : List Record) → opens opening → IsRight opening y.history) → AreAllOver opens y.history ⊎ ((taken ≡ steps) × AddsSteps steps x.history y.history) → GoesOn x y → (out : List ℕ) → out ≡ upkeep_line upkeeps.Help → Did L opens x y (commands.Help steps) out
+    helps_line taken right far goes out text = λ v s h. c.did_help (seen L v) opens x s h none steps y helps right (⊎_elim (λ over. inl over) (λ all. inr all.1) far) goes active out text
+
   -- ---- stat
 
   module _ (same : y.history ≡ x.history) (goes : GoesOn x y) where
@@ -269,22 +281,23 @@ module _ {D : Type 0} (L : Ghosts D) (opens : List Record → Type 0) (x : LifeS
 -- ---- what is no command of a life
 
 pub other_lawful : (s : Stage) → no_life s.life ≡ false → (c : Command) → (c ≡ commands.Nothing → ⊥) → ((x : List ℕ) → c ≡ commands.Begin x → ⊥) → ((x : List ℕ) (r : Request) → c ≡ commands.Ask x r → ⊥) → ((x : List ℕ) → c ≡ commands.Commit x → ⊥)
-    → ((x : List ℕ) → c ≡ commands.Abort x → ⊥) → (c ≡ commands.Checkpoint → ⊥) → (c ≡ commands.Stat → ⊥) → ((p : ℕ) → c ≡ commands.Damage p → ⊥) → ((d : Device) (n : ℕ) → c ≡ commands.Fuse d n → ⊥) → ((d : Device) → c ≡ commands.Renew d → ⊥) → IsNoStop c → IsNoClose c → is_lawful s c ≡ false
-other_lawful s living commands.Nothing nothing begins asks commit abort checkpoint stat damage fuse renew stop close = absurd (nothing refl)
-other_lawful s living (commands.Format limit) nothing begins asks commit abort checkpoint stat damage fuse renew stop close = rw (living) refl
-other_lawful s living commands.Open nothing begins asks commit abort checkpoint stat damage fuse renew stop close = living
-other_lawful s living (commands.Begin x) nothing begins asks commit abort checkpoint stat damage fuse renew stop close = absurd (begins x refl)
-other_lawful s living (commands.Ask x r) nothing begins asks commit abort checkpoint stat damage fuse renew stop close = absurd (asks x r refl)
-other_lawful s living (commands.Commit x) nothing begins asks commit abort checkpoint stat damage fuse renew stop close = absurd (commit x refl)
-other_lawful s living (commands.Abort x) nothing begins asks commit abort checkpoint stat damage fuse renew stop close = absurd (abort x refl)
-other_lawful s living commands.Checkpoint nothing begins asks commit abort checkpoint stat damage fuse renew stop close = absurd (checkpoint refl)
-other_lawful s living commands.Stat nothing begins asks commit abort checkpoint stat damage fuse renew stop close = absurd (stat refl)
-other_lawful s living (commands.Damage p) nothing begins asks commit abort checkpoint stat damage fuse renew stop close = absurd (damage p refl)
-other_lawful s living commands.Close nothing begins asks commit abort checkpoint stat damage fuse renew stop close = absurd close
-other_lawful s living (commands.Stop keep) nothing begins asks commit abort checkpoint stat damage fuse renew stop close = absurd stop
-other_lawful s living (commands.Fuse d n) nothing begins asks commit abort checkpoint stat damage fuse renew stop close = absurd (fuse d n refl)
-other_lawful s living (commands.Renew d) nothing begins asks commit abort checkpoint stat damage fuse renew stop close = absurd (renew d refl)
-other_lawful s living _ nothing begins asks commit abort checkpoint stat damage fuse renew stop close = refl
+    → ((x : List ℕ) → c ≡ commands.Abort x → ⊥) → (c ≡ commands.Checkpoint → ⊥) → ((n : ℕ) → c ≡ commands.Help n → ⊥) → (c ≡ commands.Stat → ⊥) → ((p : ℕ) → c ≡ commands.Damage p → ⊥) → ((d : Device) (n : ℕ) → c ≡ commands.Fuse d n → ⊥) → ((d : Device) → c ≡ commands.Renew d → ⊥) → IsNoStop c → IsNoClose c → is_lawful s c ≡ false
+other_lawful s living commands.Nothing nothing begins asks commit abort checkpoint help stat damage fuse renew stop close = absurd (nothing refl)
+other_lawful s living (commands.Format limit) nothing begins asks commit abort checkpoint help stat damage fuse renew stop close = rw (living) refl
+other_lawful s living commands.Open nothing begins asks commit abort checkpoint help stat damage fuse renew stop close = living
+other_lawful s living (commands.Begin x) nothing begins asks commit abort checkpoint help stat damage fuse renew stop close = absurd (begins x refl)
+other_lawful s living (commands.Ask x r) nothing begins asks commit abort checkpoint help stat damage fuse renew stop close = absurd (asks x r refl)
+other_lawful s living (commands.Commit x) nothing begins asks commit abort checkpoint help stat damage fuse renew stop close = absurd (commit x refl)
+other_lawful s living (commands.Abort x) nothing begins asks commit abort checkpoint help stat damage fuse renew stop close = absurd (abort x refl)
+other_lawful s living commands.Checkpoint nothing begins asks commit abort checkpoint help stat damage fuse renew stop close = absurd (checkpoint refl)
+other_lawful s living (commands.Help n) nothing begins asks commit abort checkpoint help stat damage fuse renew stop close = absurd (help n refl)
+other_lawful s living commands.Stat nothing begins asks commit abort checkpoint help stat damage fuse renew stop close = absurd (stat refl)
+other_lawful s living (commands.Damage p) nothing begins asks commit abort checkpoint help stat damage fuse renew stop close = absurd (damage p refl)
+other_lawful s living commands.Close nothing begins asks commit abort checkpoint help stat damage fuse renew stop close = absurd close
+other_lawful s living (commands.Stop keep) nothing begins asks commit abort checkpoint help stat damage fuse renew stop close = absurd stop
+other_lawful s living (commands.Fuse d n) nothing begins asks commit abort checkpoint help stat damage fuse renew stop close = absurd (fuse d n refl)
+other_lawful s living (commands.Renew d) nothing begins asks commit abort checkpoint help stat damage fuse renew stop close = absurd (renew d refl)
+other_lawful s living _ nothing begins asks commit abort checkpoint help stat damage fuse renew stop close = refl
 
 pub in_life : {D : Type 0} (L : Ghosts D) (opens : List Record → Type 0) (x : LifeState) (v : View L.tells) (s : Stage) → Within (seen L v) opens x s → no_life s.life ≡ false
 in_life L opens x v s h = c.living (seen L v) opens x s h

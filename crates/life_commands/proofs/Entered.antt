@@ -10,6 +10,7 @@ use Rattle.wal_record.specs.declared.entry.Entry.TheVariants.{Rec, Lock, Refused
 use Rattle.command_laws.specs.Commands.{Among, Amid, IsBesideRequest, IsUpkeep, TakesBack, end_record}
 use Rattle.command_laws.specs.Names.{Active}
 use Rattle.command_laws.proofs.Listed.{among_own}
+use Rattle.store_life.specs.Steps.{IsStep}
 use Rattle.store_life.specs.Turns.{IsOfAbort}
 use Rattle.script.specs.declared.command.Command.{Command}
 use Rattle.script.specs.declared.command.Command.TheVariants as commands
@@ -105,6 +106,13 @@ module _ (P : ℕ → Type 0) (tx : ℕ) (lock : Held) (active : List Active) (n
   answer_own [] es is = ap (λ (l : List Entry). answer_lines active name request l) is
   answer_own (o ∷ own) es (before, all, rest, is, more) =
       ap (λ (l : List Entry). answer_lines active name request l) is ∙ skipped_all before (o ∷ rest) all ∙ own_first o own rest (answer_own own rest more)
+
+-- ---- help
+
+pub step_map : (P Q : ℕ → Type 0) → ((t : ℕ) → P t → Q t) → (e : Entry) → IsStep P e → IsStep Q e
+step_map P Q f (Rec lsn (kinds.Undo u)) h = f u.tx h
+step_map P Q f (Rec lsn (kinds.End e)) h = f e.tx h
+step_map P Q f _ h = absurd h
 
 -- ---- an abort that was cut off
 

@@ -1,5 +1,5 @@
 -- The numbers in a command's line that its entries don't tell.
-use Rattle.std.specs.Prelude.{◌≡◌, ℕ, ◌-◌, List, length, filter, Option, Some, None}
+use Rattle.std.specs.Prelude.{◌≡◌, ◌⊎◌, ℕ, ◌-◌, List, [], length, filter, Option, Some, None}
 use Rattle.page_ops.specs.Outcomes.{is_repaired, is_undo, losers_left}
 use Rattle.wal_record.specs.Chains.{pages}
 use Rattle.wal_record.specs.Checkpoints.{commits}
@@ -8,6 +8,7 @@ use Rattle.wal_record.specs.OpenWrites.{losers}
 use Rattle.wal_record.specs.Upkeep.{lost_pages, segments, unrestored}
 use Rattle.wal_record.specs.declared.entry.Entry.{Entry}
 use Rattle.wal_record.specs.declared.record.Record.{Record}
+use Rattle.own_life.specs.Helps.{takes_back}
 use Rattle.script.specs.declared.command.Command.{Command}
 use Rattle.script.specs.declared.command.Command.TheVariants as commands
 use Rattle.transcript.specs.declared.upkeep.Stat.{Stat}
@@ -35,9 +36,15 @@ abbrev pub IsStat : Option Life → Stat → Type 0
 IsStat None x = ⊥
 IsStat (Some l) x = x ≡ stat_of l
 
--- The figures of a command that is done. Where the log disk tells nothing they may be any.
+-- A help that is done has left no loser without an End, or has taken as many steps as were asked for, each an Undo or an End.
+abbrev pub IsHelped : ℕ → Option Life → List Entry → Type 0
+IsHelped steps None es = ⊥
+IsHelped steps (Some l) es = (losers_left l.opening l.history ≡ []) ⊎ (length (filter takes_back es) ≡ steps)
+
+-- The figures of a command that is done, and how far a help went. Where the log disk tells nothing they may be any.
 abbrev pub AreFigures : Type 0 → Stage → Command → List Entry → List Record → Figures → Type 0
 AreFigures tells s commands.Open es found figures = (c : ℕ) × (l : ℕ) × (figures ≡ Opening c l) × (tells → (c ≡ commits found) × (l ≡ length (losers found)))
 AreFigures tells s (commands.Commit name) es found figures = (n : ℕ) × (figures ≡ Numbered n) × (tells → n ≡ commits (log_of_life (longer s.life es)))
+AreFigures tells s (commands.Help steps) es found figures = tells → IsHelped steps (longer s.life es) es
 AreFigures tells s commands.Stat es found figures = (x : Stat) × (figures ≡ Counted x) × (tells → IsStat s.life x)
 AreFigures tells s _ es found figures = Unit {0}

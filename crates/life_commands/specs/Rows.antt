@@ -6,6 +6,7 @@ use Rattle.store_model.specs.declared.limits.TheConstants.{MOST_ACTIVE}
 use Rattle.store_model.specs.declared.reply.Outcome.{Outcome}
 use Rattle.wal_record.specs.Rules.{is_limit}
 use Rattle.wal_record.specs.Locks.{Held}
+use Rattle.wal_record.specs.OpenWrites.{is_loser}
 use Rattle.wal_record.specs.declared.record.Checkpoint.{Checkpoint}
 use Rattle.wal_record.specs.declared.record.Record.{Record}
 use Rattle.wal_record.specs.declared.record.Record.TheVariants as kinds
@@ -17,6 +18,7 @@ use Rattle.command_laws.specs.Names.{Active, active_of, is_active}
 use Rattle.engine.specs.Answers.{HadRoom}
 use Rattle.engine.specs.Beside.{IsInWay}
 use Rattle.engine.specs.Requests.{lock_of}
+use Rattle.own_life.specs.Helps.{AreOfHelp}
 use Rattle.own_life.specs.Pages.{IsWrittenEntry}
 use Rattle.script.specs.declared.command.Device.{Device}
 use Rattle.script.specs.declared.command.Device.TheVariants.{Log, Vault}
@@ -49,7 +51,7 @@ is_lawful s commands.Archive = false
 is_lawful s commands.Merge = false
 is_lawful s commands.Recycle = false
 is_lawful s commands.Lose = false
-is_lawful s (commands.Help steps) = false
+is_lawful s (commands.Help steps) = not (no_life s.life)
 is_lawful s commands.Stat = not (no_life s.life)
 is_lawful s commands.Close = if no_life s.life then false else no_name s.active
 is_lawful s (commands.Stop keep) = true
@@ -85,7 +87,7 @@ IsOfLife commands.Archive = ⊥
 IsOfLife commands.Merge = ⊥
 IsOfLife commands.Recycle = ⊥
 IsOfLife commands.Lose = ⊥
-IsOfLife (commands.Help steps) = ⊥
+IsOfLife (commands.Help steps) = Unit {0}
 IsOfLife commands.Stat = Unit {0}
 IsOfLife commands.Close = Unit {0}
 IsOfLife (commands.Stop keep) = ⊥
@@ -103,6 +105,11 @@ IsOfLife commands.End = ⊥
 abbrev pub OfActive : (Active → Type 0) → Stage → List ℕ → Type 0
 OfActive P s name = (a : Active) × (active_of s.active name ≡ Some a) × P a
 
+-- a loser of the life's opening log
+abbrev pub IsLoserIn : Type 0 → Option Life → ℕ → Type 0
+IsLoserIn tells None t = ⊥
+IsLoserIn tells (Some l) t = tells → is_loser l.opening t ≡ true
+
 -- a command's own entries
 abbrev pub IsOwn : Type 0 → Stage → Command → List Entry → Type 0
 IsOwn tells s commands.Nothing own = own ≡ []
@@ -118,7 +125,7 @@ IsOwn tells s commands.Archive own = ⊥
 IsOwn tells s commands.Merge own = ⊥
 IsOwn tells s commands.Recycle own = ⊥
 IsOwn tells s commands.Lose own = ⊥
-IsOwn tells s (commands.Help steps) own = ⊥
+IsOwn tells s (commands.Help steps) own = AreOfHelp (IsLoserIn tells s.life) steps own
 IsOwn tells s commands.Stat own = own ≡ []
 IsOwn tells s commands.Close own = All IsWrittenEntry own
 IsOwn tells s (commands.Stop keep) own = own ≡ []
@@ -136,7 +143,7 @@ IsInWayOf tells None lock t = ⊥
 IsInWayOf tells (Some l) lock t = tells → IsInWay l.opening l.history lock t
 
 -- What may stand in a turn beside its command's own entries: of a request its lock, the undo and the End of losers in the way of
--- that, and upkeep; of an abort upkeep.
+-- that, and upkeep; of an abort and of a help upkeep.
 abbrev pub IsBeside : Type 0 → Stage → Command → Entry → Type 0
 IsBeside tells s commands.Nothing e = ⊥
 IsBeside tells s (commands.Format limit) e = ⊥
@@ -151,7 +158,7 @@ IsBeside tells s commands.Archive e = ⊥
 IsBeside tells s commands.Merge e = ⊥
 IsBeside tells s commands.Recycle e = ⊥
 IsBeside tells s commands.Lose e = ⊥
-IsBeside tells s (commands.Help steps) e = ⊥
+IsBeside tells s (commands.Help steps) e = IsUpkeep e
 IsBeside tells s commands.Stat e = ⊥
 IsBeside tells s commands.Close e = ⊥
 IsBeside tells s (commands.Stop keep) e = ⊥
@@ -195,7 +202,7 @@ MayBeDone tells s commands.Archive found = ⊥
 MayBeDone tells s commands.Merge found = ⊥
 MayBeDone tells s commands.Recycle found = ⊥
 MayBeDone tells s commands.Lose found = ⊥
-MayBeDone tells s (commands.Help steps) found = ⊥
+MayBeDone tells s (commands.Help steps) found = s.ended ≡ None
 MayBeDone tells s commands.Stat found = s.ended ≡ None
 MayBeDone tells s commands.Close found = s.ended ≡ None
 MayBeDone tells s (commands.Stop keep) found = Unit {0}
@@ -224,7 +231,7 @@ Calls commands.Archive device = ⊥
 Calls commands.Merge device = ⊥
 Calls commands.Recycle device = ⊥
 Calls commands.Lose device = ⊥
-Calls (commands.Help steps) device = ⊥
+Calls (commands.Help steps) device = device ≡ Log
 Calls commands.Stat device = ⊥
 Calls commands.Close device = device ≡ Log
 Calls (commands.Stop keep) device = ⊥
@@ -236,10 +243,11 @@ Calls (commands.Worker transactions) device = ⊥
 Calls (commands.Step request) device = ⊥
 Calls commands.End device = ⊥
 
--- Where nothing is left to enter, nothing was entered; but a Checkpoint is entered before it is made durable, and a close makes the
--- log durable behind its last write of a page.
+-- Where nothing is left to enter, nothing was entered; but a Checkpoint is entered before it is made durable, a close makes the
+-- log durable behind its last write of a page, and a help may fail behind any of its steps.
 abbrev pub IsLeftOut : Command → List Entry → List Entry → Type 0
 IsLeftOut commands.Checkpoint es rest = Unit {0}
+IsLeftOut (commands.Help steps) es rest = Unit {0}
 IsLeftOut commands.Close es rest = Unit {0}
 IsLeftOut _ es rest = rest ≡ [] → es ≡ []
 

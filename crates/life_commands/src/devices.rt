@@ -1,9 +1,11 @@
 //! Faults of the devices, as the script asks for them.
-ghost use Rattle.std.specs.Prelude.{◌≡◌, ◌≢◌, ◌≤◌, ◌++◌, IfErr, IfOk, codes};
+ghost use Rattle.std.specs.Prelude.{◌≡◌, ◌≢◌, ◌≤◌, ◌⊎◌, ◌++◌, None, Some, IfErr, IfOk, OnOk, codes};
 ghost use Rattle.std.specs.Fmt.{decimal};
 ghost use Rattle.journal.specs.State.{ArmsDisk};
+ghost use Rattle.media.specs.Cause.{Rose};
+ghost use Rattle.media.specs.Counted.{Armed};
 ghost use Rattle.script.specs.declared.command.Command.TheVariants as commands;
-ghost use Rattle.script.specs.declared.command.Device.TheVariants.{Log};
+ghost use Rattle.script.specs.declared.command.Device.TheVariants.{Data, Log};
 ghost use Rattle.life_commands.specs.Causes.{LifeCause};
 ghost use Rattle.life_commands.specs.Promises.{Did, Refused};
 ghost use Rattle.life_commands.specs.declared.status.Status.TheVariants as statuses;
@@ -27,6 +29,7 @@ pub fn damage<N: Life, D: PageDevice, P: LifePages<N, D>>(
     ensures idle { P.idle pages.new }
     ensures line { IfOk result (λ out. out.items ≡ codes "damage " ++ decimal page ++ codes "\n") }
     ensures memory { IfErr result (λ status. status ≡ statuses.Memory) }
+    ensures damaged { OnOk result (D.tells → D.spoiled (P.device pages.new) page ⊎ Rose (D.faults (P.device pages.old)) (D.faults (P.device pages.new))) }
 {
     let out = transcript::damage_line(alloc, page)?;
     pages.damage(page);
@@ -46,6 +49,7 @@ pub fn fuse<'a, N: Life, L: Disk, D: PageDevice, P: LifePages<N, D>>(
     ensures idle { P.idle pages.new }
     ensures ok { IfOk result (λ lines. Did L.Disk N.opens life.old life.new (commands.Fuse device calls) lines.items) }
     ensures err { IfErr result (Refused L.Disk N.opens life.old life.new (commands.Fuse device calls) line) }
+    ensures data { OnOk result (device ≡ Data → Armed D.fuses D.passes D.refused D.own (Some calls) (P.device pages.old) (P.device pages.new)) }
     ensures cause { IfErr result (LifeCause life.old.calls.own life.new.calls.own) }
     ensures later { life.old.calls.own ≤ life.new.calls.own }
 {
@@ -69,6 +73,7 @@ pub fn renew<'a, N: Life, L: Disk, D: PageDevice, P: LifePages<N, D>>(
     ensures idle { P.idle pages.new }
     ensures ok { IfOk result (λ lines. Did L.Disk N.opens life.old life.new (commands.Renew device) lines.items) }
     ensures err { IfErr result (Refused L.Disk N.opens life.old life.new (commands.Renew device) line) }
+    ensures data { OnOk result (device ≡ Data → Armed D.fuses D.passes D.refused D.own None (P.device pages.old) (P.device pages.new)) }
     ensures cause { IfErr result (LifeCause life.old.calls.own life.new.calls.own) }
     ensures later { life.old.calls.own ≤ life.new.calls.own }
 {
@@ -93,6 +98,7 @@ fn arm<'a, N: Life, L: Disk, D: PageDevice, P: LifePages<N, D>>(
     ensures own { life.new.calls.own ≡ life.old.calls.own }
     ensures log { device ≡ Log → ArmsDisk L.fuses n life.old.calls life.new.calls }
     ensures other { device ≢ Log → life.new.calls ≡ life.old.calls }
+    ensures data { device ≡ Data → Armed D.fuses D.passes D.refused D.own n (P.device pages.old) (P.device pages.new) }
 {
     match device {
         Device::Log => life.fuse(n),

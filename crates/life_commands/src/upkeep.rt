@@ -7,8 +7,8 @@ ghost use Rattle.life_commands.specs.Promises.{Did, Refused};
 
 use crate::failing::{MOST, fail};
 use crate::status::Status;
-use media::Disk;
-use own_life::OwnLife;
+use media::{Disk, PageDevice};
+use own_life::{LifePages, OwnLife};
 use page_ops::{Life, Survey};
 use script::Device;
 use std::alloc::Global;
@@ -39,6 +39,36 @@ pub fn checkpoint_open<'a, N: Life, L: Disk, R: Wait>(
     let taken = life.checkpoint(rt, alloc);
     life.look();
     match taken {
+        Ok(_) => Ok(done),
+        Err(fault) => fail(fault, failed, before, life.refused()),
+    }
+}
+
+/// Help takes so many steps, or fewer where no step has work.
+pub fn help_open<'a, N: Life, L: Disk, D: PageDevice, P: LifePages<N, D>, R: Wait>(
+    rt: &R,
+    alloc: Global,
+    life: &mut OwnLife<'a, L, N>,
+    pages: &mut P,
+    steps: u32,
+) -> Result<Vec<u8>, Status>
+    requires goes { life.old.ended ≡ None }
+    requires idle { P.idle pages.old }
+    ensures idle { P.idle pages.new }
+    ensures ok { IfOk result (λ lines. Did L.Disk N.opens life.old life.new (commands.Help steps) lines.items) }
+    ensures err { IfErr result (λ status. (line : ℕ) → Refused L.Disk N.opens life.old life.new (commands.Help steps) line status) }
+    ensures cause { IfErr result (LifeCause life.old.calls.own life.new.calls.own) }
+    ensures later { life.old.calls.own ≤ life.new.calls.own }
+{
+    let before = life.refused();
+    if before >= MOST {
+        return Err(Status::Memory);
+    }
+    let done = transcript::upkeep_line(alloc, Upkeep::Help)?;
+    let failed = transcript::upkeep_failed(alloc, Upkeep::Help, Device::Log)?;
+    let helped = life.help(rt, alloc, pages, steps);
+    life.look();
+    match helped {
         Ok(_) => Ok(done),
         Err(fault) => fail(fault, failed, before, life.refused()),
     }

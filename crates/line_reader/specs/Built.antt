@@ -6,7 +6,7 @@ use Rattle.script.specs.Word.{word, behind, same_text}
 abbrev pub is_store_word : List ℕ → Bool
 is_store_word text =
     same_text text (codes "format") || same_text text (codes "open") || same_text text (codes "checkpoint") || same_text text (codes "stat")
-    || same_text text (codes "close") || same_text text (codes "stop") || same_text text (codes "damage")
+    || same_text text (codes "close") || same_text text (codes "stop") || same_text text (codes "damage") || same_text text (codes "help")
 
 abbrev pub is_transaction_word : List ℕ → Bool
 is_transaction_word text =

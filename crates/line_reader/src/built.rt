@@ -37,6 +37,7 @@ fn is_store_word(word: &[u8]) -> bool
         || word == b"close".as_slice()
         || word == b"stop".as_slice()
         || word == b"damage".as_slice()
+        || word == b"help".as_slice()
 }
 
 /// Whether it asks for something of a transaction.

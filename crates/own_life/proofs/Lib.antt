@@ -6,3 +6,4 @@ pub mod Named
 pub mod Numbered
 pub mod Surveyed
 pub mod Written
+mod Helped

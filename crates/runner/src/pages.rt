@@ -20,11 +20,15 @@ pub struct RunPages<'a, D: PageDevice, N: Life> {
 
 impl<'a, D: PageDevice, N: Life> LifePages<N, D> for RunPages<'a, D, N> {
     ghost use Rattle.std.specs.Prelude.{◌≡◌, false};
-    ghost use Rattle.own_life.specs.Pages.{Lacks};
+    ghost use Rattle.own_life.specs.Pages.{AwaitsRedo, Lacks};
 
     ghost idle = { λ p. (p.pages.pool.out ≡ 0) × (p.pages.pool.reserves ≡ false) };
 
     ghost dirty = { λ p. Lacks p.pages.pool.frames };
+
+    ghost awaits = { λ p. AwaitsRedo p.pages.pool.plan };
+
+    ghost device = { λ p. p.pages.pool.images };
 
     fn ask<J: Journaling<N>, R: Wait>(
         &mut self,
@@ -47,6 +51,26 @@ impl<'a, D: PageDevice, N: Life> LifePages<N, D> for RunPages<'a, D, N> {
         name: &Name,
     ) -> Result<Pos, Fault> {
         self.pages.abort(rt, alloc, journal, life, name)
+    }
+
+    fn undo_next<J: Journaling<N>, R: Wait>(
+        &mut self,
+        rt: &R,
+        alloc: Global,
+        journal: &mut J,
+        life: &mut StoreLife<N>,
+    ) -> Result<bool, Fault> {
+        self.pages.undo_next(rt, alloc, journal, life)
+    }
+
+    fn redo_next<J: Journaling<N>, R: Wait>(
+        &mut self,
+        rt: &R,
+        alloc: Global,
+        journal: &mut J,
+        life: &mut StoreLife<N>,
+    ) -> Result<Option<PageNo>, Fault> {
+        self.pages.redo_next(rt, alloc, journal, life)
     }
 
     fn write_next<J: Entering<N>, R: Wait>(
