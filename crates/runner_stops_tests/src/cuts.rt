@@ -1,5 +1,5 @@
 //! A fuse of the log disk that blows at each call in turn, of a life with a split, an abort and a loser, and then of the life
-//! behind it, which undoes what was left open; and a stop behind either.
+//! behind it, which undoes what was left open, by requests or by help; and a stop behind either.
 
 use media_mem::MemDisk;
 use script_runs::{Ran, is_done, run};
@@ -225,13 +225,14 @@ fn a_stop_at_each_call_leaves_what_was_acknowledged(rt: HostRuntime) -> Result<(
     Ok(())
 }
 
-/// The second life undoes the losers as it reads all, and a stop comes at each of its calls.
+/// The second life undoes the losers as it reads all, perhaps behind two steps of help, and a stop comes at each of its calls.
 fn try_second<R: Wait>(
     rt: &R,
     alloc: Global,
     bytes: &[u8],
     left: usize,
     durable: u64,
+    helps: bool,
 ) -> Result<(), Fail> {
     let (losers, undone, pages) = LEFT.get(left).copied().unwrap_or((0, 0, 0));
     let before_printed = format!(in alloc; "open commits={left} losers={losers}\nQ begin\n")?;
@@ -239,6 +240,9 @@ fn try_second<R: Wait>(
     let stat = stat_shown(alloc, left, undone, pages)?;
     let committed = format!(in alloc; " {}", left.saturating_add(1))?;
     let mut lines = Vec::new(alloc);
+    if helps {
+        lines.push(line_of(alloc, "help 2", "help", " ok")?)?;
+    }
     lines.push(line_of(alloc, "scan Q % %", "Q scan % %", &pairs)?)?;
     lines.push(line_of(alloc, "stat", "stat", &stat)?)?;
     lines.push(line_of(alloc, "commit Q", "Q commit", &committed)?)?;
@@ -261,7 +265,9 @@ fn a_stop_at_each_call_of_an_undo_leaves_the_same(rt: HostRuntime) -> Result<(),
         let script = life.script(alloc, 100, 0)?;
         let ran = run(&rt, alloc, &script, MemDisk::new(alloc))?;
         assert!(rt; is_done(alloc, &ran, &life.printed(alloc, 100, lines)?)?);
-        try_second(&rt, alloc, ran.log.bytes(), left, durable)?;
+        for helps in [false, true] {
+            try_second(&rt, alloc, ran.log.bytes(), left, durable, helps)?;
+        }
     }
     Ok(())
 }

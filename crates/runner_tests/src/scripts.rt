@@ -69,7 +69,7 @@ fn a_key_has_at_most_64_bytes_and_a_value_256(rt: HostRuntime) -> Result<(), Fai
 }
 
 /// Scripts with the line with which no script goes on.
-const UNLAWFUL: [(&str, u64); 24] = [
+const UNLAWFUL: [(&str, u64); 27] = [
     ("format\nopen\nbeg", 3),
     ("begin A\n", 1),
     ("stat\n", 1),
@@ -94,6 +94,9 @@ const UNLAWFUL: [(&str, u64); 24] = [
     ("format\nopen\nbegin A\nclose\n", 4),
     ("format\nopen\nclose\nbegin A\n", 4),
     ("damage 0\n", 1),
+    ("help 1\n", 1),
+    ("format\nopen\nhelp 0\n", 3),
+    ("format\nopen\nhelp 1000001\n", 3),
 ];
 
 /// Lines that ask for what isn't built.
@@ -102,7 +105,7 @@ const UNBUILT: [&str; 10] = [
     "fuse",
     "fuse vault 1",
     "renew vault",
-    "help 1",
+    "recycle",
     "backup",
     "archive",
     "lose",
