@@ -7,3 +7,4 @@ pub mod Numbered
 pub mod Surveyed
 pub mod Written
 mod Helped
+mod Redone

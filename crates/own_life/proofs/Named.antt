@@ -1,5 +1,5 @@
 -- A refusal that is told as want of memory says no less.
-use Rattle.std.proofs.Common.{◌≡◌, ℕ, List, Result, Ok, Err, refl}
+use Rattle.std.proofs.Common.{◌≡◌, ℕ, Bool, true, false, List, Result, Ok, Err, refl}
 use Rattle.std.specs.Prelude.{IfErr, IfOk, OnOk}
 use Rattle.store_model.specs.declared.fault.Fault.{Fault}
 use Rattle.store_model.specs.declared.fault.Fault.TheVariants as faults
@@ -9,6 +9,7 @@ use Rattle.wal_record.specs.declared.record.Record.{Record}
 use Rattle.engine.specs.declared.answered.Answered.{Answered}
 use Rattle.command_laws.specs.Names.{Active}
 use Rattle.store_life.specs.SoFar.{left_by}
+use Rattle.store_life.specs.Steps.{StepsBack}
 use Rattle.store_life.specs.Turns.{Asks, EndsBy}
 use Rattle.own_life.specs.Kept.{without_crowd, without_vault}
 use Rattle.own_life.specs.State.{BeginsAs, LifeState}
@@ -39,6 +40,12 @@ pub vault_aborts : (opens : List Record → Type 0) (tx : ℕ) (r : Result ℕ F
 vault_aborts opens tx (Ok x) h h' e = e
 vault_aborts opens tx (Err (faults.VaultBad object byte)) h h' e = e
 vault_aborts opens tx (Err _) h h' e = e
+
+pub vault_steps : (opens : List Record → Type 0) (r : Result Bool Fault) (h h' : List Entry) → StepsBack opens r h h' → StepsBack opens (without_vault r) h h'
+vault_steps opens (Ok true) h h' s = s
+vault_steps opens (Ok false) h h' s = s
+vault_steps opens (Err (faults.VaultBad object byte)) h h' s = s
+vault_steps opens (Err _) h h' s = s
 
 pub vault_left : {T : Type 0} (r : Result T Fault) (active : List Active) (name : List ℕ) → left_by (without_vault r) active name ≡ left_by r active name
 vault_left (Ok x) active name = refl

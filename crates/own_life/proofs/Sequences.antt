@@ -1,6 +1,7 @@
 -- Calls of a life one after the other: what they make of it together, and which pages are then dirty.
-use Rattle.std.proofs.Common.{◌≡◌, ℕ, ◌<◌, ◌≤◌, List, Option, Some, None, Bool, true, false, Result, Ok, Err, refl, ltb-true, ◌∙◌, arith, inl, inr}
-use Rattle.std.specs.Prelude.{◌⊎◌, IfErr, OnOk}
+use Rattle.std.proofs.Common.{◌≡◌, ℕ, ◌+◌, ◌<◌, ◌≤◌, List, [], ◌∷◌, sym, ap, Option, Some, None, Bool, true, false, Result, Ok, Err, refl, ltb-true, ◌∙◌, arith, inl, inr}
+use Rattle.std.specs.Prelude.{◌⊎◌, ◌==◌, ◌||◌, IfErr, OnOk}
+use Rattle.std.specs.List.{list_any}
 use Rattle.std.proofs.Math.Dec.{ltb}
 use Rattle.std.proofs.lemmas.Bool.{ltb-false}
 use Rattle.media.specs.Cause.{Rose}
@@ -8,7 +9,9 @@ use Rattle.store_model.specs.declared.fault.Fault.{Fault}
 use Rattle.store_model.specs.declared.fault.Fault.TheVariants as faults
 use Rattle.wal_record.specs.declared.record.Record.{Record}
 use Rattle.page_ops.specs.Seeing.{Calls}
-use Rattle.own_life.specs.Pages.{IsNextWritten}
+use Rattle.log_laws.proofs.Central.{eqb_self}
+use Rattle.store_model.proofs.Bools.{or_left, or_right}
+use Rattle.own_life.specs.Pages.{AllBut, IsNextWritten, OthersStay}
 use Rattle.own_life.specs.State.{BreaksOff, CallsGoOn, Fails, FailsToFlush, GoesOn, LifeState}
 
 -- ---- how they leave the life
@@ -99,3 +102,25 @@ no_more (Some page) none = absurd (none page refl)
 pub on_ok : {T : Type 0} {Q : Type 0} (r : Result T Fault) → Q → OnOk r Q
 on_ok (Ok x) q = q
 on_ok (Err f) q = tt
+
+-- ---- pages that are done, one by one
+
+pub all_but_none : (P : ℕ → Type 0) → AllBut 0 P P
+all_but_none P = ([], omega arith, λ q is. inl is)
+
+pub all_but_more : (n page : ℕ) (P Q R : ℕ → Type 0) → AllBut n P Q → OthersStay page Q R → AllBut (n + 1) P R
+all_but_more n page P Q R a others = (
+  page ∷ a.0,
+  let few = a.1 in omega (arith, few),
+  λ q is. elim (a.2 q is) [
+    | inl stays ↦ by q (q == page) (λ i. q == page) stays
+    | inr gone ↦ inr (or_right (q == page) (list_any (λ p. q == p) a.0) gone)
+  ],
+)
+  where
+    by : (q : ℕ) (b : Bool) → (q == page) ≡ b → Q q → R q ⊎ (((q == page) || list_any (λ p. q == p) a.0) ≡ true)
+    by q true same stays = inr (or_left (q == page) (list_any (λ p. q == p) a.0) same)
+    by q false other stays = inl (others q (λ same. let two : true ≡ false = sym (ap (λ (m : ℕ). m == page) same ∙ eqb_self page) ∙ other in cc) stays)
+
+pub all_but_within : (n m : ℕ) (P Q : ℕ → Type 0) → n ≤ m → AllBut n P Q → AllBut m P Q
+all_but_within n m P Q low a = (a.0, let few = a.1 in omega (arith, few, low), a.2)

@@ -162,7 +162,7 @@ step_none loser (Rec lsn (kinds.Undo u)) is = tt
 step_none loser (Rec lsn (kinds.End x)) is = tt
 step_none loser _ is = absurd is
 
-upkeep_named : (h h' : List Entry) (active : List Active) → AddsUpkeep h h' → AreNamed h active → AreNamed h' active
+pub upkeep_named : (h h' : List Entry) (active : List Active) → AddsUpkeep h h' → AreNamed h active → AreNamed h' active
 upkeep_named h h' active a named = subst (λ (l : List Entry). AreNamed l active) (sym a.2) (still_named h a.0 active (all_weaker IsUpkeep BeginsNone upkeep_none a.0 a.1) named)
 
 pub stepped_named : (opens : List Record → Type 0) (r : Result Bool Fault) (h h' : List Entry) (active : List Active) → StepsBack opens r h h' → AreNamed h active → AreNamed h' active

@@ -3,7 +3,7 @@ use Rattle.std.proofs.lemmas.Result.{err_from_is_err_and}
 use Rattle.wal_record.specs.declared.entry.Entry.{Entry}
 use Rattle.own_life.specs.Pages.{IsNextWritten, WritesPages}
 use Rattle.own_life.proofs.Sequences.{all_clean, done_then, fails_then, flush_then, goes_self, goes_then, more_clean, no_more, on_ok}
-use Rattle.own_life.proofs.Written.{writes_none, writes_then}
+use Rattle.own_life.proofs.Written.{upto_pages, writes_none, writes_then}
 use Rattle.own_life.proofs.life.OwnLife.close.Goals as goal
 
 pub loop-page-init : goal.loop-page-init
@@ -22,7 +22,7 @@ pub write_next-requires-clause-idle : goal.write_next-requires-clause-idle
 write_next-requires-clause-idle g c = c.loop-page.invariant.idle
 
 pub returns-in_err-page-clause-written : goal.returns-in_err-page-clause-written
-returns-in_err-page-clause-written g c = writes_then c.args.self.now.history c.loop-page.self.history c.write_next.new.self.history c.loop-page.invariant.writes c.write_next.ensures.written
+returns-in_err-page-clause-written g c = writes_then c.args.self.now.history c.loop-page.self.history c.write_next.new.self.history c.loop-page.invariant.writes (upto_pages 1 c.loop-page.self.history c.write_next.new.self.history c.write_next.ensures.written)
 
 pub returns-in_err-page-clause-names : goal.returns-in_err-page-clause-names
 returns-in_err-page-clause-names g c = c.write_next.ensures.names ∙ c.loop-page.invariant.names
@@ -43,7 +43,7 @@ loop-page-preserved g c =
     let next = subst (λ (o : Option ℕ). IsNextWritten (g.P.LifePages.dirty c.write_next.new.pages) c.loop-page.after o) c.in-Some.is c.in_ok-page.ensures.next in
     record {
       goes = goes_then c.args.self.now c.loop-page.self c.write_next.new.self c.loop-page.invariant.goes c.in_ok-page.ensures.goes;
-      writes = writes_then c.args.self.now.history c.loop-page.self.history c.write_next.new.self.history c.loop-page.invariant.writes c.write_next.ensures.written;
+      writes = writes_then c.args.self.now.history c.loop-page.self.history c.write_next.new.self.history c.loop-page.invariant.writes (upto_pages 1 c.loop-page.self.history c.write_next.new.self.history c.write_next.ensures.written);
       names = c.write_next.ensures.names ∙ c.loop-page.invariant.names;
       clean = more_clean (g.P.LifePages.dirty c.loop-page.pages) (g.P.LifePages.dirty c.write_next.new.pages) c.loop-page.after c.in-Some.page c.loop-page.invariant.clean c.write_next.ensures.fewer next;
       idle = c.write_next.ensures.idle;
@@ -51,7 +51,7 @@ loop-page-preserved g c =
 
 pub returns-clause-written : goal.returns-clause-written
 returns-clause-written g c =
-    subst (λ (l : List Entry). WritesPages c.args.self.now.history l) (sym c.flush.ensures.same) (writes_then c.args.self.now.history c.loop-page.self.history c.write_next.new.self.history c.loop-page.invariant.writes c.write_next.ensures.written)
+    subst (λ (l : List Entry). WritesPages c.args.self.now.history l) (sym c.flush.ensures.same) (writes_then c.args.self.now.history c.loop-page.self.history c.write_next.new.self.history c.loop-page.invariant.writes (upto_pages 1 c.loop-page.self.history c.write_next.new.self.history c.write_next.ensures.written))
 
 pub returns-clause-clean : goal.returns-clause-clean
 returns-clause-clean g c =
