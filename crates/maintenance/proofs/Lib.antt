@@ -1,2 +1,2 @@
 mod Checkpoints
-mod Steps
+pub mod Steps

@@ -76,7 +76,7 @@ module _ (opens : List Record → Type 0) (ledger sessions : LedgerName) (a a1 a
     up.own,
     each_by is_upkeep IsUpkeep up_entry up.own up.kinds,
     entered opens ledger sessions t1.log up.own (known a1 t1 no_claims) (known a2 t2 no_claims) there (prefix_self t1.log) (gains_of_upheld is_upkeep opens ledger sessions (known a1 t1 no_claims) (known a2 t2 no_claims) up)
-    ∙ ap (λ (l : List Entry). l ++ up.own) (looked_same opens ledger sessions a a1 t t1 alone looks),
+        ∙ ap (λ (l : List Entry). l ++ up.own) (looked_same opens ledger sessions a a1 t t1 alone looks),
   )
 
   pub redone_alone : IsAlone opens ledger a2 t2.log

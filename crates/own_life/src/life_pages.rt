@@ -167,16 +167,14 @@ pub trait LifePages<N: Life, D: PageDevice> {
         requires idle { idle self.old }
         ensures idle { idle self.new }
         ensures damaged { D.tells → D.spoiled (device self.new) page ⊎ Rose (D.faults (device self.old)) (D.faults (device self.new)) }
-        ensures same { D.tells → SameImages D.told D.newest (device self.old) (device self.new) }
-        ensures pages { (dirty self.new ≡ dirty self.old) × (awaits self.new ≡ awaits self.old) };
+        ensures same { D.tells → SameImages D.told D.newest (device self.old) (device self.new) };
 
     /// Arms the data device's fuse, which lets n more calls pass, or renews it.
     fn fuse(&mut self, n: Option<u64>)
         requires idle { idle self.old }
         ensures idle { idle self.new }
         ensures fuse { Armed D.fuses D.passes D.refused D.own n (device self.old) (device self.new) }
-        ensures same { D.tells → SameImages D.told D.newest (device self.old) (device self.new) }
-        ensures pages { (dirty self.new ≡ dirty self.old) × (awaits self.new ≡ awaits self.old) };
+        ensures same { D.tells → SameImages D.told D.newest (device self.old) (device self.new) };
 
     /// The data device, as it is. The pass then has seen what its images are made of.
     fn into_device(self, pass: &mut Pass<Entry, N>) -> D

@@ -59,7 +59,8 @@ fn losers_are_undone_step_by_step(rt: HostRuntime) -> Result<(), Fail> {
 }
 
 /// Three pages that no life has written; k000 is on page 3, below page 1.
-const PAGES: &str = "format\nopen\nbegin A\nput A k000 V\nput A k001 V\nput A k002 V\nput A k003 V\n\
+const PAGES: &str =
+    "format\nopen\nbegin A\nput A k000 V\nput A k001 V\nput A k002 V\nput A k003 V\n\
     put A k004 V\nput A k005 V\nput A k006 V\nput A k007 V\nput A k008 V\nput A k009 V\nput A k010 V\n\
     put A k011 V\nput A k012 V\nput A k013 V\nput A k014 V\nput A k015 V\nput A k016 V\ncommit A\nstop\nopen\n";
 
