@@ -153,13 +153,13 @@ steps_counted loser n m h h1 h2 h3 u a w =
     (u.entries ++ more, longer h h1 h3 u.entries more u.added (longer h1 h2 h3 a.0 w.0 a.2 w.3), omega (arith, first, c, ups, pages, both, rest))
 
 -- no loser is left, or each step was one of these
-pub losers_done : (opens : List Record → Type 0) (n m k steps : ℕ) (h h1 h2 h3 : List Entry) → Undoes (IsLoserOf opens) n h h1 → AddsUpkeep h1 h2 → WritesUpto k h2 h3 → n ≤ steps → m ≤ steps - n → (n < steps → AreAllOver opens h1)
-    → AreAllOver opens h3 ⊎ ((n + m ≡ steps) × AddsSteps steps h h3)
-losers_done opens n m k steps h h1 h2 h3 u a w few rest over = by (ltb n steps) refl
+pub losers_done : (opens : List Record → Type 0) (n k steps total : ℕ) (h h1 h2 h3 : List Entry) → Undoes (IsLoserOf opens) n h h1 → AddsUpkeep h1 h2 → WritesUpto k h2 h3 → n ≤ steps → n ≤ total → total ≤ steps → (n < steps → AreAllOver opens h1)
+    → AreAllOver opens h3 ⊎ ((total ≡ steps) × AddsSteps steps h h3)
+losers_done opens n k steps total h h1 h2 h3 u a w few low high over = by (ltb n steps) refl
   where
-    by : (b : Bool) → ltb n steps ≡ b → AreAllOver opens h3 ⊎ ((n + m ≡ steps) × AddsSteps steps h h3)
+    by : (b : Bool) → ltb n steps ≡ b → AreAllOver opens h3 ⊎ ((total ≡ steps) × AddsSteps steps h h3)
     by true less = inl (over_later opens h1 (a.0 ++ w.0) h3 (longer h1 h2 h3 a.0 w.0 a.2 w.3) (over (ltb-true n steps less)))
     by false more =
         let least = ltb-false n steps more in
         let all : n ≡ steps = omega (arith, least, few) in
-        inr (omega (arith, all, rest), subst (λ (x : ℕ). AddsSteps x h h3) all (steps_counted (IsLoserOf opens) n k h h1 h2 h3 u a w))
+        inr (omega (arith, all, low, high), subst (λ (x : ℕ). AddsSteps x h h3) all (steps_counted (IsLoserOf opens) n k h h1 h2 h3 u a w))

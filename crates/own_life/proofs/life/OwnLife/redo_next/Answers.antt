@@ -18,7 +18,7 @@ invariant_of-self g c =
 
 pub returns-clause-next : goal.returns-clause-next
 returns-clause-next g c =
-    let next = IsNextRedone (g.P.LifePages.awaits c.args.pages.now) (g.P.LifePages.awaits c.redo_next-redone.new.pages) in
+    let next = IsNextRedone (g.P.LifePages.awaits c.args.pages.now) (g.P.LifePages.awaits c.redo_next-redone.new.self) in
     subst (λ (r : Result (Option ℕ) Fault). IfOk r next) (sym c.unvaulted.ensures) (vault_ok next c.redo_next-redone.result c.redo_next-redone.ensures.next)
 
 pub returns-clause-upkeep : goal.returns-clause-upkeep
