@@ -1,6 +1,6 @@
 -- What an entry of the upkeep makes of a history of which no opening log is known.
 use Rattle.std.proofs.Common.{◌≡◌, ℕ, suc, ◌+◌, ◌≤◌, List, [], ◌∷◌, ◌++◌, length, Option, Some, None, false, cond, Bool, refl, sym, ap, ◌∙◌, subst, arith, append-nil, length-append}
-use Rattle.std.specs.Prelude.{IfSome, Result, Ok, Err}
+use Rattle.std.specs.Prelude.{IfSome, Ok}
 use mathlib.Core.List.{IsPrefix}
 use Rattle.books.specs.Rights.{PageClaim, SessionClaim, MaintClaim}
 use Rattle.books.specs.declared.entry.BookEntry.{BookEntry}
@@ -15,14 +15,13 @@ use Rattle.wal_record.specs.declared.entry.Entry.{Entry}
 use Rattle.wal_record.specs.declared.entry.Entry.TheVariants.{Rec, Repaired}
 use Rattle.page_ops.proofs.Gaining.{calls_self, ended_self, keeps_self}
 use Rattle.page_ops.specs.Causes.{IsUntold}
-use Rattle.page_ops.specs.Claims.{Agree, Claims, PageAgrees, SessionAgrees, MaintAgrees}
+use Rattle.page_ops.specs.Claims.{Claims, PageAgrees, SessionAgrees, MaintAgrees}
 use Rattle.page_ops.specs.Groups.{AreFilled, Numbers, made_by, no_checkpoint, filled}
 use Rattle.page_ops.specs.Names.{LedgerName}
 use Rattle.page_ops.specs.Outcomes.{EntersGroup, IsFilledIn, page_of, new_place, answered}
-use Rattle.page_ops.specs.Seeing.{Account, Enters, HasTotals, IsConsistent, IsMoment, Keeps, is_of_session, known, of_sessions}
+use Rattle.page_ops.specs.Seeing.{Account, Enters, HasTotals, IsMoment, Keeps, is_of_session, known, of_sessions}
 use Rattle.page_ops.specs.declared.group.Group.{Group}
 use Rattle.page_ops.specs.declared.group.Said.{Said}
-use Rattle.page_ops.specs.declared.outcome.Entered.{Entered}
 use Rattle.page_ops.specs.declared.outcome.Entered.TheVariants.{At}
 use Rattle.small_journal.proofs.Keeping.{of_sessions_push}
 use Rattle.untold_journal.specs.Upkeep.{IsAloneIn, IsKept, IsUpkeep}
@@ -195,6 +194,6 @@ filled_in asked now lsn e x y w is claims =
       child = 0;
       recs = subst (λ (z : List Record × List Record). AreFilled 0 z.0 z.1) (λ i. (sym alone i, sym (recs ∙ alone) i)) ((numbers, refl, unfilled (made_by (w.rec ∷ [])) numbers lsn w.rec w.upkeep), tt);
       holders = record { a = refl; b = refl; s = refl; m = refl };
-      made = ap (λ (o : Option ℕ). new_place o 0 (page_of x.c)) made;
+      made = sym (ap (λ (o : Option ℕ). new_place o 0 (page_of x.c)) made);
       numbered = λ makes. absurd (cc (made, makes));
     })

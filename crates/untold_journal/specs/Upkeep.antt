@@ -1,5 +1,5 @@
 -- A history to which only the upkeep of pages adds.
-use Rattle.std.specs.Prelude.{◌≡◌, ℕ, ◌+◌, List, [], ◌∷◌, length, Bool, false, None}
+use Rattle.std.specs.Prelude.{◌≡◌, ℕ, List, [], ◌∷◌, length, false, None}
 use Rattle.books.specs.declared.entry.BookEntry.{BookEntry}
 use Rattle.wal_record.specs.Legal.{untold}
 use Rattle.wal_record.specs.declared.record.Record.{Record}
