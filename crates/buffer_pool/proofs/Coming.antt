@@ -1,33 +1,30 @@
 -- What a page that is brought makes of frames and rights, and what bringing it enters.
-use Rattle.std.proofs.Common.{◌≡◌, ◌≢◌, ℕ, ◌≤◌, List, [], ◌++◌, Option, Some, None, Bool, true, false, refl, sym, ap, subst, ◌∙◌, arith, inl, inr}
+use Rattle.std.proofs.Common.{◌≡◌, ℕ, ◌≤◌, List, [], ◌∷◌, Option, Some, None, Bool, true, refl, sym, ap, subst, ◌∙◌, arith, inl, inr}
 use Rattle.std.specs.Prelude.{IfNone, IfOk, IfSome, Result, Ok, Err, length, is_some, not}
 use Rattle.std.specs.List.{list_all}
 use Rattle.std.proofs.lemmas.Bool.{cases_eq}
 use mathlib.Core.List.{IsPrefix}
 use Rattle.books.specs.Rights.{PageClaim}
 use Rattle.front.specs.Seen.{PassSeen}
-use Rattle.front.proofs.Keeping.{prefix_self, prefix_trans}
+use Rattle.front.proofs.Keeping.{prefix_trans}
 use Rattle.media.specs.Cause.{Rose}
 use Rattle.store_model.specs.declared.fault.Fault.{Fault}
 use Rattle.wal_record.specs.declared.record.Record.{Record}
 use Rattle.wal_record.specs.declared.entry.Entry.{Entry}
 use Rattle.page_image.specs.declared.sealed.Sealed.{Sealed}
-use Rattle.page_index.specs.Index.{limit_of}
-use Rattle.page_ops.specs.Claims.{no_claims}
 use Rattle.page_ops.specs.Gains.{Gains}
 use Rattle.page_ops.specs.Hands.{Hand}
 use Rattle.page_ops.specs.Names.{LedgerName}
 use Rattle.page_ops.specs.Outcomes.{IsListed}
-use Rattle.page_ops.specs.Seeing.{Account, Known, Upholds, is_none, known}
+use Rattle.page_ops.specs.Seeing.{Known, Upholds}
 use Rattle.page_ops.specs.declared.outcome.Listed.{Listed}
 use Rattle.page_ops.proofs.Gaining.{gains_of_upheld, gains_then}
 use Rattle.page_repair.specs.Supplies.{is_restored}
 use Rattle.buffer_pool.specs.Bases.{IsBaseAmong, IsGiven, is_current}
 use Rattle.buffer_pool.specs.Brings.{Brings, BringsInHand, IsLookedFor, WasWritten}
 use Rattle.buffer_pool.specs.Repairs.{Repairs}
-use Rattle.buffer_pool.specs.Tables.{Calls, HasFrame, Moves, PutsIn, SendsHome, Stays, Table, frame_of, is_full, right_of}
-use Rattle.buffer_pool.specs.declared.frame.Frame.{Frame}
-use Rattle.buffer_pool.specs.declared.frame.Frame.TheVariants.{Empty, Kept, Full}
+use Rattle.buffer_pool.specs.Tables.{Calls, HasFrame, Moves, PutsIn, Stays, Table, frame_of, is_full, right_of}
+use Rattle.buffer_pool.specs.declared.frame.Frame.TheVariants.{Full}
 use Rattle.buffer_pool.proofs.Entering.{upheld_both}
 use Rattle.buffer_pool.proofs.Serving.{given_later}
 
@@ -49,23 +46,6 @@ stays_as page t t' m = record {
 
 -- a page whose right was called out
 module _ (page : ℕ) (right : PageClaim) (t t1 t2 : Table) (called : Calls page t t1 (Some right)) (whose : right.page ≡ page) (inside : HasFrame t1 page) where
-  -- its right goes home again
-  pub stays_home : SendsHome right t1 t2 → Stays t t2
-  stays_home sends =
-      let home = subst (λ (p : ℕ). Moves p Empty (Some right) t1 t2) whose (sends.there (subst (HasFrame t1) (sym whose) inside)) in
-      let m = called.2.becomes in
-      record {
-        limit = home.becomes.limit ∙ m.limit;
-        frames = λ q. elim (cases_eq q page) [
-          | inl e ↦ ap (frame_of t2) e ∙ home.becomes.frame ∙ sym called.0 ∙ ap (frame_of t) (sym e)
-          | inr d ↦ home.becomes.frames q d ∙ m.frames q d
-        ];
-        rights = λ q. elim (cases_eq q page) [
-          | inl e ↦ ap (right_of t2) e ∙ home.becomes.right ∙ sym called.1 ∙ ap (right_of t) (sym e)
-          | inr d ↦ home.becomes.rights q d ∙ m.rights q d
-        ];
-      }
-
   -- it comes into its frame
   pub comes_in : (h : Hand) → h.page ≡ page → PutsIn h t1 t2 → Moves page (Full h) None t t2
   comes_in h is puts =
@@ -159,15 +139,15 @@ module _ (opens : List Record → Type 0) (ledger sessions : LedgerName) where
 
 -- the page was there, or wasn't
 module _ (opens : List Record → Type 0) (ledger sessions : LedgerName) (page faults faults_now : ℕ) (t t1 t2 : Table) (old new : Known) where
-  pub brings_there : {T : Type 0} (x : T) → Calls page t t1 None → is_full (frame_of t1 page) ≡ true → Gains opens ledger sessions [] old new → Brings opens ledger sessions page faults faults_now (Ok x) t t1 old new
+  pub brings_there : (x : Unit {0}) → Calls page t t1 None → is_full (frame_of t1 page) ≡ true → Gains opens ledger sessions [] old new → Brings opens ledger sessions page faults faults_now (Ok x) t t1 old new
   brings_there x called full gains = inl (record { there = ap is_full (sym called.1.becomes.frame) ∙ full; same = stays_as page t t1 called.1; gains = gains })
 
-  pub brings_here : {T : Type 0} (x : T) (right : PageClaim) (h : Hand) → Calls page t t1 (Some right) → right.page ≡ page → HasFrame t1 page → PutsIn h t1 t2 → BringsInHand opens ledger sessions page right.lsn faults faults_now (Ok h) old new
+  pub brings_here : (x : Unit {0}) (right : PageClaim) (lsn : ℕ) (h : Hand) → lsn ≡ right.lsn → Calls page t t1 (Some right) → right.page ≡ page → HasFrame t1 page → PutsIn h t1 t2 → BringsInHand opens ledger sessions page lsn faults faults_now (Ok h) old new
       → Brings opens ledger sessions page faults faults_now (Ok x) t t2 old new
-  brings_here x right h called whose inside puts brought = inr (record {
-    lsn = right.lsn;
+  brings_here x right lsn h is called whose inside puts brought = inr (record {
+    lsn = lsn;
     was = called.0;
-    home = called.1 ∙ (λ i. Some (record { page = whose i; lsn = right.lsn }));
+    home = called.1 ∙ (λ i. Some (record { page = whose i; lsn = sym is i }));
     hand = h;
     brought = brought;
     now = comes_in page right t t1 t2 called whose inside h brought.whose puts;

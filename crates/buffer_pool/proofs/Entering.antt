@@ -1,8 +1,7 @@
 -- What the calls of a pool enter, and why they are refused.
-use Rattle.std.proofs.Common.{◌≡◌, ℕ, suc, ◌+◌, List, [], ◌∷◌, ◌++◌, Option, Some, None, Bool, true, false, cond, refl, sym, ap, subst, ◌∙◌, arith, append_assoc, inl, inr}
+use Rattle.std.proofs.Common.{◌≡◌, ℕ, suc, List, [], ◌∷◌, ◌++◌, Option, Some, None, Bool, true, false, cond, refl, sym, ap, subst, ◌∙◌, arith, inl, inr}
 use Rattle.std.specs.Prelude.{IfErr, IfNone, OnOk, OnErr, Result, Ok, Err, is_ok}
 use Rattle.std.specs.List.{list_all}
-use mathlib.Core.List.{IsPrefix}
 use Rattle.books.specs.Rights.{PageClaim}
 use Rattle.front.specs.Seen.{PassSeen}
 use Rattle.store_model.proofs.Bools.{both_true, and_true}
@@ -14,19 +13,19 @@ use Rattle.wal_record.specs.declared.record.Record.TheVariants as kinds
 use Rattle.wal_record.specs.declared.entry.Entry.{Entry}
 use Rattle.wal_record.specs.declared.entry.Entry.TheVariants as entries
 use Rattle.page_ops.specs.Names.{LedgerName}
-use Rattle.page_ops.specs.Causes.{IsOpen, MeetsNoEnd, MeetsNoFault, EndsBy, Ends, FailsToEnter, FailsToFlush, FailsToBring, FailsToReserve, NoOther, OrFull}
+use Rattle.page_ops.specs.Causes.{IsOpen, MeetsNoEnd, EndsBy, FailsToEnter, FailsToFlush, FailsToBring, FailsToReserve, NoOther, OrFull}
 use Rattle.page_ops.specs.Claims.{Claims, no_claims}
 use Rattle.page_ops.specs.Desks.{Faults, KeepsFaults}
-use Rattle.page_ops.specs.Gains.{Gains, Goes}
-use Rattle.page_ops.specs.Seeing.{Account, Known, known, Enters, Looks, Upholds, is_none, is_of_session, is_upkeep, of_sessions}
-use Rattle.page_ops.proofs.Composing.{bring_then, done_meets_none}
+use Rattle.page_ops.specs.Gains.{Gains}
+use Rattle.page_ops.specs.Seeing.{Account, Known, known, Enters, Upholds, is_none, is_of_session, is_upkeep, of_sessions}
+use Rattle.page_ops.proofs.Composing.{bring_then}
 use Rattle.page_ops.proofs.Gaining.{gains_of, gains_of_upheld, gains_then, goes_of, looked, upheld, upheld_then}
 use Rattle.wal_record.specs.History.{life_log}
 use Rattle.wal_record.specs.Upkeep.{written_lsn}
 use Rattle.page_ops.specs.Outcomes.{IsFull, repairs}
 use Rattle.page_ops.specs.declared.group.Group.{Group}
-use Rattle.buffer_pool.specs.Repairs.{IsRepair, Repairs}
-use Rattle.buffer_pool.specs.Writes.{is_written, no_faults}
+use Rattle.buffer_pool.specs.Repairs.{Repairs}
+use Rattle.buffer_pool.specs.Writes.{is_written}
 use Rattle.page_repair.specs.Supplies.{is_restored}
 
 -- ---- kinds of entries

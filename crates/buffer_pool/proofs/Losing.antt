@@ -5,11 +5,11 @@ use Rattle.page_ops.specs.Claims.{IsInRange}
 use Rattle.page_index.proofs.Places.{for_page-outside}
 use Rattle.std.proofs.Common.{◌≡◌, ◌≢◌, ℕ, zero, suc, ◌<◌, ◌≤◌, List, length, Option, Some, None, ◌⊎◌, refl, sym, ap, ◌∙◌, subst, arith, inl, inr}
 use Rattle.std.proofs.lemmas.Bool.{cases_eq}
-use Rattle.page_index.specs.Index.{Index, Forgets, home_of, for_page, limit_of, written_of}
+use Rattle.page_index.specs.Index.{Index, Forgets, for_page, limit_of}
 use Rattle.page_ops.specs.Hands.{Hand}
 use Rattle.buffer_pool.specs.declared.frame.Frame.{Frame}
 use Rattle.buffer_pool.specs.declared.frame.Frame.TheVariants.{Empty, Kept, Full}
-use Rattle.buffer_pool.specs.Tables.{Table, Becomes, Drops, IsKept, HasFrame, Loses, Moves, SendsHome, Takes, frame_of, right_of, lost_frame, lost_right}
+use Rattle.buffer_pool.specs.Tables.{Table, Drops, IsKept, HasFrame, Loses, Moves, SendsHome, frame_of, right_of, lost_frame, lost_right}
 
 -- the pages up to this one are dropped, and those above are as before
 pub record LosesUpTo (page : ℕ) (old new : Table) : Type 0 where

@@ -1,6 +1,6 @@
 -- A page in hand is written: its image is one of the log, and that it was written may be entered.
 use Rattle.std.proofs.Common.{◌≡◌, ◌≢◌, ℕ, ◌≤◌, List, [], ◌∷◌, ◌++◌, length, take, Option, Some, None, Bool, true, false, refl, sym, ap, subst, ◌∙◌, arith, append-nil, length-append}
-use Rattle.std.specs.Prelude.{IsTrue, Result, Ok, Err, min, not}
+use Rattle.std.specs.Prelude.{Result, Ok, Err, min, not}
 use Rattle.std.proofs.lemmas.List.{take-append-le}
 use mathlib.Core.List.{IsPrefix}
 use Rattle.books.specs.Rights.{PageClaim}
@@ -24,7 +24,7 @@ use Rattle.page_image.specs.Image.{image_bytes}
 use Rattle.page_ops.specs.Asking.{IsAskable, WasTimely}
 use Rattle.page_ops.specs.Claims.{Claims, Agree, no_claims}
 use Rattle.page_ops.specs.Gains.{Gains}
-use Rattle.page_ops.specs.Groups.{Each, HasRights, IsGroup, Numbers, AreFilledFrom, filled, made_by, record_entries}
+use Rattle.page_ops.specs.Groups.{Each, HasRights, IsGroup, Numbers, AreFilledFrom, filled, record_entries}
 use Rattle.page_ops.specs.Hands.{Hand, IsInHand}
 use Rattle.page_ops.specs.Names.{LedgerName}
 use Rattle.page_ops.specs.Outcomes.{EntersGroup, IsFilledIn, OnEntered, answered}

@@ -1,8 +1,7 @@
 -- What a page that is brought makes of a pool, and what it enters.
-use Rattle.std.specs.Prelude.{◌≡◌, ◌⊎◌, ℕ, List, ◌++◌, [], Option, Some, None, Bool, true, false, is_some, not, IfSome, IfNone, IsTrue, Result, Ok, Err}
+use Rattle.std.specs.Prelude.{◌≡◌, ◌⊎◌, ℕ, List, ◌++◌, [], Option, Some, None, Bool, true, is_some, not, IfSome, IfNone, IsTrue, Result, Ok, Err}
 use Rattle.std.specs.List.{list_all}
 use mathlib.Core.List.{IsPrefix}
-use Rattle.front.specs.Seen.{PassSeen}
 use Rattle.media.specs.Cause.{Rose}
 use Rattle.store_model.specs.declared.fault.Fault.{Fault}
 use Rattle.wal_record.specs.History.{life_log}

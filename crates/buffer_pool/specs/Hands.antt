@@ -1,5 +1,5 @@
 -- The one right to a page that is brought.
-use Rattle.std.specs.Prelude.{◌≡◌, Option, Some, None}
+use Rattle.std.specs.Prelude.{Some, None}
 use Rattle.books.specs.Rights.{PageClaim}
 use Rattle.page_ops.specs.Claims.{Claims}
 

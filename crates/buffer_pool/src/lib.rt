@@ -16,11 +16,14 @@
 //! 3. A page that is rebuilt without such an image enters that it was repaired, after it was rebuilt and only where an image
 //!    of it was written since the last loss; nothing else enters a repair, and a bring that is refused enters none
 //!    (`specs/Repairs`).
-//! 4. A bring that is done has the page in its frame. After one that is refused each frame is as before, and each right is
-//!    where it was.
+//! 4. A bring that is done has the page in its frame, at the LSN of its right, and each other frame and right is as before.
+//!    After one that is refused each frame is as before, and each right where it was; nothing was entered but what the supply
+//!    restored (`specs/Brings`).
 //! 5. An image is written only once the log is durable up to its LSN. Then it is entered that it was written, and nothing
-//!    else. Where the device fails the page is dropped, its right at home, and no answer tells of it (`specs/Writes`).
-//! 6. The next dirty page above a number is the least one, exactly.
+//!    else. A page is dropped only where the device failed; its right is then at home, nothing is entered, and no answer tells
+//!    of it (`specs/Writes`).
+//! 6. The next dirty page above a number is the least one, exactly; and so is the next one that awaits redo: at first those
+//!    whose head in the opening log is above their written LSN, and then those of them that haven't been brought or renewed.
 //! 7. Where the data device is lost, each page in its frame is dropped and its right goes home, and no page counts as
 //!    written, also where the device refuses to be replaced (`specs/Tables`).
 //!

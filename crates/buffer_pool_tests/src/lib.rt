@@ -14,5 +14,3 @@ mod supply;
 mod telling;
 #[cfg(test)]
 mod tests;
-#[cfg(test)]
-mod untold;

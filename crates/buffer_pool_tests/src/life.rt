@@ -7,7 +7,6 @@ ghost use Rattle.wal_record.specs.declared.record.Record.{Record};
 
 use crate::supply::EmptyLeaf;
 use crate::telling::Telling;
-use crate::untold::Untold;
 use books::{Book, BookTables, PageBook, PageRight};
 use buffer_pool::PlainPool;
 use front::Pass;
@@ -15,10 +14,12 @@ use media_mem::MemPages;
 use page_index::PageIndex;
 use page_ops::{Ground, Life, Tokens};
 use page_repair::OwnImages;
+use restart::RestartPlan;
 use small_journal::Counts;
 use std::alloc::Global;
-use store_model::{Fault, Lsn, Memory, PageNo};
-use wal_record::Entry;
+use store_model::{Fault, List, Lsn, Memory, PageNo};
+use untold_journal::Untold;
+use wal_record::{Analysis, Entry, PageHead};
 
 /// The head of the one page, page 1.
 pub(crate) const HEAD: Lsn = 5;
@@ -45,6 +46,29 @@ fn index_with<N: Life>(alloc: Global, right: PageRight<N>) -> Result<PageIndex<N
     let mut index = PageIndex::new(alloc, 12)?;
     index.give_right(right);
     Ok(index)
+}
+
+/// The analysis of a log with that page, which was last written as this LSN.
+fn opening(alloc: Global, written: Lsn) -> Result<Analysis, Memory> {
+    let mut heads = List::new(alloc);
+    heads.push(PageHead {
+        head: HEAD,
+        written,
+        backup: 0,
+        backup_lsn: 0,
+    })?;
+    Ok(Analysis {
+        losers: List::new(alloc),
+        heads,
+        lost: 0,
+        unrestored: List::new(alloc),
+        runs: List::new(alloc),
+        commits: 0,
+        next_tx: 1,
+        next_backup: 1,
+        next_run: 1,
+        limit: 12,
+    })
 }
 
 /// A journal, a pool and a first pass.
@@ -92,15 +116,14 @@ pub(crate) fn begin<'a, N: Life>(
     let (_, log_faults) = log_faults.open();
     let (_, vault_faults) = vault_faults.open();
     let (_, made) = made.open();
-    let history = Untold {
+    let history = Untold::new(
         ground,
         front,
-        sessions: books.sessions,
-        maint: books.maint,
-        entries: entries_book,
-        session_entries: session_book,
-        count: 0,
-    };
+        books.sessions,
+        books.maint,
+        entries_book,
+        session_book,
+    );
     let counts = Counts {
         entries,
         session_entries,
@@ -113,7 +136,8 @@ pub(crate) fn begin<'a, N: Life>(
         from_base: 0,
         from_nothing: 0,
     };
-    let Ok(pool) = PlainPool::new(alloc, images, supply, index) else {
+    let plan = RestartPlan::new(alloc, &opening(alloc, written)?)?;
+    let Ok(pool) = PlainPool::new(alloc, images, supply, index, plan) else {
         return Err(Fault::Memory);
     };
     Ok(Begun {

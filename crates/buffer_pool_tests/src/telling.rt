@@ -1,8 +1,7 @@
 //! A journal that tells the ends of one page's traces, and enters what a pool does with the page.
-ghost use Rattle.std.specs.Prelude.{◌≡◌, IfSome};
-ghost use Rattle.buffer_pool_tests.specs.Upkeep.{IsRepairOf};
+ghost use Rattle.std.specs.Prelude.{◌≡◌};
+ghost use Rattle.wal_record.specs.declared.entry.Entry.TheVariants.{Repaired};
 
-use crate::untold::{Untold, written_in};
 use books::PageRight;
 use front::Pass;
 use page_ops::{Entered, Entering, Found, Ground, Group, Life, Listed, Rights};
@@ -11,7 +10,8 @@ use std::alloc::Global;
 use std::marker::Model;
 use std::sync::Wait;
 use store_model::{Fault, Lsn, PageNo, Pos};
-use wal_record::{Entry, PageHead};
+use untold_journal::{Untold, alone_in};
+use wal_record::{Entry, PageHead, Record};
 
 /// A journal of a life of which no opening log is known. It enters that a page was written or repaired, and tells these ends
 /// of each page's traces; of every other group it says that it wants memory.
@@ -55,7 +55,7 @@ impl<'a, N: Life> Telling<'a, N> {
 
 /// The entry that a page was repaired.
 fn repaired_entry(page: PageNo) -> Entry
-    ensures { IsRepairOf page result }
+    ensures { result ≡ Repaired page }
 {
     Entry::Repaired { page }
 }
@@ -64,7 +64,7 @@ impl<'a, N: Life> Entering<N> for Telling<'a, N> {
     ghost account = { λ j. j };
 
     fn ground(&self) -> &Ground<N> {
-        self.history.ground
+        self.history.ground()
     }
 
     fn log_faults(&self) -> u64 {
@@ -77,7 +77,7 @@ impl<'a, N: Life> Entering<N> for Telling<'a, N> {
         0
     }
 
-    #[tactic(auto, using(crate::proofs::Upkeep::filled_in))]
+    #[tactic(auto, using(untold_journal::proofs::Upkeep::filled_in))]
     fn enter<R: Wait>(
         &mut self,
         _rt: &R,
@@ -87,7 +87,7 @@ impl<'a, N: Life> Entering<N> for Telling<'a, N> {
         pass: &mut Pass<Entry, N>,
     ) -> Result<Entered, Fault> {
         let lsn = self.history.count().saturating_add(self.head);
-        let Some((page, written, entry)) = written_in(group, lsn) else {
+        let Some(entry) = alone_in(group, lsn) else {
             self.history.see(rights, pass, &mut self.counts);
             return Err(Fault::Memory);
         };
@@ -99,9 +99,13 @@ impl<'a, N: Life> Entering<N> for Telling<'a, N> {
             return Err(Fault::Memory);
         };
         group.lsn = lsn;
-        self.writes = self.writes.saturating_add(1);
-        if page == 1 {
-            self.written = written;
+        if let Entry::Rec {
+            rec: Record::Written(written),
+            ..
+        } = &entry
+        {
+            self.writes = self.writes.saturating_add(1);
+            self.written = written.lsn;
         }
         Ok(Entered::At(pos))
     }

@@ -40,6 +40,8 @@ pub(crate) struct Seen {
     pub(crate) done: [bool; 4],
     /// The dirty page after the first step, and after the last.
     dirty: [Option<PageNo>; 2],
+    /// The page that awaits redo after the last step.
+    redo: Option<PageNo>,
     from_base: u32,
     from_nothing: u32,
     repairs: u32,
@@ -116,11 +118,13 @@ fn in_turn<N: Life, R: Wait>(
     let three = take(rt, alloc, &mut begun, third);
     let four = take(rt, alloc, &mut begun, fourth);
     let dirty = [dirty, begun.pool.next_dirty(0)];
+    let redo = begun.pool.next_redo(0);
     let Begun { journal, pool, .. } = begun;
     let (_, supply) = pool.into_parts();
     Ok(Seen {
         done: [one, two, three, four],
         dirty,
+        redo,
         from_base: supply.from_base,
         from_nothing: supply.from_nothing,
         repairs: journal.repairs,
@@ -190,6 +194,7 @@ const LOSE: [Step; 4] = [Step::Bring, Step::Lose, Step::Look, Step::Bring];
 const CURRENT: Seen = Seen {
     done: [true; 4],
     dirty: [None; 2],
+    redo: None,
     from_base: 1,
     from_nothing: 0,
     repairs: 0,
@@ -369,6 +374,27 @@ fn a_bring_that_wants_memory_leaves_the_right_at_home(rt: HostRuntime) -> Result
         };
         let seen = run_with(&rt, alloc, MemPages::new(alloc), case)?;
         assert_eq!(rt; seen, expected);
+    }
+    Ok(())
+}
+
+/// The page was written as this LSN, and is brought, where the bring isn't refused, or only looked for.
+#[test]
+fn a_page_awaits_redo_until_it_comes(rt: HostRuntime) -> Result<(), Fail> {
+    let alloc = rt.alloc();
+    for (written, first, refuse_at, expected) in [
+        (3, Step::Look, 0, Some(1)),
+        (3, Step::Bring, 1, Some(1)),
+        (3, Step::Bring, 0, None),
+        (HEAD, Step::Look, 0, None),
+    ] {
+        let case = Case {
+            written,
+            refuse_at,
+            steps: [first, Step::Look, Step::Look, Step::Look],
+        };
+        let seen = run_with(&rt, alloc, MemPages::new(alloc), case)?;
+        assert_eq!(rt; seen.redo, expected, "{written} {first:?}");
     }
     Ok(())
 }

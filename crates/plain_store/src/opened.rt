@@ -80,8 +80,9 @@ pub fn open_store<'a, L: Disk, P: PageDevice, S, N: Life>(
         next_tx,
         losers,
     } = prepared;
-    let Ok(plan) = redo_plan(alloc, log.listing()) else {
-        return Err(refused(log, device, supply));
+    let plan = match redo_plan(alloc, log.listing()) {
+        Ok(plan) => plan,
+        Err(Memory) => return Err(refused(log, device, supply)),
     };
     // The images of earlier lives are of the opening log, which is durable.
     tokens

@@ -10,7 +10,7 @@ use Rattle.buffer_pool.proofs.bringing.brought.Goals as goal
 pub returns-in_err-written-clause-brings : goal.returns-in_err-written-clause-brings
 returns-in_err-written-clause-brings g c =
     let p = err_from_is_err_and c.from_residual.result c.from_residual.ensures.1 in
-    rw (p.1, p.2) c.made_ready.ensures.entered
+    rw p.1 c.made_ready.ensures.entered
 
 pub returns-in_err-written-clause-entered : goal.returns-in_err-written-clause-entered
 returns-in_err-written-clause-entered g c = upheld_more _ _ _ is_restored is_upkeep restored_kind _ _ c.made_ready.ensures.entered

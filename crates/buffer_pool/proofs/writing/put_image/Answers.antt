@@ -1,4 +1,4 @@
-use Rattle.std.proofs.Common.{ap, subst, sym, ◌∙◌, arith}
+use Rattle.std.proofs.Common.{subst, arith}
 use Rattle.std.proofs.lemmas.Result.{err_from_is_err_and}
 use mathlib.Core.List.{IsPrefix}
 use Rattle.front.specs.Seen.{PassSeen}
@@ -9,7 +9,7 @@ use Rattle.page_ops.specs.Seeing.{is_none}
 use Rattle.page_repair.specs.Supplies.{IsHead}
 use Rattle.page_ops.proofs.Gaining.{goes_met, goes_of, goes_then, upheld, upheld_then}
 use Rattle.buffer_pool.specs.Writes.{no_faults}
-use Rattle.buffer_pool.proofs.Entering.{flush_fails, looks, none_both, open_met, rose_of}
+use Rattle.buffer_pool.proofs.Entering.{flush_fails, looks, none_both, open_met}
 use Rattle.buffer_pool.proofs.Storing.{hand_named, may_write}
 use Rattle.buffer_pool.proofs.writing.put_image.Goals as goal
 

@@ -1,5 +1,6 @@
-use Rattle.std.proofs.Common.{ap, arith, ◌∙◌}
+use Rattle.std.proofs.Common.{ap, arith, subst, sym, ◌∙◌}
 use Rattle.front.specs.Seen.{PassSeen}
+use Rattle.log_index.specs.Listing.{IsListingOf}
 use Rattle.plain_store.proofs.Earlier.{earlier_written}
 use Rattle.plain_store.proofs.opened.open_store.Goals as goal
 
@@ -10,3 +11,6 @@ new-images-requires-clause-written g c t =
     (λ opening stands.
     let first = (c.requires.opens opening stands).safe.begins in
     omega (arith, first, c.durable.ensures, c.store.ensures.seen, ap (λ (p : PassSeen _). p.durable) c.copy.ensures.copy))
+
+pub returns-clause-redo : goal.returns-clause-redo
+returns-clause-redo g c = λ opening stands. ? (c.redo_plan.ensures opening (subst (IsListingOf opening) (sym c.listing.ensures) (c.requires.opens opening stands).records.listing))

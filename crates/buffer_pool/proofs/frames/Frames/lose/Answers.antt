@@ -1,4 +1,4 @@
-use Rattle.std.proofs.Common.{refl, sym, ap, subst, arith, ◌∙◌}
+use Rattle.std.proofs.Common.{sym, ap, subst, arith, ◌∙◌}
 use Rattle.page_index.specs.Index.{limit_of}
 use Rattle.buffer_pool.specs.Tables.{Table}
 use Rattle.buffer_pool.proofs.Losing.{LosesUpTo, all_lost, one_lost}

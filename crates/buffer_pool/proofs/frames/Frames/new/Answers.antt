@@ -1,6 +1,4 @@
-use Rattle.std.proofs.Common.{◌≡◌, ◌∙◌, sym, arith, subst}
-use Rattle.page_index.proofs.Places.{all-append, all-pages}
-use Rattle.buffer_pool.specs.declared.frame.Frame.TheVariants.{Empty}
+use Rattle.std.proofs.Common.{arith}
 use Rattle.buffer_pool.proofs.Changes.{kept_new}
 use Rattle.buffer_pool.proofs.frames.Frames.new.Goals as goal
 

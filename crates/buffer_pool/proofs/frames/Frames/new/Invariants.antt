@@ -1,7 +1,5 @@
 use Rattle.std.proofs.Common.{◌≡◌, ℕ, length}
 use Rattle.std.specs.Prelude.{slice_index_or}
-use Rattle.page_ops.specs.Hands.{Hand}
-use Rattle.buffer_pool.specs.declared.frame.Frame.{Frame}
 use Rattle.buffer_pool.specs.declared.frame.Frame.TheVariants.{Empty}
 use Rattle.buffer_pool.proofs.frames.Frames.new.Given as goal
 

@@ -1,4 +1,4 @@
-use Rattle.std.proofs.Common.{◌≡◌, ◌<◌, ◌∙◌, sym, subst, length}
+use Rattle.std.proofs.Common.{◌<◌, ◌∙◌, sym, subst, length}
 use Rattle.buffer_pool.specs.Tables.{Table}
 use Rattle.buffer_pool.proofs.Changes.{kept_moved}
 use Rattle.buffer_pool.proofs.frames.Frames.send_home.Goals as goal

@@ -1,8 +1,7 @@
 -- A history to which only the upkeep of pages adds.
-use Rattle.std.specs.Prelude.{◌≡◌, ℕ, ◌+◌, List, [], ◌∷◌, length, Bool, false, None}
+use Rattle.std.specs.Prelude.{◌≡◌, ℕ, List, [], ◌∷◌, length, false, None}
 use Rattle.books.specs.declared.entry.BookEntry.{BookEntry}
 use Rattle.wal_record.specs.Legal.{untold}
-use Rattle.wal_record.specs.declared.record.Written.{Written}
 use Rattle.wal_record.specs.declared.record.Record.{Record}
 use Rattle.wal_record.specs.declared.record.Record.TheVariants as kinds
 use Rattle.wal_record.specs.declared.entry.Entry.{Entry}
@@ -11,9 +10,10 @@ use Rattle.page_ops.specs.Causes.{IsUntold}
 use Rattle.page_ops.specs.Seeing.{of_sessions}
 use Rattle.page_ops.specs.declared.group.Group.{Group}
 
--- a page was written or repaired
+-- a page was written or repaired, or a segment restored
 abbrev pub IsUpkeep : Entry → Type 0
 IsUpkeep (Rec lsn (kinds.Written w)) = Unit {0}
+IsUpkeep (Rec lsn (kinds.Restored r)) = Unit {0}
 IsUpkeep (Repaired page) = Unit {0}
 IsUpkeep _ = ⊥
 
@@ -27,11 +27,9 @@ pub record IsKept (opens : List Record → Type 0) (h : List Entry) (count total
   pub no_session : sessions ≡ []
   pub no_maint : maint ≡ []
 
--- the group has alone that a page was written, and this is its entry
-pub record IsWrittenAlone (g : Group) (lsn : ℕ) (e : Entry) : Type 0 where
-  pub written : Written
-  pub is : g ≡ record { recs = kinds.Written written ∷ []; said = None; room = false; lsn = g.lsn }
-  pub entry : e ≡ Rec lsn (kinds.Written written)
-
-abbrev pub IsRepairOf : ℕ → Entry → Type 0
-IsRepairOf page e = e ≡ Repaired page
+-- the group has one such record alone, and this is its entry
+pub record IsAloneIn (g : Group) (lsn : ℕ) (e : Entry) : Type 0 where
+  pub rec : Record
+  pub is : g ≡ record { recs = rec ∷ []; said = None; room = false; lsn = g.lsn }
+  pub upkeep : IsUpkeep (Rec lsn rec)
+  pub entry : e ≡ Rec lsn rec

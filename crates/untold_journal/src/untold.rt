@@ -2,10 +2,11 @@
 ghost use Rattle.std.specs.Prelude.{◌≡◌, ◌+◌, ◌<◌, ◌≤◌, ◌^◌, List, [], ◌∷◌, ◌++◌, length, None, Some, IfNone, IfSome};
 ghost use mathlib.Core.List.{IsPrefix};
 ghost use Rattle.wal_record.specs.declared.entry.Entry.{Entry};
+ghost use Rattle.wal_record.specs.declared.record.Record.{Record};
 ghost use Rattle.page_ops.specs.Causes.{IsOpen, IsUntold};
 ghost use Rattle.wal_record.specs.Legal.{untold};
 ghost use Rattle.page_ops.specs.Seeing.{Enters, HasTotals, Looks, known};
-ghost use Rattle.buffer_pool_tests.specs.Upkeep.{IsUpkeep, IsWrittenAlone};
+ghost use Rattle.untold_journal.specs.Upkeep.{IsAloneIn, IsUpkeep};
 
 use books::{Book, MaintBook, SessionBook};
 use front::{Added, Board, Front, Pass};
@@ -13,28 +14,28 @@ use page_ops::{Entries, Ground, Group, Life, Rights, SessionEntries};
 use small_journal::Counts;
 use std::marker::{Brand, Model};
 use std::sync::ledger;
-use store_model::{Lsn, PageNo};
-use wal_record::{Entry, Record, Written};
+use store_model::Lsn;
+use wal_record::{Entry, Record, Restored, Written};
 
 /// The bound of the number of entries.
 const MOST: u64 = 1 << 62;
 
 /// The history, to which only what the upkeep of pages enters is added. Contracts see it as its entries.
 #[derive(Drop)]
-pub(crate) struct Untold<'a, N: Life> {
-    pub(crate) ground: &'a Ground<N>,
-    pub(crate) front: Front<Entry, N>,
-    pub(crate) sessions: Book<SessionBook<N>>,
-    pub(crate) maint: Book<MaintBook<N>>,
-    pub(crate) entries: ledger::Book<Entries<N>>,
-    pub(crate) session_entries: ledger::Book<SessionEntries<N>>,
-    pub(crate) count: u64,
+pub struct Untold<'a, N: Life> {
+    ground: &'a Ground<N>,
+    front: Front<Entry, N>,
+    sessions: Book<SessionBook<N>>,
+    maint: Book<MaintBook<N>>,
+    entries: ledger::Book<Entries<N>>,
+    session_entries: ledger::Book<SessionEntries<N>>,
+    count: u64,
 }
 
 impl<'a, N: Life> Model for Untold<'a, N> {
     ghost use Rattle.std.specs.Prelude.{List};
     ghost use Rattle.wal_record.specs.declared.entry.Entry.{Entry};
-    ghost use Rattle.buffer_pool_tests.specs.Upkeep.{IsKept};
+    ghost use Rattle.untold_journal.specs.Upkeep.{IsKept};
 
     ghost Value = { List Entry };
 
@@ -57,6 +58,36 @@ fn add<N: Life, A: Added<Entry>>(
 }
 
 impl<'a, N: Life> Untold<'a, N> {
+    /// The empty history, of a life without sessions.
+    pub fn new(
+        ground: &'a Ground<N>,
+        front: Front<Entry, N>,
+        sessions: Book<SessionBook<N>>,
+        maint: Book<MaintBook<N>>,
+        entries: ledger::Book<Entries<N>>,
+        session_entries: ledger::Book<SessionEntries<N>>,
+    ) -> Untold<'a, N>
+        requires untold { (opening : List Record) → N.opens opening → ⊥ }
+        requires empty { (front ≡ []) × (sessions ≡ []) × (maint ≡ []) }
+        requires counted { (entries.total ≡ 0) × (session_entries.total ≡ 0) }
+        ensures { result ≡ [] }
+    {
+        Untold {
+            ground,
+            front,
+            sessions,
+            maint,
+            entries,
+            session_entries,
+            count: 0,
+        }
+    }
+
+    /// What the threads of the life share.
+    pub fn ground(&self) -> &Ground<N> {
+        self.ground
+    }
+
     /// Shows the pass the whole history. The shares count what they counted.
     fn look(&mut self, pass: &mut Pass<Entry, N>, counts: &mut Counts<N>)
         ensures same { self.new ≡ self.old }
@@ -93,12 +124,7 @@ impl<'a, N: Life> Untold<'a, N> {
     }
 
     /// As `Entering::see`.
-    pub(crate) fn see(
-        &mut self,
-        rights: &mut Rights<N>,
-        pass: &mut Pass<Entry, N>,
-        counts: &mut Counts<N>,
-    )
+    pub fn see(&mut self, rights: &mut Rights<N>, pass: &mut Pass<Entry, N>, counts: &mut Counts<N>)
         ensures same { self.new ≡ self.old }
         ensures rights { rights.new ≡ rights.old }
         ensures counts { counts.new ≡ counts.old }
@@ -111,7 +137,7 @@ impl<'a, N: Life> Untold<'a, N> {
     }
 
     /// As `Entering::flush`. There is no disk, so nothing is durable that has to be.
-    pub(crate) fn watch(&mut self, pass: &mut Pass<Entry, N>, counts: &mut Counts<N>)
+    pub fn watch(&mut self, pass: &mut Pass<Entry, N>, counts: &mut Counts<N>)
         ensures same { self.new ≡ self.old }
         ensures counts { counts.new ≡ counts.old }
         ensures pass { pass.new.log ≡ self.old }
@@ -134,7 +160,7 @@ impl<'a, N: Life> Untold<'a, N> {
     }
 
     /// Enters this entry and counts it, unless too many are there. Gives how many there are then.
-    pub(crate) fn enter(
+    pub fn enter(
         &mut self,
         entry: &Entry,
         rights: &mut Rights<N>,
@@ -158,24 +184,27 @@ impl<'a, N: Life> Untold<'a, N> {
     }
 
     /// How many entries there are.
-    pub(crate) fn count(&self) -> u64 {
+    pub fn count(&self) -> u64 {
         self.count
     }
 }
 
-/// The page and the LSN that the group alone says were written, and the entry of this LSN for it.
-pub(crate) fn written_in(group: &Group, lsn: Lsn) -> Option<(PageNo, Lsn, Entry)>
-    ensures { IfSome result (λ found. IsWrittenAlone group.now lsn found.2) }
+/// The entry of this LSN for the one record of the group, that a page was written or a segment restored.
+pub fn alone_in(group: &Group, lsn: Lsn) -> Option<Entry>
+    ensures { IfSome result (IsAloneIn group.now lsn) }
 {
     if group.room || group.said.is_some() {
         return None;
     }
-    let [Record::Written(written)] = group.recs.as_slice() else {
-        return None;
+    let rec = match group.recs.as_slice() {
+        [Record::Written(Written { page, lsn })] => Record::Written(Written {
+            page: *page,
+            lsn: *lsn,
+        }),
+        [Record::Restored(Restored { segment })] => Record::Restored(Restored {
+            segment: *segment,
+        }),
+        _ => return None,
     };
-    let rec = Record::Written(Written {
-        page: written.page,
-        lsn: written.lsn,
-    });
-    Some((written.page, written.lsn, Entry::Rec { lsn, rec }))
+    Some(Entry::Rec { lsn, rec })
 }

@@ -1,5 +1,5 @@
-use Rattle.buffer_pool_tests.proofs.Upkeep.{enters_none}
-use Rattle.buffer_pool_tests.proofs.untold.Untold.see.Goals as goal
+use Rattle.untold_journal.proofs.Upkeep.{enters_none}
+use Rattle.untold_journal.proofs.untold.Untold.see.Goals as goal
 
 pub returns-clause-seen : goal.returns-clause-seen
 returns-clause-seen g c =

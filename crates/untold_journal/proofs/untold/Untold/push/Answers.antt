@@ -1,8 +1,8 @@
 use Rattle.std.proofs.Common.{◌+◌, List, refl, subst, sym}
 use Rattle.wal_record.specs.declared.entry.Entry.{Entry}
-use Rattle.buffer_pool_tests.specs.Upkeep.{IsKept}
-use Rattle.buffer_pool_tests.proofs.Upkeep.{kept_one}
-use Rattle.buffer_pool_tests.proofs.untold.Untold.push.Goals as goal
+use Rattle.untold_journal.specs.Upkeep.{IsKept}
+use Rattle.untold_journal.proofs.Upkeep.{kept_one}
+use Rattle.untold_journal.proofs.untold.Untold.push.Goals as goal
 
 pub invariant_of-self : goal.invariant_of-self
 invariant_of-self g c =

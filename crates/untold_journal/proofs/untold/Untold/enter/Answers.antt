@@ -1,7 +1,7 @@
 use Rattle.std.proofs.Common.{List, [], ◌∷◌, ◌++◌, ap, sym, ◌∙◌}
 use Rattle.wal_record.specs.declared.entry.Entry.{Entry}
-use Rattle.buffer_pool_tests.proofs.Upkeep.{enters_one}
-use Rattle.buffer_pool_tests.proofs.untold.Untold.enter.Goals as goal
+use Rattle.untold_journal.proofs.Upkeep.{enters_one}
+use Rattle.untold_journal.proofs.untold.Untold.enter.Goals as goal
 
 pub returns-clause-entered : goal.returns-clause-entered
 returns-clause-entered g c =

@@ -1,6 +1,6 @@
 -- What an entry of the upkeep makes of a history of which no opening log is known.
 use Rattle.std.proofs.Common.{◌≡◌, ℕ, suc, ◌+◌, ◌≤◌, List, [], ◌∷◌, ◌++◌, length, Option, Some, None, false, cond, Bool, refl, sym, ap, ◌∙◌, subst, arith, append-nil, length-append}
-use Rattle.std.specs.Prelude.{IfSome, Result, Ok, Err}
+use Rattle.std.specs.Prelude.{IfSome, Ok}
 use mathlib.Core.List.{IsPrefix}
 use Rattle.books.specs.Rights.{PageClaim, SessionClaim, MaintClaim}
 use Rattle.books.specs.declared.entry.BookEntry.{BookEntry}
@@ -15,17 +15,16 @@ use Rattle.wal_record.specs.declared.entry.Entry.{Entry}
 use Rattle.wal_record.specs.declared.entry.Entry.TheVariants.{Rec, Repaired}
 use Rattle.page_ops.proofs.Gaining.{calls_self, ended_self, keeps_self}
 use Rattle.page_ops.specs.Causes.{IsUntold}
-use Rattle.page_ops.specs.Claims.{Agree, Claims, PageAgrees, SessionAgrees, MaintAgrees}
+use Rattle.page_ops.specs.Claims.{Claims, PageAgrees, SessionAgrees, MaintAgrees}
 use Rattle.page_ops.specs.Groups.{AreFilled, Numbers, made_by, no_checkpoint, filled}
 use Rattle.page_ops.specs.Names.{LedgerName}
 use Rattle.page_ops.specs.Outcomes.{EntersGroup, IsFilledIn, page_of, new_place, answered}
-use Rattle.page_ops.specs.Seeing.{Account, Enters, HasTotals, IsConsistent, IsMoment, Keeps, is_of_session, known, of_sessions}
+use Rattle.page_ops.specs.Seeing.{Account, Enters, HasTotals, IsMoment, Keeps, is_of_session, known, of_sessions}
 use Rattle.page_ops.specs.declared.group.Group.{Group}
 use Rattle.page_ops.specs.declared.group.Said.{Said}
-use Rattle.page_ops.specs.declared.outcome.Entered.{Entered}
 use Rattle.page_ops.specs.declared.outcome.Entered.TheVariants.{At}
 use Rattle.small_journal.proofs.Keeping.{of_sessions_push}
-use Rattle.buffer_pool_tests.specs.Upkeep.{IsKept, IsUpkeep, IsWrittenAlone}
+use Rattle.untold_journal.specs.Upkeep.{IsAloneIn, IsKept, IsUpkeep}
 
 untold_push : (h : List Entry) (e : Entry) → untold (h ++ e ∷ []) ≡ untold_step e
 unfolding untold
@@ -33,12 +32,14 @@ untold_push h e = along_push _ _ h e
 
 told_by : (e : Entry) → IsUpkeep e → untold_step e ≡ None
 told_by (Rec lsn (kinds.Written w)) u = refl
+told_by (Rec lsn (kinds.Restored r)) u = refl
 told_by (Repaired page) u = refl
 told_by (Rec lsn _) u = absurd u
 told_by _ u = absurd u
 
 pub of_nobody : (h : List Entry) (e : Entry) → IsUpkeep e → is_of_session h e ≡ false
 of_nobody h (Rec lsn (kinds.Written w)) u = refl
+of_nobody h (Rec lsn (kinds.Restored r)) u = refl
 of_nobody h (Repaired page) u = refl
 of_nobody h (Rec lsn _) u = absurd u
 of_nobody h _ u = absurd u
@@ -155,10 +156,24 @@ enters_one opens entries sessions a a1 b c p q r x x1 y e u account claims more 
 
 -- ---- a group
 
-pub enters_group : (opens : List Record → Type 0) (entries sessions : LedgerName) (asked now : Group) (lsn pos : ℕ) (e : Entry) (a b : Account) (p q : PassSeen Entry) (x y : Claims) → IsWrittenAlone asked lsn e → now ≡ record asked { lsn = lsn }
+pub upkeep_of : (g : Group) (lsn : ℕ) (e : Entry) → IsAloneIn g lsn e → IsUpkeep e
+upkeep_of g lsn e alone = subst IsUpkeep (sym alone.entry) alone.upkeep
+
+-- such a record has no number to fill in, and makes no page
+unfilled : (made : Option ℕ) (n : Numbers) (lsn : ℕ) (r : Record) → IsUpkeep (Rec lsn r) → r ≡ filled made n r
+unfilled made n lsn (kinds.Written w) u = refl
+unfilled made n lsn (kinds.Restored r) u = refl
+unfilled made n lsn _ u = absurd u
+
+makes_none : (lsn : ℕ) (r : Record) → IsUpkeep (Rec lsn r) → made_by (r ∷ []) ≡ None
+makes_none lsn (kinds.Written w) u = refl
+makes_none lsn (kinds.Restored r) u = refl
+makes_none lsn _ u = absurd u
+
+pub enters_group : (opens : List Record → Type 0) (entries sessions : LedgerName) (asked now : Group) (lsn pos : ℕ) (e : Entry) (a b : Account) (p q : PassSeen Entry) (x y : Claims) → IsAloneIn asked lsn e → now ≡ record asked { lsn = lsn }
     → Enters opens entries sessions (known a p x) (e ∷ []) (known b q y) → EntersGroup opens entries sessions asked now (Ok (At pos)) (known a p x) (known b q y)
 enters_group opens entries sessions asked now lsn pos e a b p q x y w is enters =
-    let recs : now.recs ≡ kinds.Written w.written ∷ [] = ap (λ (g : Group). g.recs) is ∙ ap (λ (g : Group). g.recs) w.is in
+    let recs : now.recs ≡ w.rec ∷ [] = ap (λ (g : Group). g.recs) is ∙ ap (λ (g : Group). g.recs) w.is in
     let said : asked.said ≡ None = ap (λ (g : Group). g.said) w.is in
     let number : now.lsn ≡ lsn = ap (λ (g : Group). g.lsn) is in
     let room : asked.room ≡ false = ap (λ (g : Group). g.room) w.is in
@@ -168,16 +183,17 @@ enters_group opens entries sessions asked now lsn pos e a b p q x y w is enters 
       room = λ opening stands on. absurd (cc (on, room));
     }
 
-pub filled_in : (asked now : Group) (lsn : ℕ) (e : Entry) (x y : Claims) → IsWrittenAlone asked lsn e → now ≡ record asked { lsn = lsn } → y ≡ x → IsFilledIn asked now x y
+pub filled_in : (asked now : Group) (lsn : ℕ) (e : Entry) (x y : Claims) → IsAloneIn asked lsn e → now ≡ record asked { lsn = lsn } → y ≡ x → IsFilledIn asked now x y
 filled_in asked now lsn e x y w is claims =
     let recs : now.recs ≡ asked.recs = ap (λ (g : Group). g.recs) is in
-    let alone : asked.recs ≡ kinds.Written w.written ∷ [] = ap (λ (g : Group). g.recs) w.is in
+    let alone : asked.recs ≡ w.rec ∷ [] = ap (λ (g : Group). g.recs) w.is in
+    let made : made_by asked.recs ≡ None = ap made_by alone ∙ makes_none lsn w.rec w.upkeep in
     let numbers : Numbers = record { prev = 0; page_prev = 0; other_prev = 0; child = 0; checkpoint = no_checkpoint; pages = 0 } in
     subst (λ (z : Claims). IsFilledIn asked now x z) (sym claims)
     (record {
       child = 0;
-      recs = subst (λ (z : List Record × List Record). AreFilled 0 z.0 z.1) (λ i. (sym alone i, sym (recs ∙ alone) i)) ((numbers, refl, refl), tt);
+      recs = subst (λ (z : List Record × List Record). AreFilled 0 z.0 z.1) (λ i. (sym alone i, sym (recs ∙ alone) i)) ((numbers, refl, unfilled (made_by (w.rec ∷ [])) numbers lsn w.rec w.upkeep), tt);
       holders = record { a = refl; b = refl; s = refl; m = refl };
-      made = ap (λ (rs : List Record). new_place (made_by rs) 0 (page_of x.c)) (sym alone);
-      numbered = λ makes. absurd (cc (subst (λ (rs : List Record). made_by rs ≡ None) (sym alone) refl, makes));
+      made = sym (ap (λ (o : Option ℕ). new_place o 0 (page_of x.c)) made);
+      numbered = λ makes. absurd (cc (made, makes));
     })
