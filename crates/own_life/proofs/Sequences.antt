@@ -1,6 +1,6 @@
 -- Calls of a life one after the other: what they make of it together, and which pages are then dirty.
 use Rattle.std.proofs.Common.{◌≡◌, ℕ, ◌+◌, ◌<◌, ◌≤◌, List, [], ◌∷◌, sym, ap, Option, Some, None, Bool, true, false, Result, Ok, Err, refl, ltb-true, ◌∙◌, arith, inl, inr}
-use Rattle.std.specs.Prelude.{◌⊎◌, ◌==◌, ◌||◌, IfErr, OnOk}
+use Rattle.std.specs.Prelude.{◌⊎◌, ◌==◌, ◌||◌, IfErr, OnOk, is_some}
 use Rattle.std.specs.List.{list_any}
 use Rattle.std.proofs.Math.Dec.{ltb}
 use Rattle.std.proofs.lemmas.Bool.{ltb-false}
@@ -11,7 +11,7 @@ use Rattle.wal_record.specs.declared.record.Record.{Record}
 use Rattle.page_ops.specs.Seeing.{Calls}
 use Rattle.log_laws.proofs.Central.{eqb_self}
 use Rattle.store_model.proofs.Bools.{or_left, or_right}
-use Rattle.own_life.specs.Pages.{AllBut, IsNextWritten, OthersStay}
+use Rattle.own_life.specs.Pages.{AllBut, IsNextRedone, IsNextWritten, OneLess, OthersStay}
 use Rattle.own_life.specs.State.{BreaksOff, CallsGoOn, Fails, FailsToFlush, GoesOn, LifeState}
 
 -- ---- how they leave the life
@@ -124,3 +124,31 @@ all_but_more n page P Q R a others = (
 
 pub all_but_within : (n m : ℕ) (P Q : ℕ → Type 0) → n ≤ m → AllBut n P Q → AllBut m P Q
 all_but_within n m P Q low a = (a.0, let few = a.1 in omega (arith, few, low), a.2)
+
+-- behind one more page that is redone, or where none awaits it
+pub redone_more : (n : ℕ) (P Q R : ℕ → Type 0) (o : Option ℕ) → is_some o ≡ true → AllBut n P Q → IsNextRedone Q R o → AllBut (n + 1) P R
+redone_more n P Q R None some a next = absurd (cc some)
+redone_more n P Q R (Some page) some a next = all_but_more n page P Q R a next.3
+
+pub redone_all : (n m : ℕ) (P Q R : ℕ → Type 0) (o : Option ℕ) → is_some o ≡ false → n ≤ m → AllBut n P Q → IsNextRedone Q R o → AllBut m P R
+redone_all n m P Q R (Some page) none low a next = absurd (cc none)
+redone_all n m P Q R None none low a next = (a.0, let few = a.1 in omega (arith, few, low), λ q is. elim (a.2 q is) [
+  | inl stays ↦ absurd (next q stays)
+  | inr gone ↦ inr gone
+])
+
+pub none_awaited : (Q R : ℕ → Type 0) (o : Option ℕ) → is_some o ≡ false → IsNextRedone Q R o → (q : ℕ) → Q q → ⊥
+none_awaited Q R (Some page) none next = absurd (cc none)
+none_awaited Q R None none next = next
+
+-- behind one more page that is written, or where none is dirty
+pub written_more : (n : ℕ) (P Q R : ℕ → Type 0) (o : Option ℕ) → is_some o ≡ true → AllBut n P Q → OneLess Q R o → AllBut (n + 1) P R
+written_more n P Q R None some a one = absurd (cc some)
+written_more n P Q R (Some page) some a one = all_but_more n page P Q R a one
+
+pub written_all : (n m : ℕ) (P Q R : ℕ → Type 0) (o : Option ℕ) → is_some o ≡ false → n ≤ m → AllBut n P Q → OneLess Q R o → AllBut m P R
+written_all n m P Q R (Some page) none low a one = absurd (cc none)
+written_all n m P Q R None none low a one = (a.0, let few = a.1 in omega (arith, few, low), λ q is. elim (a.2 q is) [
+  | inl stays ↦ inl (one q stays)
+  | inr gone ↦ inr gone
+])

@@ -37,14 +37,15 @@ WritesUpto most h h' = (es : List Entry) × All IsWrittenEntry es × (length es 
 abbrev pub OthersStay : ℕ → (ℕ → Type 0) → (ℕ → Type 0) → Type 0
 OthersStay page old new = (q : ℕ) → q ≢ page → old q → new q
 
+-- each page that was so still is, but for this one, or none
 abbrev pub OneLess : (ℕ → Type 0) → (ℕ → Type 0) → Option ℕ → Type 0
 OneLess old new (Some page) = OthersStay page old new
-OneLess old new None = Unit {0}
+OneLess old new None = (q : ℕ) → old q → new q
 
 -- The least page that awaited redo has come, and each other one still awaits it if it did; or none awaits it.
 abbrev pub IsNextRedone : (ℕ → Type 0) → (ℕ → Type 0) → Option ℕ → Type 0
 IsNextRedone old new (Some page) = old page × (new page → ⊥) × ((q : ℕ) → q < page → old q → ⊥) × OthersStay page old new
-IsNextRedone old new None = (q : ℕ) → new q → ⊥
+IsNextRedone old new None = (q : ℕ) → old q → ⊥
 
 -- each page that was so still is, but for so many at most
 abbrev pub AllBut : ℕ → (ℕ → Type 0) → (ℕ → Type 0) → Type 0

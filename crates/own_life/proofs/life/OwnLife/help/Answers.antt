@@ -1,15 +1,7 @@
 use Rattle.std.proofs.Common.{◌-◌, ◌+◌, arith}
-use Rattle.std.proofs.lemmas.Result.{err_from_is_err_and}
 use Rattle.rollback.specs.Owners.{IsLoserOf}
 use Rattle.own_life.proofs.Helped.{helped, helped_some, losers_done, written_none}
-use Rattle.own_life.proofs.Sequences.{done_then, fails_then, goes_then}
 use Rattle.own_life.proofs.life.OwnLife.help.Goals as goal
-
-pub redo_pages-requires-clause-open : goal.redo_pages-requires-clause-open
-redo_pages-requires-clause-open g c = c.in_ok-undone.ensures.goes.ended
-
-pub write_pages-requires-clause-open : goal.write_pages-requires-clause-open
-write_pages-requires-clause-open g c = c.in_ok-redone.ensures.goes.ended
 
 pub returns-in_err-undone-clause-helps : goal.returns-in_err-undone-clause-helps
 returns-in_err-undone-clause-helps g c = helped_some (IsLoserOf g.N.Life.opens) c.args.steps c.args.self.now.history c.undo_losers.new.self.history c.in_err-undone.ensures.some
@@ -33,12 +25,3 @@ returns-clause-losers g c =
     let few' = c.in_ok-redone.ensures.few in
     let few'' = c.in_ok-written.ensures.few in
     losers_done g.N.Life.opens c.in_ok-undone.undone (c.args.steps - c.in_ok-undone.undone - c.in_ok-redone.redone) c.args.steps (c.in_ok-undone.undone + c.in_ok-redone.redone + c.in_ok-written.written) c.args.self.now.history c.undo_losers.new.self.history c.redo_pages.new.self.history c.write_pages.new.self.history c.in_ok-undone.ensures.undoes c.redo_pages.ensures.upkeep c.write_pages.ensures.written few (omega arith) (omega (arith, few, few', few'')) c.in_ok-undone.ensures.over
-
-pub returns-clause-redone : goal.returns-clause-redone
-returns-clause-redone g c = λ less page is. c.in_ok-redone.ensures.redone (omega (arith, less)) page (c.write_pages.ensures.awaits page is)
-
-pub returns-clause-written : goal.returns-clause-written
-returns-clause-written g c = λ less. c.in_ok-written.ensures.clean (omega (arith, less))
-
-pub returns-clause-goes : goal.returns-clause-goes
-returns-clause-goes g c = goes_then c.args.self.now c.undo_losers.new.self c.write_pages.new.self c.in_ok-undone.ensures.goes (goes_then c.undo_losers.new.self c.redo_pages.new.self c.write_pages.new.self c.in_ok-redone.ensures.goes c.in_ok-written.ensures.goes)

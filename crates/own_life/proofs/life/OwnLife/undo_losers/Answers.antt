@@ -1,7 +1,8 @@
-use Rattle.std.proofs.Common.{refl}
+use Rattle.std.proofs.Common.{Bool, Ok, true, refl, subst, ◌∙◌}
 use Rattle.rollback.specs.Owners.{IsLoserOf}
-use Rattle.own_life.proofs.Helped.{undoes_none}
-use Rattle.own_life.proofs.Sequences.{goes_self}
+use Rattle.store_life.specs.Steps.{StepsBack}
+use Rattle.own_life.proofs.Helped.{undoes_more, undoes_none}
+use Rattle.own_life.proofs.Sequences.{goes_self, goes_then}
 use Rattle.own_life.proofs.life.OwnLife.undo_losers.Goals as goal
 
 pub loop-taken-init : goal.loop-taken-init
@@ -17,3 +18,13 @@ undo_next-requires-clause-open g c = c.loop-taken.invariant.goes.ended
 
 pub undo_next-requires-clause-idle : goal.undo_next-requires-clause-idle
 undo_next-requires-clause-idle g c = c.loop-taken.invariant.idle
+
+pub loop-taken-preserved : goal.loop-taken-preserved
+loop-taken-preserved g c =
+    let taken : StepsBack g.N.Life.opens (Ok true) c.loop-taken.self.history c.undo_next.new.self.history = subst (λ (b : Bool). StepsBack g.N.Life.opens (Ok b) c.loop-taken.self.history c.undo_next.new.self.history) c.if-not-branch.false c.in_ok-undo_next.ensures.steps in
+    record {
+      goes = goes_then c.args.self.now c.loop-taken.self c.undo_next.new.self c.loop-taken.invariant.goes c.in_ok-undo_next.ensures.goes;
+      undoes = undoes_more g.N.Life.opens c.loop-taken.taken c.args.self.now.history c.loop-taken.self.history c.undo_next.new.self.history c.loop-taken.invariant.undoes taken;
+      names = c.undo_next.ensures.names ∙ c.loop-taken.invariant.names;
+      idle = c.undo_next.ensures.idle;
+    }

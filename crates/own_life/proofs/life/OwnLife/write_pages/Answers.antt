@@ -1,6 +1,7 @@
-use Rattle.std.proofs.Common.{refl}
-use Rattle.own_life.proofs.Helped.{written_none}
-use Rattle.own_life.proofs.Sequences.{all_but_none, goes_self}
+use Rattle.std.proofs.Common.{◌+◌, ap, refl, ◌∙◌, arith}
+use Rattle.std.specs.Prelude.{not}
+use Rattle.own_life.proofs.Helped.{written_none, written_then, written_within}
+use Rattle.own_life.proofs.Sequences.{all_but_none, goes_self, goes_then, written_all, written_more}
 use Rattle.own_life.proofs.life.OwnLife.write_pages.Goals as goal
 
 pub loop-taken-init : goal.loop-taken-init
@@ -18,3 +19,28 @@ write_next-requires-clause-open g c = c.loop-taken.invariant.goes.ended
 
 pub write_next-requires-clause-idle : goal.write_next-requires-clause-idle
 write_next-requires-clause-idle g c = c.loop-taken.invariant.idle
+
+pub returns-in_err-write_next-clause-written : goal.returns-in_err-write_next-clause-written
+returns-in_err-write_next-clause-written g c =
+    let less = c.loop-taken-test.true in
+    written_within (c.loop-taken.taken + 1) c.args.steps c.args.self.now.history c.write_next.new.self.history (omega (arith, less)) (written_then c.loop-taken.taken 1 c.args.self.now.history c.loop-taken.self.history c.write_next.new.self.history c.loop-taken.invariant.written c.write_next.ensures.written)
+
+pub returns-then-is_none-clause-stored : goal.returns-then-is_none-clause-stored
+returns-then-is_none-clause-stored g c =
+    let less = c.loop-taken-test.true in
+    written_all c.loop-taken.taken c.args.steps (g.P.LifePages.dirty c.args.pages.now) (g.P.LifePages.dirty c.loop-taken.pages) (g.P.LifePages.dirty c.write_next.new.pages) c.in_ok-write_next.field-0 (c.is_none.ensures ∙ ap not c.if-is_none.true) (omega (arith, less)) c.loop-taken.invariant.stored c.in_ok-write_next.ensures.one
+
+pub returns-then-is_none-clause-written : goal.returns-then-is_none-clause-written
+returns-then-is_none-clause-written g c =
+    let less = c.loop-taken-test.true in
+    written_within (c.loop-taken.taken + 1) c.args.steps c.args.self.now.history c.write_next.new.self.history (omega (arith, less)) (written_then c.loop-taken.taken 1 c.args.self.now.history c.loop-taken.self.history c.write_next.new.self.history c.loop-taken.invariant.written c.write_next.ensures.written)
+
+pub loop-taken-preserved : goal.loop-taken-preserved
+loop-taken-preserved g c = record {
+  goes = goes_then c.args.self.now c.loop-taken.self c.write_next.new.self c.loop-taken.invariant.goes c.in_ok-write_next.ensures.goes;
+  written = written_then c.loop-taken.taken 1 c.args.self.now.history c.loop-taken.self.history c.write_next.new.self.history c.loop-taken.invariant.written c.write_next.ensures.written;
+  stored = written_more c.loop-taken.taken (g.P.LifePages.dirty c.args.pages.now) (g.P.LifePages.dirty c.loop-taken.pages) (g.P.LifePages.dirty c.write_next.new.pages) c.in_ok-write_next.field-0 (c.is_none.ensures ∙ ap not c.if-is_none.false) c.loop-taken.invariant.stored c.in_ok-write_next.ensures.one;
+  awaits = λ page is. c.loop-taken.invariant.awaits page (c.write_next.ensures.awaits page is);
+  names = c.write_next.ensures.names ∙ c.loop-taken.invariant.names;
+  idle = c.write_next.ensures.idle;
+}
