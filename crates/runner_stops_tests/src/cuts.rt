@@ -225,7 +225,7 @@ fn a_stop_at_each_call_leaves_what_was_acknowledged(rt: HostRuntime) -> Result<(
     Ok(())
 }
 
-/// The second life undoes the losers as it reads all, perhaps behind two steps of help, and a stop comes at each of its calls.
+/// The second life undoes the losers as it reads all, perhaps behind three steps of help, which end a loser, and a stop comes at each of its calls.
 fn try_second<R: Wait>(
     rt: &R,
     alloc: Global,
@@ -241,7 +241,7 @@ fn try_second<R: Wait>(
     let committed = format!(in alloc; " {}", left.saturating_add(1))?;
     let mut lines = Vec::new(alloc);
     if helps {
-        lines.push(line_of(alloc, "help 2", "help", " ok")?)?;
+        lines.push(line_of(alloc, "help 3", "help", " ok")?)?;
     }
     lines.push(line_of(alloc, "scan Q % %", "Q scan % %", &pairs)?)?;
     lines.push(line_of(alloc, "stat", "stat", &stat)?)?;
