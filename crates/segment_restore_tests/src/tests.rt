@@ -6,18 +6,19 @@ ghost use Rattle.wal_record.specs.declared.record.Record.{Record};
 use crate::bases::BehindSplit;
 use crate::life::{Begun, begin};
 use crate::log::{FIRST, SECOND, image_lsn, is_state};
+use crate::telling::Telling;
 use front::Pass;
 use media::PageDevice;
 use media_mem::MemPages;
 use operators::boxed_operators;
 use page_ops::{Entering, Life, Unnamed};
 use page_repair::{Images, Supply};
-use segment_restore::{LogSupply, NoBases};
+use segment_restore::LogSupply;
 use std::alloc::Global;
 use std::marker::Brand;
 use std::sync::Wait;
 use std::test::Fail;
-use store_model::{Fault, Lsn};
+use store_model::Lsn;
 use wal_record::Entry;
 
 /// What is done of the lost segment.
@@ -55,30 +56,6 @@ struct Seen {
     flushed: Lsn,
 }
 
-fn take<N: Life, J: Entering<N>, I: Images<N>, S: Supply<N, J>, R: Wait>(
-    rt: &R,
-    alloc: Global,
-    supply: &mut S,
-    journal: &mut J,
-    images: &mut I,
-    pass: &mut Pass<Entry, N>,
-    step: Step,
-) -> Result<bool, Fault>
-    requires untold { (opening : List Record) → N.opens opening → ⊥ }
-{
-    match step {
-        Step::Ready => {
-            supply.ready(rt, alloc, journal, images, 2, pass)?;
-            supply.ready(rt, alloc, journal, images, 2, pass)?;
-            Ok(true)
-        }
-        Step::Rebuild => {
-            let sealed = supply.rebuilt(rt, alloc, journal, 2, None, 5, pass)?;
-            Ok(sealed.lsn == 5 && is_state(alloc, &sealed.state, SECOND))
-        }
-    }
-}
-
 /// The images of both pages on the device.
 fn images_on(alloc: Global, device: &mut MemPages) -> [Option<Lsn>; 2] {
     let mut first = [0; 4096];
@@ -89,6 +66,63 @@ fn images_on(alloc: Global, device: &mut MemPages) -> [Option<Lsn>; 2] {
         image_lsn(alloc, &first, 1, FIRST),
         image_lsn(alloc, &second, 2, SECOND),
     ]
+}
+
+fn is_done<N: Life, J: Entering<N>, I: Images<N>, S: Supply<N, J>, R: Wait>(
+    rt: &R,
+    alloc: Global,
+    supply: &mut S,
+    journal: &mut J,
+    images: &mut I,
+    pass: &mut Pass<Entry, N>,
+    step: Step,
+) -> bool
+    requires untold { (opening : List Record) → N.opens opening → ⊥ }
+{
+    match step {
+        Step::Ready => {
+            supply.ready(rt, alloc, journal, images, 2, pass).is_ok()
+                && supply.ready(rt, alloc, journal, images, 2, pass).is_ok()
+        }
+        Step::Rebuild => match supply.rebuilt(rt, alloc, journal, 2, None, 5, pass) {
+            Ok(sealed) => sealed.lsn == 5 && is_state(alloc, &sealed.state, SECOND),
+            Err(_) => false,
+        },
+    }
+}
+
+/// What comes of one step.
+fn come_of<'a, N: Life, S: Supply<N, Telling<'a, N>>, R: Wait>(
+    rt: &R,
+    alloc: Global,
+    supply: &mut S,
+    begun: Begun<'a, N>,
+    step: Step,
+) -> Seen
+    requires untold { (opening : List Record) → N.opens opening → ⊥ }
+{
+    let Begun {
+        mut journal,
+        mut images,
+        mut pass,
+    } = begun;
+    let done = is_done(
+        rt,
+        alloc,
+        supply,
+        &mut journal,
+        &mut images,
+        &mut pass,
+        step,
+    );
+    let mut device = images.into_device(&mut pass);
+    Seen {
+        done,
+        restored: journal.restored,
+        images: images_on(alloc, &mut device),
+        reads: journal.reads,
+        flushed: journal.flushed,
+    }
 }
 
 fn life<N: Life, R: Wait>(
@@ -103,46 +137,15 @@ fn life<N: Life, R: Wait>(
     requires parts { (N.entries.parts ≡ 1) × (N.session_entries.parts ≡ 1) × (N.log_faults.parts ≡ 1) × (N.vault_faults.parts ≡ 1) × (N.made.parts ≡ 1) }
 {
     let operators = boxed_operators!(alloc);
-    let operators = &operators;
-    let (ground, tokens) = unnamed.split::<N>();
-    let Begun {
-        mut journal,
-        mut images,
-        mut pass,
-    } = begin(&ground, tokens, device, case.lost, case.forgotten);
-    let taken = if case.has_backup {
-        let bases = BehindSplit;
-        let mut supply = LogSupply { operators, bases };
-        take(
-            rt,
-            alloc,
-            &mut supply,
-            &mut journal,
-            &mut images,
-            &mut pass,
-            case.step,
-        )
-    } else {
-        let bases = NoBases;
-        let mut supply = LogSupply { operators, bases };
-        take(
-            rt,
-            alloc,
-            &mut supply,
-            &mut journal,
-            &mut images,
-            &mut pass,
-            case.step,
-        )
+    let mut supply = LogSupply {
+        operators: &operators,
+        bases: BehindSplit {
+            has_both: case.has_backup,
+        },
     };
-    let mut device = images.into_device(&mut pass);
-    Ok(Seen {
-        done: matches!(taken, Ok(true)),
-        restored: journal.restored,
-        images: images_on(alloc, &mut device),
-        reads: journal.reads,
-        flushed: journal.flushed,
-    })
+    let (ground, tokens) = unnamed.split::<N>();
+    let begun = begin(&ground, tokens, device, case.lost, case.forgotten);
+    Ok(come_of(rt, alloc, &mut supply, begun, case.step))
 }
 
 /// What came of it, over a device whose calls with these numbers fail.
