@@ -12,9 +12,11 @@ use std::sync::Wait;
 use store_model::{Fault, Lsn, PageNo};
 use wal_record::Entry;
 
-/// The images of both pages behind the Split.
+/// The images of both pages behind the Split, if a backup has them.
 #[derive(Drop)]
-pub(crate) struct BehindSplit;
+pub(crate) struct BehindSplit {
+    pub(crate) has_both: bool,
+}
 
 impl<'a, N: Life> Bases<N, Telling<'a, N>> for BehindSplit {
     ghost vault_faults = { λ b. 0 };
@@ -34,7 +36,7 @@ impl<'a, N: Life> Bases<N, Telling<'a, N>> for BehindSplit {
         pass: &mut Pass<Entry, N>,
     ) -> Result<Option<Sealed>, Fault> {
         journal.see(rt, &mut Rights::none(), pass);
-        if head < 4 {
+        if !self.has_both || head < 4 {
             return Ok(None);
         }
         match state_of(alloc, if page == 1 { FIRST } else { MADE }) {

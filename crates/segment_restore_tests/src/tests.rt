@@ -7,25 +7,25 @@ use crate::bases::BehindSplit;
 use crate::life::{Begun, begin};
 use crate::log::{FIRST, SECOND, image_lsn, is_state};
 use crate::telling::Telling;
+use front::Pass;
 use media::PageDevice;
 use media_mem::MemPages;
-use operators::{Operators, boxed_operators};
-use page_ops::{Ground, Life, Tokens, Unnamed};
-use page_repair::Supply;
-use segment_restore::{Bases, LogSupply, NoBases, restore};
+use operators::boxed_operators;
+use page_ops::{Entering, Life, Unnamed};
+use page_repair::{Images, Supply};
+use segment_restore::LogSupply;
 use std::alloc::Global;
 use std::marker::Brand;
 use std::sync::Wait;
 use std::test::Fail;
-use store_model::{Fault, Lsn};
+use store_model::Lsn;
+use wal_record::Entry;
 
 /// What is done of the lost segment.
 #[derive(Clone, Copy, Debug, PartialEq, Eq)]
 enum Step {
     /// It is made ready for its second page, and again.
     Ready,
-    /// Its images are written, and nothing is entered.
-    Restore,
     /// Its second page is rebuilt, and nothing is written.
     Rebuild,
 }
@@ -38,6 +38,8 @@ struct Case {
     lost: u32,
     /// Up to this LSN the log has forgotten its records.
     forgotten: Lsn,
+    /// Whether a backup has both pages.
+    has_backup: bool,
 }
 
 /// What came of it.
@@ -54,48 +56,6 @@ struct Seen {
     flushed: Lsn,
 }
 
-fn take<'a, N: Life, B: Bases<N, Telling<'a, N>>, R: Wait>(
-    rt: &R,
-    alloc: Global,
-    supply: &mut LogSupply<'_, B>,
-    begun: &mut Begun<'a, N>,
-    case: Case,
-) -> Result<bool, Fault>
-    requires untold { (opening : List Record) → N.opens opening → ⊥ }
-{
-    let Begun {
-        journal,
-        images,
-        pass,
-    } = begun;
-    match case.step {
-        Step::Ready => {
-            supply.ready(rt, alloc, journal, images, 2, pass)?;
-            supply.ready(rt, alloc, journal, images, 2, pass)?;
-            Ok(true)
-        }
-        Step::Restore => {
-            let operators = supply.operators;
-            restore(
-                rt,
-                alloc,
-                journal,
-                images,
-                &mut supply.bases,
-                0,
-                case.lost,
-                operators,
-                pass,
-            )?;
-            Ok(true)
-        }
-        Step::Rebuild => {
-            let sealed = supply.rebuilt(rt, alloc, journal, 2, None, 5, pass)?;
-            Ok(sealed.lsn == 5 && is_state(alloc, &sealed.state, SECOND))
-        }
-    }
-}
-
 /// The images of both pages on the device.
 fn images_on(alloc: Global, device: &mut MemPages) -> [Option<Lsn>; 2] {
     let mut first = [0; 4096];
@@ -108,28 +68,53 @@ fn images_on(alloc: Global, device: &mut MemPages) -> [Option<Lsn>; 2] {
     ]
 }
 
-fn come_of<'a, N: Life, B: Bases<N, Telling<'a, N>>, R: Wait>(
+fn is_done<N: Life, J: Entering<N>, I: Images<N>, S: Supply<N, J>, R: Wait>(
     rt: &R,
     alloc: Global,
-    ground: &'a Ground<N>,
-    tokens: Tokens<N>,
-    device: MemPages,
-    supply: &mut LogSupply<'_, B>,
-    case: Case,
+    supply: &mut S,
+    journal: &mut J,
+    images: &mut I,
+    pass: &mut Pass<Entry, N>,
+    step: Step,
+) -> bool
+    requires untold { (opening : List Record) → N.opens opening → ⊥ }
+{
+    match step {
+        Step::Ready => {
+            supply.ready(rt, alloc, journal, images, 2, pass).is_ok()
+                && supply.ready(rt, alloc, journal, images, 2, pass).is_ok()
+        }
+        Step::Rebuild => match supply.rebuilt(rt, alloc, journal, 2, None, 5, pass) {
+            Ok(sealed) => sealed.lsn == 5 && is_state(alloc, &sealed.state, SECOND),
+            Err(_) => false,
+        },
+    }
+}
+
+/// What comes of one step.
+fn come_of<'a, N: Life, S: Supply<N, Telling<'a, N>>, R: Wait>(
+    rt: &R,
+    alloc: Global,
+    supply: &mut S,
+    begun: Begun<'a, N>,
+    step: Step,
 ) -> Seen
     requires untold { (opening : List Record) → N.opens opening → ⊥ }
-    requires parts { (N.entries.parts ≡ 1) × (N.session_entries.parts ≡ 1) × (N.log_faults.parts ≡ 1) × (N.vault_faults.parts ≡ 1) × (N.made.parts ≡ 1) }
-    requires front { tokens.front ≡ [] }
-    requires sessions { tokens.books.sessions ≡ [] }
-    requires maint { tokens.books.maint ≡ [] }
 {
-    let mut begun = begin(ground, tokens, device, case.lost, case.forgotten);
-    let done = matches!(take(rt, alloc, supply, &mut begun, case), Ok(true));
     let Begun {
-        journal,
-        images,
+        mut journal,
+        mut images,
         mut pass,
     } = begun;
+    let done = is_done(
+        rt,
+        alloc,
+        supply,
+        &mut journal,
+        &mut images,
+        &mut pass,
+        step,
+    );
     let mut device = images.into_device(&mut pass);
     Seen {
         done,
@@ -145,42 +130,29 @@ fn life<N: Life, R: Wait>(
     alloc: Global,
     unnamed: Unnamed,
     device: MemPages,
-    operators: &Operators,
-    has_backup: bool,
     case: Case,
-) -> Seen
+) -> Result<Seen, Fail>
     requires untold { (opening : List Record) → N.opens opening → ⊥ }
     requires named { unnamed ≡ life_names N.count N.pages N.sessions N.maint N.entries N.session_entries N.log_faults N.vault_faults N.data_faults N.made }
     requires parts { (N.entries.parts ≡ 1) × (N.session_entries.parts ≡ 1) × (N.log_faults.parts ≡ 1) × (N.vault_faults.parts ≡ 1) × (N.made.parts ≡ 1) }
 {
+    let operators = boxed_operators!(alloc);
+    let mut supply = LogSupply {
+        operators: &operators,
+        bases: BehindSplit {
+            has_both: case.has_backup,
+        },
+    };
     let (ground, tokens) = unnamed.split::<N>();
-    if has_backup {
-        let mut supply = LogSupply {
-            operators,
-            bases: BehindSplit,
-        };
-        come_of(rt, alloc, &ground, tokens, device, &mut supply, case)
-    } else {
-        let mut supply = LogSupply {
-            operators,
-            bases: NoBases,
-        };
-        come_of(rt, alloc, &ground, tokens, device, &mut supply, case)
-    }
+    let begun = begin(&ground, tokens, device, case.lost, case.forgotten);
+    Ok(come_of(rt, alloc, &mut supply, begun, case.step))
 }
 
-/// What came of it, over a device whose calls with these numbers fail, where a backup has both pages or none.
-fn run_with<R: Wait>(
-    rt: &R,
-    alloc: Global,
-    failing: Vec<u64>,
-    has_backup: bool,
-    case: Case,
-) -> Result<Seen, Fail> {
-    let operators = boxed_operators!(alloc);
+/// What came of it, over a device whose calls with these numbers fail.
+fn run_with<R: Wait>(rt: &R, alloc: Global, failing: Vec<u64>, case: Case) -> Result<Seen, Fail> {
     let unnamed = Unnamed::new(alloc, 1)?;
     let device = MemPages::failing(alloc, failing);
-    Ok(life::<Brand, R>(rt, alloc, unnamed, device, &operators, has_backup, case))
+    life::<Brand, R>(rt, alloc, unnamed, device, case)
 }
 
 /// Both pages come back, rebuilt from nothing.
@@ -208,21 +180,18 @@ const REBUILT: Seen = Seen {
     ..REFUSED
 };
 
-fn case_of(step: Step, lost: u32, forgotten: Lsn) -> Case {
+fn case_of(step: Step, lost: u32, forgotten: Lsn, has_backup: bool) -> Case {
     Case {
         step,
         lost,
         forgotten,
+        has_backup,
     }
 }
 
 #[test]
 fn a_lost_segment_comes_back(rt: HostRuntime) -> Result<(), Fail> {
     let alloc = rt.alloc();
-    let unmarked = Seen {
-        restored: false,
-        ..BACK
-    };
     let first_alone = Seen {
         images: [Some(4), None],
         reads: 4,
@@ -234,18 +203,17 @@ fn a_lost_segment_comes_back(rt: HostRuntime) -> Result<(), Fail> {
         reads: 1,
         ..REBUILT
     };
-    for (asked, has_backup, expected) in [
-        (case_of(Step::Ready, 2, 0), false, BACK),
-        (case_of(Step::Restore, 2, 0), false, unmarked),
+    for (asked, expected) in [
+        (case_of(Step::Ready, 2, 0, false), BACK),
         // A page that came later was never on the lost device.
-        (case_of(Step::Ready, 1, 0), false, first_alone),
+        (case_of(Step::Ready, 1, 0, false), first_alone),
         // The log has forgotten a record that is wanted, or one that a backup makes needless.
-        (case_of(Step::Ready, 2, 2), false, REFUSED),
-        (case_of(Step::Ready, 2, 4), true, from_backup),
-        (case_of(Step::Rebuild, 2, 0), false, REBUILT),
-        (case_of(Step::Rebuild, 2, 4), true, rebuilt_from_backup),
+        (case_of(Step::Ready, 2, 2, false), REFUSED),
+        (case_of(Step::Ready, 2, 4, true), from_backup),
+        (case_of(Step::Rebuild, 2, 0, false), REBUILT),
+        (case_of(Step::Rebuild, 2, 4, true), rebuilt_from_backup),
     ] {
-        let found = run_with(&rt, alloc, Vec::new(alloc), has_backup, asked)?;
+        let found = run_with(&rt, alloc, Vec::new(alloc), asked)?;
         assert_eq!(rt; found, expected, "{:?} of {}", asked.step, asked.lost);
     }
     Ok(())
@@ -262,7 +230,7 @@ fn a_device_that_fails_does_not_hold_the_segment_up(rt: HostRuntime) -> Result<(
         ([1, 2], [None; 2]),
     ] {
         let failing = Vec::from_array(alloc, failing)?;
-        let found = run_with(&rt, alloc, failing, false, case_of(Step::Ready, 2, 0))?;
+        let found = run_with(&rt, alloc, failing, case_of(Step::Ready, 2, 0, false))?;
         assert_eq!(rt; found, Seen { images, ..BACK });
     }
     Ok(())

@@ -13,4 +13,6 @@ new-images-requires-clause-written g c t =
     omega (arith, first, c.durable.ensures, c.store.ensures.seen, ap (λ (p : PassSeen _). p.durable) c.copy.ensures.copy))
 
 pub returns-clause-redo : goal.returns-clause-redo
-returns-clause-redo g c = λ opening stands. ? (c.redo_plan.ensures opening (subst (IsListingOf opening) (sym c.listing.ensures) (c.requires.opens opening stands).records.listing))
+returns-clause-redo g c = λ opening stands.
+    let awaited = c.in-Ok-redo_plan.ensures opening (subst (IsListingOf opening) (sym c.listing.ensures) (c.requires.opens opening stands).records.listing) in
+    c.in-Ok-new.ensures.parts.2 ∙ awaited
