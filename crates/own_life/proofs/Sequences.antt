@@ -132,10 +132,14 @@ redone_more n P Q R (Some page) some a next = all_but_more n page P Q R a next.3
 
 pub redone_all : (n m : ℕ) (P Q R : ℕ → Type 0) (o : Option ℕ) → is_some o ≡ false → n ≤ m → AllBut n P Q → IsNextRedone Q R o → AllBut m P R
 redone_all n m P Q R (Some page) none low a next = absurd (cc none)
-redone_all n m P Q R None none low a next = (a.0, let few = a.1 in omega (arith, few, low), λ q is. elim (a.2 q is) [
-  | inl stays ↦ absurd (next q stays)
-  | inr gone ↦ inr gone
-])
+redone_all n m P Q R None none low a next = (
+  a.0,
+  let few = a.1 in omega (arith, few, low),
+  λ q is. elim (a.2 q is) [
+    | inl stays ↦ absurd (next q stays)
+    | inr gone ↦ inr gone
+  ],
+)
 
 pub none_awaited : (Q R : ℕ → Type 0) (o : Option ℕ) → is_some o ≡ false → IsNextRedone Q R o → (q : ℕ) → Q q → ⊥
 none_awaited Q R (Some page) none next = absurd (cc none)
@@ -148,7 +152,11 @@ written_more n P Q R (Some page) some a one = all_but_more n page P Q R a one
 
 pub written_all : (n m : ℕ) (P Q R : ℕ → Type 0) (o : Option ℕ) → is_some o ≡ false → n ≤ m → AllBut n P Q → OneLess Q R o → AllBut m P R
 written_all n m P Q R (Some page) none low a one = absurd (cc none)
-written_all n m P Q R None none low a one = (a.0, let few = a.1 in omega (arith, few, low), λ q is. elim (a.2 q is) [
-  | inl stays ↦ inl (one q stays)
-  | inr gone ↦ inr gone
-])
+written_all n m P Q R None none low a one = (
+  a.0,
+  let few = a.1 in omega (arith, few, low),
+  λ q is. elim (a.2 q is) [
+    | inl stays ↦ inl (one q stays)
+    | inr gone ↦ inr gone
+  ],
+)
