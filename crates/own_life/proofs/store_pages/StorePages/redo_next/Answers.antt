@@ -4,7 +4,7 @@ use Rattle.store_life.specs.SoFar.{actives}
 use Rattle.store_life.proofs.Looked.{looked_alone}
 use Rattle.store_life.proofs.Stepped.{upkeep_named}
 use Rattle.rollback.proofs.Composing.{faults_self}
-use Rattle.rollback.proofs.Failing.{fails_then}
+use Rattle.page_ops.proofs.Composing.{bring_then}
 use Rattle.own_life.proofs.Redone.{made_upto, redone_upkeep}
 use Rattle.own_life.proofs.store_pages.StorePages.redo_next.Goals as goal
 
@@ -27,4 +27,4 @@ pub returns-in-Err-clause-named : goal.returns-in-Err-clause-named
 returns-in-Err-clause-named g c = λ named. upkeep_named c.args.life.now.pass.log c.bring.new.pass.log (actives c.args.life.now.named.items) (redone_upkeep g.N.Life.opens g.N.Life.entries g.N.Life.session_entries (g.J.Entering.account c.args.journal.now) (g.J.Entering.account c.pages.new.self) (g.J.Entering.account c.bring.new.journal) c.args.life.now.pass c.pages.new.pass c.bring.new.pass c.requires.runs.alone c.pages.ensures.seen c.bring.ensures.entered) named
 
 pub returns-in-Err-clause-refused : goal.returns-in-Err-clause-refused
-returns-in-Err-clause-refused g c = fails_then g.N.Life.opens g.N.Life.log_faults g.N.Life.made (g.J.Entering.account c.args.journal.now) (g.J.Entering.account c.pages.new.self) (g.J.Entering.account c.bring.new.journal) c.bring.new.pass.log c.pages.ensures.calm.end c.pages.ensures.seen.keeps no_faults no_faults no_faults c.bring.result (faults_self no_faults) c.bring.ensures.refused
+returns-in-Err-clause-refused g c = bring_then g.N.Life.opens g.N.Life.log_faults g.N.Life.made (g.J.Entering.account c.args.journal.now) (g.J.Entering.account c.pages.new.self) (g.J.Entering.account c.bring.new.journal) c.bring.new.pass.log c.pages.ensures.calm.end c.pages.ensures.seen.keeps no_faults no_faults no_faults c.in-Err.fault (faults_self no_faults) c.in-Err.ensures.refused
