@@ -1,5 +1,5 @@
 -- A page that awaited redo is brought: which pages await it then, and what that adds; and a data device that is damaged.
-use Rattle.std.proofs.Common.{◌≡◌, ◌≢◌, ℕ, zero, suc, ◌<◌, ◌≤◌, Bool, true, false, List, [], ◌++◌, Option, Some, None, Result, Ok, Err, sym, ap, subst, ◌∙◌, arith, inl, inr}
+use Rattle.std.proofs.Common.{◌≡◌, ℕ, zero, suc, ◌<◌, ◌≤◌, Bool, true, false, List, ◌++◌, Some, None, Result, Ok, Err, sym, ap, subst, ◌∙◌, arith, inl, inr}
 use Rattle.std.specs.Prelude.{◌⊎◌, ◌==◌, OnOk}
 use Rattle.std.proofs.lemmas.Bool.{eqb-true}
 use Rattle.front.specs.Seen.{PassSeen}
@@ -18,7 +18,7 @@ use Rattle.page_ops.specs.Desks.{IsMade}
 use Rattle.page_ops.specs.Names.{LedgerName}
 use Rattle.page_ops.specs.Seeing.{Account, IsConsistent, Keeps, Looks, Upholds, is_upkeep, known}
 use Rattle.page_ops.proofs.Gaining.{gains_of_upheld, keeps_then}
-use Rattle.restart.specs.Plans.{Comes, IsNextAwaiting, awaits}
+use Rattle.restart.specs.Plans.{Comes, IsNextAwaiting}
 use Rattle.command_laws.specs.Alone.{IsAlone}
 use Rattle.command_laws.specs.Commands.{IsUpkeep}
 use Rattle.command_laws.proofs.Alone.{entered, still_alone}

@@ -1,4 +1,4 @@
-use Rattle.std.proofs.Common.{◌≤◌, arith}
+use Rattle.std.proofs.Common.{arith}
 use Rattle.buffer_pool.specs.Writes.{no_faults}
 use Rattle.store_life.specs.SoFar.{actives}
 use Rattle.store_life.proofs.Looked.{looked_alone}
