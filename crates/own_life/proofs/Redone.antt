@@ -21,8 +21,10 @@ use Rattle.page_ops.proofs.Gaining.{gains_of_upheld, keeps_then}
 use Rattle.restart.specs.Plans.{Comes, IsNextAwaiting, awaits}
 use Rattle.command_laws.specs.Alone.{IsAlone}
 use Rattle.command_laws.specs.Commands.{IsUpkeep}
+use Rattle.command_laws.specs.Names.{Active, AreNamed}
 use Rattle.command_laws.proofs.Alone.{entered, still_alone}
 use Rattle.command_laws.proofs.Listed.{each_by}
+use Rattle.command_laws.proofs.Living.{BeginsNone, all_weaker, still_named, upkeep_none}
 use Rattle.store_life.specs.Steps.{AddsUpkeep}
 use Rattle.store_life.proofs.Looked.{looked_alone, looked_same}
 use Rattle.own_life.specs.Pages.{AwaitsRedo, IsNextRedone}
@@ -87,6 +89,10 @@ module _ (opens : List Record → Type 0) (ledger sessions : LedgerName) (a a1 a
 
   pub redone_keeps : Keeps a a2
   redone_keeps = keeps_then a a1 a2 looks.keeps up.keeps
+
+-- the names of the active transactions stay theirs
+pub redone_named : (h h' : List Entry) (active : List Active) → AddsUpkeep h h' → AreNamed h active → AreNamed h' active
+redone_named h h' active a named = subst (λ (l : List Entry). AreNamed l active) (sym a.2) (still_named h a.0 active (all_weaker IsUpkeep BeginsNone upkeep_none a.0 a.1) named)
 
 -- ---- a page of the data device is spoiled, or the device fails
 

@@ -1,11 +1,11 @@
-use Rattle.std.proofs.Common.{◌≤◌, arith}
+use Rattle.std.proofs.Common.{ℕ, Result, Err, arith}
+use Rattle.store_model.specs.declared.fault.Fault.{Fault}
 use Rattle.buffer_pool.specs.Writes.{no_faults}
 use Rattle.store_life.specs.SoFar.{actives}
 use Rattle.store_life.proofs.Looked.{looked_alone}
-use Rattle.store_life.proofs.Stepped.{upkeep_named}
 use Rattle.rollback.proofs.Composing.{faults_self}
 use Rattle.rollback.proofs.Failing.{fails_then}
-use Rattle.own_life.proofs.Redone.{made_upto, redone_upkeep}
+use Rattle.own_life.proofs.Redone.{made_upto, redone_named, redone_upkeep}
 use Rattle.own_life.proofs.store_pages.StorePages.redo_next.Goals as goal
 
 pub bring-requires-clause-made : goal.bring-requires-clause-made
@@ -18,13 +18,15 @@ pub returns-in-Ok-clause-upkeep : goal.returns-in-Ok-clause-upkeep
 returns-in-Ok-clause-upkeep g c = redone_upkeep g.N.Life.opens g.N.Life.entries g.N.Life.session_entries (g.J.Entering.account c.args.journal.now) (g.J.Entering.account c.pages.new.self) (g.J.Entering.account c.bring.new.journal) c.args.life.now.pass c.pages.new.pass c.bring.new.pass c.requires.runs.alone c.pages.ensures.seen c.bring.ensures.entered
 
 pub returns-in-Ok-clause-named : goal.returns-in-Ok-clause-named
-returns-in-Ok-clause-named g c = λ named. upkeep_named c.args.life.now.pass.log c.bring.new.pass.log (actives c.args.life.now.named.items) (redone_upkeep g.N.Life.opens g.N.Life.entries g.N.Life.session_entries (g.J.Entering.account c.args.journal.now) (g.J.Entering.account c.pages.new.self) (g.J.Entering.account c.bring.new.journal) c.args.life.now.pass c.pages.new.pass c.bring.new.pass c.requires.runs.alone c.pages.ensures.seen c.bring.ensures.entered) named
+returns-in-Ok-clause-named g c = λ named. redone_named c.args.life.now.pass.log c.bring.new.pass.log (actives c.args.life.now.named.items) (redone_upkeep g.N.Life.opens g.N.Life.entries g.N.Life.session_entries (g.J.Entering.account c.args.journal.now) (g.J.Entering.account c.pages.new.self) (g.J.Entering.account c.bring.new.journal) c.args.life.now.pass c.pages.new.pass c.bring.new.pass c.requires.runs.alone c.pages.ensures.seen c.bring.ensures.entered) named
 
 pub returns-in-Err-clause-upkeep : goal.returns-in-Err-clause-upkeep
 returns-in-Err-clause-upkeep g c = redone_upkeep g.N.Life.opens g.N.Life.entries g.N.Life.session_entries (g.J.Entering.account c.args.journal.now) (g.J.Entering.account c.pages.new.self) (g.J.Entering.account c.bring.new.journal) c.args.life.now.pass c.pages.new.pass c.bring.new.pass c.requires.runs.alone c.pages.ensures.seen c.bring.ensures.entered
 
 pub returns-in-Err-clause-named : goal.returns-in-Err-clause-named
-returns-in-Err-clause-named g c = λ named. upkeep_named c.args.life.now.pass.log c.bring.new.pass.log (actives c.args.life.now.named.items) (redone_upkeep g.N.Life.opens g.N.Life.entries g.N.Life.session_entries (g.J.Entering.account c.args.journal.now) (g.J.Entering.account c.pages.new.self) (g.J.Entering.account c.bring.new.journal) c.args.life.now.pass c.pages.new.pass c.bring.new.pass c.requires.runs.alone c.pages.ensures.seen c.bring.ensures.entered) named
+returns-in-Err-clause-named g c = λ named. redone_named c.args.life.now.pass.log c.bring.new.pass.log (actives c.args.life.now.named.items) (redone_upkeep g.N.Life.opens g.N.Life.entries g.N.Life.session_entries (g.J.Entering.account c.args.journal.now) (g.J.Entering.account c.pages.new.self) (g.J.Entering.account c.bring.new.journal) c.args.life.now.pass c.pages.new.pass c.bring.new.pass c.requires.runs.alone c.pages.ensures.seen c.bring.ensures.entered) named
 
 pub returns-in-Err-clause-refused : goal.returns-in-Err-clause-refused
-returns-in-Err-clause-refused g c = fails_then g.N.Life.opens g.N.Life.log_faults g.N.Life.made (g.J.Entering.account c.args.journal.now) (g.J.Entering.account c.pages.new.self) (g.J.Entering.account c.bring.new.journal) c.bring.new.pass.log c.pages.ensures.calm.end c.pages.ensures.seen.keeps no_faults no_faults no_faults c.bring.result (faults_self no_faults) c.bring.ensures.refused
+returns-in-Err-clause-refused g c =
+    let r : Result ℕ Fault = Err c.in-Err.fault in
+    fails_then g.N.Life.opens g.N.Life.log_faults g.N.Life.made (g.J.Entering.account c.args.journal.now) (g.J.Entering.account c.pages.new.self) (g.J.Entering.account c.bring.new.journal) c.bring.new.pass.log c.pages.ensures.calm.end c.pages.ensures.seen.keeps no_faults no_faults no_faults r (faults_self no_faults) c.in-Err.ensures.refused
