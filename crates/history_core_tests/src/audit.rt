@@ -1,36 +1,21 @@
 //! A history that is judged as it stands, and with one entry damaged.
+use crate::reading::{entry_of, log_of};
 use history_core::Judge;
 use operators::{Operators, boxed_operators};
 use std::alloc::Global;
 use store_model::Memory;
-use wal_record::{Entry, Record};
 
-/// What was done to a history.
-#[derive(Drop)]
-pub enum Damage {
-    Nothing,
-    /// The entry at this place was left out.
-    Dropped(usize),
-    /// It was swapped with the next one.
-    Swapped(usize),
-    /// Another one stands there.
-    Changed(usize, Entry),
+/// A history behind an opening log, an entry a line from place 0 on, and its damages. Each of these tells which entry is then
+/// refused, and what was done: `3: 2 dropped`, `2: 2 swapped` with the next one, or `2: 2 acked session=0 tx=2` in its place.
+#[derive(Clone, Copy)]
+pub struct History<'a> {
+    pub opening: &'a str,
+    pub entries: &'a str,
+    pub damages: &'a str,
 }
 
-/// The entry at this place was left out, and the next one is refused.
-pub fn dropped(place: usize) -> (Damage, usize) {
-    (Damage::Dropped(place), place)
-}
-
-/// It was swapped with the next one, which is refused.
-pub fn swapped(place: usize) -> (Damage, usize) {
-    (Damage::Swapped(place), place)
-}
-
-/// Another one stands there, and is refused.
-pub fn changed(place: usize, entry: Entry) -> (Damage, usize) {
-    (Damage::Changed(place, entry), place)
-}
+/// Where a line can't be read.
+const NOT_READ: Option<usize> = Some(usize::MAX);
 
 /// Which entry stands at this place where the one at that place was swapped with the next one.
 fn swapped_place(place: usize, at: usize) -> usize {
@@ -43,63 +28,74 @@ fn swapped_place(place: usize, at: usize) -> usize {
     }
 }
 
-/// The entry at this place of the damaged history.
-fn entry_at<'a>(entries: &'a [Entry], damage: &'a Damage, place: usize) -> Option<&'a Entry> {
-    match damage {
-        Damage::Nothing => entries.get(place),
-        Damage::Dropped(at) => entries.get(if place < *at {
-            place
-        } else {
-            place.saturating_add(1)
-        }),
-        Damage::Swapped(at) => entries.get(swapped_place(place, *at)),
-        Damage::Changed(at, entry) => {
-            if place == *at {
-                Some(entry)
-            } else {
-                entries.get(place)
+/// The entry at this place of the history with this damage, which is empty for none.
+fn line_at<'a>(entries: &'a str, damage: &'a str, place: usize) -> Option<&'a str> {
+    let from = match damage.split_once(' ') {
+        None => place,
+        Some((at, done)) => {
+            let at = at.parse::<usize>().ok()?;
+            match done {
+                "dropped" if at <= place => place.saturating_add(1),
+                "dropped" => place,
+                "swapped" => swapped_place(place, at),
+                other if place == at => return Some(other),
+                _ => place,
             }
         }
-    }
+    };
+    entries.lines().nth(from)
 }
 
 /// Where the first entry of the damaged history stands that is refused, if one is. Behind a log that isn't lawful it is the first.
-fn refused_at(
+pub fn refused_at(
     alloc: Global,
     operators: &Operators,
-    opening: &[Record],
-    entries: &[Entry],
-    damage: &Damage,
+    history: History<'_>,
+    damage: &str,
 ) -> Result<Option<usize>, Memory> {
-    let Some(mut judge) = Judge::start(alloc, operators, opening)? else {
+    let Some(opening) = log_of(alloc, history.opening) else {
+        return Ok(NOT_READ);
+    };
+    let Some(mut judge) = Judge::start(alloc, operators, &opening)? else {
         return Ok(Some(0));
     };
-    for place in 0..entries.len() {
-        let Some(entry) = entry_at(entries, damage, place) else {
+    drop(opening);
+    let mut place = 0usize;
+    for _ in history.entries.lines() {
+        let Some(line) = line_at(history.entries, damage, place) else {
             return Ok(None);
         };
-        if !judge.step(operators, entry)? {
+        let Some(entry) = entry_of(alloc, line) else {
+            return Ok(NOT_READ);
+        };
+        if !judge.step(operators, &entry)? {
             return Ok(Some(place));
         }
+        place = place.saturating_add(1);
     }
     Ok(None)
 }
 
-/// Whether the history is legal behind this log, and by each damage is refused at the place that is named.
-pub fn audits(
+/// The number of the first line of damages that are judged otherwise than it says, and 0 where the history as it stands is
+/// refused. None where each is as it should be.
+pub fn first_other(
     alloc: Global,
-    opening: &[Record],
-    entries: &[Entry],
-    damages: &[(Damage, usize)],
-) -> Result<bool, Memory> {
-    let operators = boxed_operators!(alloc);
-    if refused_at(alloc, &operators, opening, entries, &Damage::Nothing)?.is_some() {
-        return Ok(false);
+    operators: &Operators,
+    history: History<'_>,
+) -> Result<Option<usize>, Memory> {
+    if refused_at(alloc, operators, history, "")?.is_some() {
+        return Ok(Some(0));
     }
-    for (damage, place) in damages {
-        if refused_at(alloc, &operators, opening, entries, damage)? != Some(*place) {
-            return Ok(false);
+    let mut number = 0usize;
+    for line in history.damages.lines() {
+        number = number.saturating_add(1);
+        let Some((place, damage)) = line.split_once(": ") else {
+            return Ok(Some(number));
+        };
+        let place = place.parse::<usize>().ok();
+        if place.is_none() || refused_at(alloc, operators, history, damage)? != place {
+            return Ok(Some(number));
         }
     }
-    Ok(true)
+    Ok(None)
 }

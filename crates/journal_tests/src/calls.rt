@@ -1,0 +1,116 @@
+//! Each call of a journal that may be refused, in a life that has ended.
+ghost use Rattle.std.specs.Prelude.{◌≡◌, List};
+ghost use Rattle.wal_record.specs.declared.record.Record.{Record};
+
+use crate::groups::alone;
+use books::{PageRight, SessionRight};
+use front::Pass;
+use page_ops::{Journaling, Life, Rights};
+use std::alloc::Global;
+use std::sync::Wait;
+use store_model::{Fault, Key, KeyRange, Lsn, Mode, Request};
+use wal_record::{Entry, Lost, Record};
+
+/// Counts the answers that are an end, and keeps the LSN of the first.
+#[derive(Clone, Copy)]
+struct Ends {
+    count: u64,
+    at: Option<Lsn>,
+}
+
+impl Ends {
+    /// Counts an answer, if it is an end with the LSN of those before it.
+    fn note<T: Drop>(self, answer: Result<T, Fault>) -> Ends {
+        match (answer, self.at) {
+            (Err(Fault::Ended { at }), None) => Ends {
+                count: 1,
+                at: Some(at),
+            },
+            (Err(Fault::Ended { at }), Some(first)) if at == first => Ends {
+                count: self.count.saturating_add(1),
+                at: self.at,
+            },
+            _ => self,
+        }
+    }
+}
+
+/// Those of sessions, and of a session's transaction or, where it has none, its beginning.
+fn of_session<N: Life, J: Journaling<N>, R: Wait>(
+    rt: &R,
+    alloc: Global,
+    journal: &mut J,
+    s: &mut SessionRight<N>,
+    pass: &mut Pass<Entry, N>,
+    ends: Ends,
+) -> Ends
+    requires untold { (opening : List Record) → N.opens opening → ⊥ }
+{
+    let Some(key) = Key::new(b"a") else {
+        return ends;
+    };
+    let ends = ends.note(journal.session(rt, alloc, pass));
+    let ends = ends.note(journal.last_open(rt, alloc, s.tx(), pass));
+    if s.tx() == 0 {
+        return ends.note(journal.begin(rt, alloc, s, pass));
+    }
+    let range = KeyRange::point(&key);
+    let ends = ends.note(journal.lock(rt, alloc, s, &range, Mode::Shared, pass));
+    let ends = ends.note(journal.refuse(rt, alloc, s, Request::Get(key), pass));
+    ends.note(journal.commit(rt, s, pass))
+}
+
+/// Those that enter without a session, and that write or read the log.
+fn of_log<N: Life, J: Journaling<N>, R: Wait>(
+    rt: &R,
+    alloc: Global,
+    journal: &mut J,
+    page: &PageRight<N>,
+    pass: &mut Pass<Entry, N>,
+    ends: Ends,
+) -> Ends
+    requires untold { (opening : List Record) → N.opens opening → ⊥ }
+{
+    let mut ends = ends;
+    if let Ok(group) = alone(alloc, Record::Lost(Lost { pages: 0 })) {
+        let mut group = group;
+        let mut rights = Rights::none();
+        ends = ends.note(journal.enter(rt, alloc, &mut group, &mut rights, pass));
+    }
+    ends = ends.note(journal.repaired(rt, alloc, page, pass));
+    ends = ends.note(journal.flush(rt, 2, pass));
+    ends = ends.note(journal.read(rt, alloc, 1, pass));
+    ends.note(journal.recycle(rt, pass))
+}
+
+/// Those that ask what is known.
+fn of_listing<N: Life, J: Journaling<N>, R: Wait>(
+    rt: &R,
+    alloc: Global,
+    journal: &mut J,
+    pass: &mut Pass<Entry, N>,
+    ends: Ends,
+) -> Ends {
+    let mut ends = ends.note(journal.listed(rt, 1, pass));
+    ends = ends.note(journal.survey(rt, alloc, pass));
+    ends = ends.note(journal.work(rt, pass));
+    ends.note(journal.desk(rt, pass))
+}
+
+/// How many calls are answered as ended, with the same LSN as the first one; and this LSN, 0 for none.
+pub(crate) fn ended_calls<N: Life, J: Journaling<N>, R: Wait>(
+    rt: &R,
+    alloc: Global,
+    journal: &mut J,
+    s: &mut SessionRight<N>,
+    page: &PageRight<N>,
+    pass: &mut Pass<Entry, N>,
+) -> (u64, Lsn)
+    requires untold { (opening : List Record) → N.opens opening → ⊥ }
+{
+    let ends = Ends { count: 0, at: None };
+    let ends = of_session(rt, alloc, journal, s, pass, ends);
+    let ends = of_log(rt, alloc, journal, page, pass, ends);
+    let ends = of_listing(rt, alloc, journal, pass, ends);
+    (ends.count, ends.at.unwrap_or(0))
+}
