@@ -20,14 +20,16 @@ pub const A_SCAN: (Life<'static>, &str) = (
 12: 12 lock tx=1 mode=shared low=e",
 );
 
-/// The greatest holder.
+/// The greatest holder, locks within a range, and one that is over.
 pub const LEAST_HOLDER: (Life<'static>, &str) = (
     lives::LEAST_HOLDER,
     "\
-5: 5 refused tx=3 mode=exclusive key=a holder=2
-5: 5 lock tx=3 mode=exclusive key=a
-4: 3 dropped
-4: 4 swapped",
+8: 8 refused tx=3 mode=exclusive key=e holder=2
+8: 8 lock tx=3 mode=exclusive key=e
+10: 10 lock tx=3 mode=exclusive key=g
+14: 14 refused tx=3 mode=exclusive key=e holder=1
+15: 15 dropped
+15: 15 swapped",
 );
 
 pub const AN_END: (Life<'static>, &str) = (
@@ -56,6 +58,16 @@ pub const FULL: (Life<'static>, &str) = (
 17: 17 dropped
 17: 17 swapped
 20: 20 put session=1 tx=1 key=f new=1 was none",
+);
+
+/// An undo of the first write, and an End that isn't there.
+pub const THREE_WRITES: (Life<'static>, &str) = (
+    lives::THREE_WRITES,
+    "\
+8: 8 dropped
+8: 8 swapped
+8: 8 record 5 Undo tx=1 prev=4 page=1 page_prev=4 key=x restores none undo_next=0
+12: 11 dropped",
 );
 
 /// An End where a write is open, and the value of a write that was undone.

@@ -50,6 +50,7 @@ const LIVES: &[(Life<'static>, &str)] = &[
     journal::AN_END,
     journal::TWO_RESTORES,
     journal::FULL,
+    journal::THREE_WRITES,
     journal::UNDONE_IN_PART,
     journal::PUT,
     journal::FAILED_COMMIT,

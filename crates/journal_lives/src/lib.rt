@@ -12,7 +12,7 @@ mod writes;
 
 pub use locks::{A_SCAN, AN_END, BEGINS, LEAST_HOLDER};
 pub use losers::{LOSERS, LOSERS_LEFT, LOSERS_UNDONE, TWO_RESTORES};
-pub use writes::{FAILED_COMMIT, FULL, PUT, UNDONE_IN_PART};
+pub use writes::{FAILED_COMMIT, FULL, PUT, THREE_WRITES, UNDONE_IN_PART};
 
 /// A life: the log that it opens, and what is asked, each with what is told.
 #[derive(Clone, Copy)]

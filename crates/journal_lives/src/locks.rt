@@ -52,19 +52,39 @@ pub const A_SCAN: Life<'static> = Life {
     ],
 };
 
-/// Two share a key, the later one first, and a third one wants it for itself.
+/// Of two holders the lesser is named, with the first of its ranges: the one that begins first, and of two that begin together
+/// the one that ends first. Beside the ranges there is no holder, and a holder that is over is none.
 pub const LEAST_HOLDER: Life<'static> = Life {
     opening: "record 1 Format limit=12",
     lines: &[
         ("begin", "began session=1 tx=1"),
         ("begin", "began session=2 tx=2"),
-        ("lock 2 shared a", "lock tx=2 mode=shared key=a"),
-        ("lock 1 shared a", "lock tx=1 mode=shared key=a"),
         ("begin", "began session=3 tx=3"),
+        ("lock 2 shared c f", "lock tx=2 mode=shared low=c high=f"),
+        ("lock 1 shared d h", "lock tx=1 mode=shared low=d high=h"),
+        ("lock 1 shared d f", "lock tx=1 mode=shared low=d high=f"),
+        ("lock 1 shared e", "lock tx=1 mode=shared key=e"),
+        ("lock 1 shared b e", "lock tx=1 mode=shared low=b high=e"),
         (
-            "lock 3 exclusive a",
-            "refused tx=3 mode=exclusive key=a holder=1\n= a..a\0",
+            "lock 3 exclusive e",
+            "refused tx=3 mode=exclusive key=e holder=1\n= d..f",
         ),
+        (
+            "lock 3 exclusive d",
+            "refused tx=3 mode=exclusive key=d holder=1\n= b..e",
+        ),
+        ("lock 3 exclusive h", "lock tx=3 mode=exclusive key=h"),
+        ("lock 3 shared a h", "lock tx=3 mode=shared low=a high=h"),
+        (
+            "commit 1",
+            "record 2 Commit tx=1 prev=0\nacked session=1 tx=1\n= 1",
+        ),
+        (
+            "lock 3 exclusive e",
+            "refused tx=3 mode=exclusive key=e holder=2\n= c..f",
+        ),
+        ("end 2", "record 3 End tx=2 prev=0"),
+        ("lock 3 exclusive e", "lock tx=3 mode=exclusive key=e"),
     ],
 };
 

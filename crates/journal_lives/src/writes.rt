@@ -94,6 +94,47 @@ pub const UNDONE_IN_PART: Life<'static> = Life {
     ],
 };
 
+/// A key is written three times, and that is taken back, the last write first.
+pub const THREE_WRITES: Life<'static> = Life {
+    opening: "record 1 Format limit=8",
+    lines: &[
+        ("begin", "began session=1 tx=1"),
+        ("lock 1 exclusive x", "lock tx=1 mode=exclusive key=x"),
+        (
+            "put 1 x - 1",
+            "record 2 Write tx=1 prev=0 page=1 page_prev=1 key=x old none new=1\nput session=1 tx=1 key=x new=1 was none",
+        ),
+        (
+            "put 1 x 1 -",
+            "record 3 Write tx=1 prev=2 page=1 page_prev=2 key=x old=1 new none\ndel session=1 tx=1 key=x was=1",
+        ),
+        (
+            "put 1 x - 2",
+            "record 4 Write tx=1 prev=3 page=1 page_prev=3 key=x old none new=2\nput session=1 tx=1 key=x new=2 was none",
+        ),
+        (
+            "undo 1",
+            "record 5 Undo tx=1 prev=4 page=1 page_prev=4 key=x restores none undo_next=3",
+        ),
+        (
+            "undo 1",
+            "record 6 Undo tx=1 prev=5 page=1 page_prev=5 key=x restores=1 undo_next=2",
+        ),
+        (
+            "undo 1",
+            "record 7 Undo tx=1 prev=6 page=1 page_prev=6 key=x restores none undo_next=0",
+        ),
+        ("undo 1", "= no open write"),
+        ("end 1", "record 8 End tx=1 prev=7"),
+        ("begin", "began session=2 tx=2"),
+        ("lock 2 exclusive x", "lock tx=2 mode=exclusive key=x"),
+        (
+            "put 2 x - 3",
+            "record 9 Write tx=2 prev=0 page=1 page_prev=7 key=x old none new=3\nput session=2 tx=2 key=x new=3 was none",
+        ),
+    ],
+};
+
 /// A put and its commit.
 pub const PUT: Life<'static> = Life {
     opening: "record 1 Format limit=8",

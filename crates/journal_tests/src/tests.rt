@@ -46,6 +46,7 @@ const EACH: &[(u32, &[Life<'static>])] = &[
     (12, &[lives::AN_END]),
     (12, &[lives::TWO_RESTORES]),
     (8, &[lives::FULL]),
+    (8, &[lives::THREE_WRITES]),
     (8, &[lives::UNDONE_IN_PART]),
     (8, &[lives::PUT]),
     (
