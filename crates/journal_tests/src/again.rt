@@ -41,6 +41,37 @@ fn ask<N: Life, J: Journaling<N>, R: Wait>(
 }
 
 /// Asks for each line, and once more where that lacks memory. What came of it; empty where none lacked it.
+fn ask_all<N: Life, J: Journaling<N>, R: Wait>(
+    rt: &R,
+    alloc: Global,
+    journal: &mut J,
+    rights: &mut Rights<N>,
+    sessions: &mut Vec<SessionRight<N>>,
+    lines: &[(&str, &str)],
+    pass: &mut Pass<Entry, N>,
+) -> &'static str
+    requires untold { (opening : List Record) → N.opens opening → ⊥ }
+{
+    let mut lacked = "";
+    for (line, _) in lines {
+        let mut asked = ask(rt, alloc, journal, rights, sessions, line, pass);
+        if asked == Asked::Lacked {
+            lacked = "refused, and as before";
+            if word(line, 0) == "commit" {
+                return "a commit lacked memory";
+            }
+            asked = ask(rt, alloc, journal, rights, sessions, line, pass);
+        }
+        match asked {
+            Asked::Done => {}
+            Asked::Lacked => return "refused twice",
+            Asked::Other => return "not as before",
+        }
+    }
+    lacked
+}
+
+/// That of a life with the right to page 1.
 pub(crate) fn ask_again<N: Life, J: Journaling<N>, R: Wait>(
     rt: &R,
     alloc: Global,
@@ -54,21 +85,5 @@ pub(crate) fn ask_again<N: Life, J: Journaling<N>, R: Wait>(
     let mut rights = Rights::none();
     rights.a = page;
     let mut sessions = Vec::new(alloc);
-    let mut lacked = "";
-    for (line, _) in lines {
-        let mut asked = ask(rt, alloc, journal, &mut rights, &mut sessions, line, pass);
-        if asked == Asked::Lacked {
-            lacked = "refused, and as before";
-            if word(line, 0) == "commit" {
-                return "a commit lacked memory";
-            }
-            asked = ask(rt, alloc, journal, &mut rights, &mut sessions, line, pass);
-        }
-        match asked {
-            Asked::Done => {}
-            Asked::Lacked => return "refused twice",
-            Asked::Other => return "not as before",
-        }
-    }
-    lacked
+    ask_all(rt, alloc, journal, &mut rights, &mut sessions, lines, pass)
 }

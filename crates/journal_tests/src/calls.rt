@@ -60,7 +60,24 @@ fn of_session<N: Life, J: Journaling<N>, R: Wait>(
     ends.note(journal.commit(rt, s, pass))
 }
 
-/// Those that enter without a session, and that write or read the log.
+/// The entering of a group without a session.
+fn of_group<N: Life, J: Journaling<N>, R: Wait>(
+    rt: &R,
+    alloc: Global,
+    journal: &mut J,
+    pass: &mut Pass<Entry, N>,
+    ends: Ends,
+) -> Ends
+    requires untold { (opening : List Record) → N.opens opening → ⊥ }
+{
+    let Ok(mut group) = alone(alloc, Record::Lost(Lost { pages: 0 })) else {
+        return ends;
+    };
+    let mut rights = Rights::none();
+    ends.note(journal.enter(rt, alloc, &mut group, &mut rights, pass))
+}
+
+/// Those that write or read the log.
 fn of_log<N: Life, J: Journaling<N>, R: Wait>(
     rt: &R,
     alloc: Global,
@@ -71,15 +88,9 @@ fn of_log<N: Life, J: Journaling<N>, R: Wait>(
 ) -> Ends
     requires untold { (opening : List Record) → N.opens opening → ⊥ }
 {
-    let mut ends = ends;
-    if let Ok(group) = alone(alloc, Record::Lost(Lost { pages: 0 })) {
-        let mut group = group;
-        let mut rights = Rights::none();
-        ends = ends.note(journal.enter(rt, alloc, &mut group, &mut rights, pass));
-    }
-    ends = ends.note(journal.repaired(rt, alloc, page, pass));
-    ends = ends.note(journal.flush(rt, 2, pass));
-    ends = ends.note(journal.read(rt, alloc, 1, pass));
+    let ends = ends.note(journal.repaired(rt, alloc, page, pass));
+    let ends = ends.note(journal.flush(rt, 2, pass));
+    let ends = ends.note(journal.read(rt, alloc, 1, pass));
     ends.note(journal.recycle(rt, pass))
 }
 
@@ -91,9 +102,9 @@ fn of_listing<N: Life, J: Journaling<N>, R: Wait>(
     pass: &mut Pass<Entry, N>,
     ends: Ends,
 ) -> Ends {
-    let mut ends = ends.note(journal.listed(rt, 1, pass));
-    ends = ends.note(journal.survey(rt, alloc, pass));
-    ends = ends.note(journal.work(rt, pass));
+    let ends = ends.note(journal.listed(rt, 1, pass));
+    let ends = ends.note(journal.survey(rt, alloc, pass));
+    let ends = ends.note(journal.work(rt, pass));
     ends.note(journal.desk(rt, pass))
 }
 
@@ -110,6 +121,7 @@ pub(crate) fn ended_calls<N: Life, J: Journaling<N>, R: Wait>(
 {
     let ends = Ends { count: 0, at: None };
     let ends = of_session(rt, alloc, journal, s, pass, ends);
+    let ends = of_group(rt, alloc, journal, pass, ends);
     let ends = of_log(rt, alloc, journal, page, pass, ends);
     let ends = of_listing(rt, alloc, journal, pass, ends);
     (ends.count, ends.at.unwrap_or(0))

@@ -3,34 +3,48 @@ ghost use Rattle.std.specs.Prelude.{◌≡◌, List};
 ghost use Rattle.wal_record.specs.declared.record.Record.{Record};
 
 use crate::steps::{Told, step};
-use crate::told::{fault_text, told_text};
+use crate::told::{commit_text, fault_text, record_text, told_text};
 use crate::words::number;
 use books::{PageRight, SessionRight};
 use front::Pass;
 use page_ops::{Found, Journaling, Life, Rights};
 use std::alloc::Global;
 use std::sync::Wait;
-use store_model::{Fault, Lsn};
-use wal_record::{Entry, Record};
+use store_model::{Fault, Memory};
+use wal_record::Entry;
 
-/// The last durable record and its LSN, where the line was a commit.
-fn found<N: Life, J: Journaling<N>, R: Wait>(
+/// The last durable record, which a commit has added.
+fn commit_record<N: Life, J: Journaling<N>, R: Wait>(
+    rt: &R,
+    alloc: Global,
+    journal: &mut J,
+    pass: &mut Pass<Entry, N>,
+) -> Result<String, Fault>
+    requires untold { (opening : List Record) → N.opens opening → ⊥ }
+{
+    let lsn = journal.work(rt, pass)?.durable;
+    match journal.read(rt, alloc, lsn, pass)? {
+        Found::Record(record) => Ok(record_text(alloc, lsn, &record)?),
+        Found::Run(_) => Ok(String::new(alloc)),
+    }
+}
+
+/// What a call that wasn't refused tells.
+fn done_text<N: Life, J: Journaling<N>, R: Wait>(
     rt: &R,
     alloc: Global,
     journal: &mut J,
     told: &Told,
+    line: &str,
     pass: &mut Pass<Entry, N>,
-) -> Result<(Lsn, Option<Record>), Fault>
+) -> Result<String, Fault>
     requires untold { (opening : List Record) → N.opens opening → ⊥ }
 {
-    let Told::Committed(_, _) = told else {
-        return Ok((0, None));
-    };
-    let lsn = journal.work(rt, pass)?.durable;
-    match journal.read(rt, alloc, lsn, pass)? {
-        Found::Record(record) => Ok((lsn, Some(record))),
-        Found::Run(_) => Ok((lsn, None)),
+    if let Told::Committed(session, number) = told {
+        let record = commit_record(rt, alloc, journal, pass)?;
+        return Ok(commit_text(alloc, record.as_str(), *session, *number, line)?);
     }
+    Ok(told_text(alloc, told, line)?)
 }
 
 /// The session of a transaction, 0 for none.
@@ -54,7 +68,35 @@ fn entries_in(text: &str) -> u64 {
     count
 }
 
-/// What a line tells, and how many entries more it added, where these are others than it tells.
+/// What a line tells.
+fn answer<N: Life, J: Journaling<N>, R: Wait>(
+    rt: &R,
+    alloc: Global,
+    journal: &mut J,
+    rights: &mut Rights<N>,
+    sessions: &mut Vec<SessionRight<N>>,
+    line: &str,
+    pass: &mut Pass<Entry, N>,
+) -> Result<String, Fault>
+    requires untold { (opening : List Record) → N.opens opening → ⊥ }
+{
+    match step(rt, alloc, journal, rights, sessions, line, pass) {
+        Ok(told) => done_text(rt, alloc, journal, &told, line, pass),
+        Err(fault) => fault_text(alloc, fault, session_of(sessions, number(line, 1)), line),
+    }
+}
+
+/// The text, and how many entries more were added than it tells, where it tells another number.
+fn with_more(alloc: Global, text: String, added: u64) -> Result<String, Memory> {
+    let told = entries_in(text.as_str());
+    if added == told {
+        return Ok(text);
+    }
+    let more = added.saturating_sub(told);
+    Ok(format!(in alloc; "{text}\n= entries {more}")?)
+}
+
+/// What a line tells, and how many entries more it added.
 fn tell<N: Life, J: Journaling<N>, R: Wait>(
     rt: &R,
     alloc: Global,
@@ -67,22 +109,33 @@ fn tell<N: Life, J: Journaling<N>, R: Wait>(
     requires untold { (opening : List Record) → N.opens opening → ⊥ }
 {
     let before = journal.length(rt, pass);
-    let text = match step(rt, alloc, journal, rights, sessions, line, pass) {
-        Ok(told) => {
-            let (lsn, record) = found(rt, alloc, journal, &told, pass)?;
-            told_text(alloc, &told, line, (lsn, &record))?
-        }
-        Err(fault) => fault_text(alloc, fault, session_of(sessions, number(line, 1)), line)?,
-    };
+    let text = answer(rt, alloc, journal, rights, sessions, line, pass)?;
     let added = journal.length(rt, pass).saturating_sub(before);
-    let more = added.saturating_sub(entries_in(text.as_str()));
-    if more == 0 && added == entries_in(text.as_str()) {
-        return Ok(text);
-    }
-    Ok(format!(in alloc; "{text}\n= entries {more}")?)
+    Ok(with_more(alloc, text, added)?)
 }
 
 /// The first line that tells otherwise than it should, and what it tells. Nothing where each tells what it should.
+fn tell_all<N: Life, J: Journaling<N>, R: Wait>(
+    rt: &R,
+    alloc: Global,
+    journal: &mut J,
+    rights: &mut Rights<N>,
+    sessions: &mut Vec<SessionRight<N>>,
+    lines: &[(&str, &str)],
+    pass: &mut Pass<Entry, N>,
+) -> Result<String, Fault>
+    requires untold { (opening : List Record) → N.opens opening → ⊥ }
+{
+    for (line, wanted) in lines {
+        let told = tell(rt, alloc, journal, rights, sessions, line, pass)?;
+        if told.as_str() != *wanted {
+            return Ok(format!(in alloc; "{line}: {told}")?);
+        }
+    }
+    Ok(String::new(alloc))
+}
+
+/// That of a life with the right to page 1.
 pub(crate) fn first_other<N: Life, J: Journaling<N>, R: Wait>(
     rt: &R,
     alloc: Global,
@@ -96,11 +149,5 @@ pub(crate) fn first_other<N: Life, J: Journaling<N>, R: Wait>(
     let mut rights = Rights::none();
     rights.a = page;
     let mut sessions = Vec::new(alloc);
-    for (line, wanted) in lines {
-        let told = tell(rt, alloc, journal, &mut rights, &mut sessions, line, pass)?;
-        if told.as_str() != *wanted {
-            return Ok(format!(in alloc; "{line}: {told}")?);
-        }
-    }
-    Ok(String::new(alloc))
+    tell_all(rt, alloc, journal, &mut rights, &mut sessions, lines, pass)
 }

@@ -49,7 +49,7 @@ fn request_text(alloc: Global, session: u32, line: &str) -> Result<String, Memor
 }
 
 /// A record, as `inspect` lists it.
-fn record_text(alloc: Global, lsn: Lsn, record: &Record) -> Result<String, Memory> {
+pub(crate) fn record_text(alloc: Global, lsn: Lsn, record: &Record) -> Result<String, Memory> {
     let line = record_line(alloc, lsn, record)?;
     let text = text_of(line.as_bytes());
     Ok(format!(in alloc; "{text}")?)
@@ -83,13 +83,20 @@ fn done_text(alloc: Global, done: &Done, line: &str) -> Result<String, Memory> {
     }
 }
 
-/// What a line came to. `found` is the last durable record, and its LSN, where the line is a commit.
-pub(crate) fn told_text(
+/// What a commit tells, which has added this record.
+pub(crate) fn commit_text(
     alloc: Global,
-    told: &Told,
+    record: &str,
+    session: u32,
+    number: u64,
     line: &str,
-    found: (Lsn, &Option<Record>),
 ) -> Result<String, Memory> {
+    let tx = word(line, 1);
+    Ok(format!(in alloc; "{record}\nacked session={session} tx={tx}\n= {number}")?)
+}
+
+/// What a line came to that is no commit.
+pub(crate) fn told_text(alloc: Global, told: &Told, line: &str) -> Result<String, Memory> {
     Ok(match told {
         Told::Began(session, 0) => format!(in alloc; "= session {session}")?,
         Told::Began(session, tx) => format!(in alloc; "began session={session} tx={tx}")?,
@@ -105,14 +112,7 @@ pub(crate) fn told_text(
                 None => first,
             }
         }
-        Told::Committed(session, number) => {
-            let tx = word(line, 1);
-            let record = match found {
-                (lsn, Some(record)) => record_text(alloc, lsn, record)?,
-                (_, None) => format!(in alloc; "= not found")?,
-            };
-            format!(in alloc; "{record}\nacked session={session} tx={tx}\n= {number}")?
-        }
+        Told::Committed(_, number) => format!(in alloc; "= {number}")?,
         Told::NothingToUndo => format!(in alloc; "= no open write")?,
         Told::Calls(count, at) => format!(in alloc; "= {count} calls ended {at}")?,
     })
