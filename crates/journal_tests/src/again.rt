@@ -1,5 +1,6 @@
 //! Calls that lack memory. bench/refused_memory has each allocation refused, and all from one on.
-ghost use Rattle.std.specs.Prelude.{◌≡◌, List};
+ghost use Rattle.std.specs.Prelude.{List, IfSome};
+ghost use Rattle.page_ops.specs.Claims.{IsInRange};
 ghost use Rattle.wal_record.specs.declared.record.Record.{Record};
 
 use crate::steps::step;
@@ -81,6 +82,7 @@ pub(crate) fn ask_again<N: Life, J: Journaling<N>, R: Wait>(
     pass: &mut Pass<Entry, N>,
 ) -> &'static str
     requires untold { (opening : List Record) → N.opens opening → ⊥ }
+    requires range { IfSome page IsInRange }
 {
     let mut rights = Rights::none();
     rights.a = page;

@@ -1,5 +1,5 @@
 //! Each call of a journal that may be refused, in a life that has ended.
-ghost use Rattle.std.specs.Prelude.{◌≡◌, List};
+ghost use Rattle.std.specs.Prelude.{List};
 ghost use Rattle.wal_record.specs.declared.record.Record.{Record};
 
 use crate::groups::alone;

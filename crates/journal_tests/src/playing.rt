@@ -1,5 +1,6 @@
 //! Lives, played line by line.
-ghost use Rattle.std.specs.Prelude.{◌≡◌, List};
+ghost use Rattle.std.specs.Prelude.{List, IfSome};
+ghost use Rattle.page_ops.specs.Claims.{IsInRange};
 ghost use Rattle.wal_record.specs.declared.record.Record.{Record};
 
 use crate::steps::{Told, step};
@@ -145,6 +146,7 @@ pub(crate) fn first_other<N: Life, J: Journaling<N>, R: Wait>(
     pass: &mut Pass<Entry, N>,
 ) -> Result<String, Fault>
     requires untold { (opening : List Record) → N.opens opening → ⊥ }
+    requires range { IfSome page IsInRange }
 {
     let mut rights = Rights::none();
     rights.a = page;

@@ -1,5 +1,5 @@
 //! The calls of the journal that a line asks for.
-ghost use Rattle.std.specs.Prelude.{◌≡◌, List};
+ghost use Rattle.std.specs.Prelude.{List};
 ghost use Rattle.wal_record.specs.declared.record.Record.{Record};
 
 use crate::calls::ended_calls;

@@ -1,6 +1,4 @@
 //! The lives of `journal_lives`, and faults of the log disk in a commit.
-ghost use Rattle.std.specs.Prelude.{◌≡◌, List};
-
 use crate::living::{Asked, formatted, live};
 use journal_lives as lives;
 use journal_lives::Life;

@@ -1,7 +1,4 @@
 //! What a line tells: the entries that it added, and what it was answered beside them.
-ghost use Rattle.std.specs.Prelude.{◌≡◌, List};
-ghost use Rattle.wal_record.specs.declared.record.Record.{Record};
-
 use crate::entering::Done;
 use crate::steps::Told;
 use crate::words::word;
