@@ -2,7 +2,7 @@
 use crate::entering::Done;
 use crate::steps::Told;
 use crate::words::word;
-use page_ops::{Found, Group};
+use page_ops::Group;
 use record_line::record_line;
 use std::alloc::Global;
 use std::str;
