@@ -1,7 +1,7 @@
 //! A history that is judged as it stands, and with one entry damaged.
 use crate::reading::{entry_of, log_of};
 use history_core::Judge;
-use operators::{Operators, boxed_operators};
+use operators::Operators;
 use std::alloc::Global;
 use store_model::Memory;
 
@@ -46,34 +46,61 @@ fn line_at<'a>(entries: &'a str, damage: &'a str, place: usize) -> Option<&'a st
     entries.lines().nth(from)
 }
 
-/// Where the first entry of the damaged history stands that is refused, if one is. Behind a log that isn't lawful it is the first.
+/// Whether the judge takes the entry of a line. None where that can't be read.
+fn takes(
+    alloc: Global,
+    operators: &Operators,
+    judge: &mut Judge,
+    line: &str,
+) -> Result<Option<bool>, Memory> {
+    match entry_of(alloc, line) {
+        Some(entry) => Ok(Some(judge.step(operators, &entry)?)),
+        None => Ok(None),
+    }
+}
+
+/// Where the first entry of the damaged history stands that the judge refuses, if it refuses one.
+fn first_refused(
+    alloc: Global,
+    operators: &Operators,
+    judge: &mut Judge,
+    entries: &str,
+    damage: &str,
+) -> Result<Option<usize>, Memory> {
+    let mut place = 0usize;
+    for _ in entries.lines() {
+        let Some(line) = line_at(entries, damage, place) else {
+            return Ok(None);
+        };
+        match takes(alloc, operators, judge, line)? {
+            Some(true) => {}
+            Some(false) => return Ok(Some(place)),
+            None => return Ok(NOT_READ),
+        }
+        place = place.saturating_add(1);
+    }
+    Ok(None)
+}
+
+/// The judge of the empty history behind the log of these lines, if that is lawful.
+fn start(alloc: Global, operators: &Operators, opening: &str) -> Result<Option<Judge>, Memory> {
+    match log_of(alloc, opening) {
+        Some(log) => Judge::start(alloc, operators, &log),
+        None => Ok(None),
+    }
+}
+
+/// The same of a history. Behind a log that isn't lawful it is the first entry.
 pub fn refused_at(
     alloc: Global,
     operators: &Operators,
     history: History<'_>,
     damage: &str,
 ) -> Result<Option<usize>, Memory> {
-    let Some(opening) = log_of(alloc, history.opening) else {
-        return Ok(NOT_READ);
-    };
-    let Some(mut judge) = Judge::start(alloc, operators, &opening)? else {
-        return Ok(Some(0));
-    };
-    drop(opening);
-    let mut place = 0usize;
-    for _ in history.entries.lines() {
-        let Some(line) = line_at(history.entries, damage, place) else {
-            return Ok(None);
-        };
-        let Some(entry) = entry_of(alloc, line) else {
-            return Ok(NOT_READ);
-        };
-        if !judge.step(operators, &entry)? {
-            return Ok(Some(place));
-        }
-        place = place.saturating_add(1);
+    match start(alloc, operators, history.opening)? {
+        Some(mut judge) => first_refused(alloc, operators, &mut judge, history.entries, damage),
+        None => Ok(Some(0)),
     }
-    Ok(None)
 }
 
 /// The number of the first line of damages that are judged otherwise than it says, and 0 where the history as it stands is

@@ -3,12 +3,13 @@ use crate::audit::{History, first_other, refused_at};
 use crate::journal;
 use crate::journal::first_other_of;
 use crate::locks::TWO_READERS;
+use crate::reading::log_of;
 use crate::splits::A_SPLIT;
 use crate::transactions::{A_DEL, A_PUT, AN_ABORT, AN_UNDONE_LOSER, CHANGED_PUTS, WITH_X};
 use crate::upkeep::{A_CHECKPOINT, UPKEEP};
 use history_core::Judge;
 use journal_lives::Life;
-use operators::boxed_operators;
+use operators::{Operators, boxed_operators};
 use std::alloc::Global;
 use std::test::Fail;
 use store_model::Memory;
@@ -27,20 +28,16 @@ const HISTORIES: &[(&str, History<'static>)] = &[
 ];
 
 /// The first history with a judgement that is another one than its table says, and which that is.
-fn first_wrong(alloc: Global) -> Result<Option<(&'static str, usize)>, Memory> {
-    let operators = boxed_operators!(alloc);
+fn first_wrong(
+    alloc: Global,
+    operators: &Operators,
+) -> Result<Option<(&'static str, usize)>, Memory> {
     for (name, history) in HISTORIES {
-        if let Some(number) = first_other(alloc, &operators, *history)? {
+        if let Some(number) = first_other(alloc, operators, *history)? {
             return Ok(Some((name, number)));
         }
     }
     Ok(None)
-}
-
-#[test]
-fn histories_are_audited(rt: HostRuntime) -> Result<(), Fail> {
-    assert_eq!(rt; first_wrong(rt.alloc())?, None);
-    Ok(())
 }
 
 /// Those of the journal's lives, with their damages.
@@ -60,46 +57,18 @@ const LIVES: &[(Life<'static>, &str)] = &[
 ];
 
 /// The first life with a judgement that is another one than its table says, and which that is.
-fn first_wrong_life(alloc: Global) -> Result<Option<(usize, usize)>, Memory> {
-    let operators = boxed_operators!(alloc);
+fn first_wrong_life(
+    alloc: Global,
+    operators: &Operators,
+) -> Result<Option<(usize, usize)>, Memory> {
     let mut place = 0usize;
     for (life, damages) in LIVES {
-        if let Some(number) = first_other_of(alloc, &operators, *life, damages)? {
+        if let Some(number) = first_other_of(alloc, operators, *life, damages)? {
             return Ok(Some((place, number)));
         }
         place = place.saturating_add(1);
     }
     Ok(None)
-}
-
-#[test]
-fn what_the_journal_enters_is_audited(rt: HostRuntime) -> Result<(), Fail> {
-    assert_eq!(rt; first_wrong_life(rt.alloc())?, None);
-    Ok(())
-}
-
-/// How many of a hundred begin, one behind the other.
-fn count_begun(alloc: Global) -> Result<u64, Memory> {
-    let operators = boxed_operators!(alloc);
-    let Some(mut judge) = Judge::start(alloc, &operators, &[])? else {
-        return Ok(0);
-    };
-    for before in 0..100u32 {
-        let began = Entry::Began {
-            session: before,
-            tx: u64::from(before) + 1,
-        };
-        if !judge.step(&operators, &began)? {
-            return Ok(u64::from(before));
-        }
-    }
-    Ok(100)
-}
-
-#[test]
-fn sixty_four_begin_at_most(rt: HostRuntime) -> Result<(), Fail> {
-    assert_eq!(rt; count_begun(rt.alloc())?, 64);
-    Ok(())
 }
 
 /// Whether each of these logs may open a life: the empty one, and one with a commit; not with a limit of 7, a second Format,
@@ -116,20 +85,93 @@ const OPENINGS: &[(&str, bool)] = &[
     ),
 ];
 
-fn opens(alloc: Global, opening: &str) -> Result<bool, Memory> {
+/// The first of them that is taken otherwise, or can't be read.
+fn first_wrong_opening(
+    alloc: Global,
+    operators: &Operators,
+) -> Result<Option<&'static str>, Memory> {
+    for (opening, taken) in OPENINGS {
+        if log_of(alloc, opening).is_none() {
+            return Ok(Some(opening));
+        }
+        let history = History {
+            opening,
+            entries: "",
+            damages: "",
+        };
+        if refused_at(alloc, operators, history, "")?.is_none() != *taken {
+            return Ok(Some(opening));
+        }
+    }
+    Ok(None)
+}
+
+/// How many of a hundred transactions the judge lets begin, one behind the other.
+fn count_begun(operators: &Operators, judge: &mut Judge) -> Result<u64, Memory> {
+    for before in 0..100u32 {
+        let began = Entry::Began {
+            session: before,
+            tx: u64::from(before) + 1,
+        };
+        if !judge.step(operators, &began)? {
+            return Ok(u64::from(before));
+        }
+    }
+    Ok(100)
+}
+
+/// That in a life that opens the empty log.
+fn begun(alloc: Global, operators: &Operators) -> Result<u64, Memory> {
+    match Judge::start(alloc, operators, &[])? {
+        Some(mut judge) => count_begun(operators, &mut judge),
+        None => Ok(0),
+    }
+}
+
+/// What the judge says otherwise than the tables, and how many it lets begin.
+#[derive(Clone, Copy)]
+struct Judged {
+    history: Option<(&'static str, usize)>,
+    life: Option<(usize, usize)>,
+    opening: Option<&'static str>,
+    begun: u64,
+}
+
+fn judge_all(alloc: Global, operators: &Operators) -> Result<Judged, Memory> {
+    Ok(Judged {
+        history: first_wrong(alloc, operators)?,
+        life: first_wrong_life(alloc, operators)?,
+        opening: first_wrong_opening(alloc, operators)?,
+        begun: begun(alloc, operators)?,
+    })
+}
+
+/// The operators are made here alone, since each place proves its own boxes.
+fn judged(alloc: Global) -> Result<Judged, Memory> {
     let operators = boxed_operators!(alloc);
-    let history = History {
-        opening,
-        entries: "",
-        damages: "",
-    };
-    Ok(refused_at(alloc, &operators, history, "")?.is_none())
+    judge_all(alloc, &operators)
+}
+
+#[test]
+fn histories_are_audited(rt: HostRuntime) -> Result<(), Fail> {
+    assert_eq!(rt; judged(rt.alloc())?.history, None);
+    Ok(())
+}
+
+#[test]
+fn what_the_journal_enters_is_audited(rt: HostRuntime) -> Result<(), Fail> {
+    assert_eq!(rt; judged(rt.alloc())?.life, None);
+    Ok(())
 }
 
 #[test]
 fn lawful_opening_logs_alone_are_taken(rt: HostRuntime) -> Result<(), Fail> {
-    for (opening, taken) in OPENINGS {
-        assert_eq!(rt; opens(rt.alloc(), opening)?, *taken, "{opening}");
-    }
+    assert_eq!(rt; judged(rt.alloc())?.opening, None);
+    Ok(())
+}
+
+#[test]
+fn sixty_four_begin_at_most(rt: HostRuntime) -> Result<(), Fail> {
+    assert_eq!(rt; judged(rt.alloc())?.begun, 64);
     Ok(())
 }
