@@ -130,15 +130,15 @@ fn begun(alloc: Global, operators: &Operators) -> Result<u64, Memory> {
 
 /// What the judge says otherwise than the tables, and how many it lets begin.
 #[derive(Clone, Copy)]
-struct Judged {
+struct Findings {
     history: Option<(&'static str, usize)>,
     life: Option<(usize, usize)>,
     opening: Option<&'static str>,
     begun: u64,
 }
 
-fn judge_all(alloc: Global, operators: &Operators) -> Result<Judged, Memory> {
-    Ok(Judged {
+fn judge_all(alloc: Global, operators: &Operators) -> Result<Findings, Memory> {
+    Ok(Findings {
         history: first_wrong(alloc, operators)?,
         life: first_wrong_life(alloc, operators)?,
         opening: first_wrong_opening(alloc, operators)?,
@@ -147,7 +147,7 @@ fn judge_all(alloc: Global, operators: &Operators) -> Result<Judged, Memory> {
 }
 
 /// The operators are made here alone, since each place proves its own boxes.
-fn judged(alloc: Global) -> Result<Judged, Memory> {
+fn judged(alloc: Global) -> Result<Findings, Memory> {
     let operators = boxed_operators!(alloc);
     judge_all(alloc, &operators)
 }
