@@ -1,4 +1,4 @@
-//! The histories of the lives of `journal_lives`, each of which `journal_tests` has the journal enter.
+//! The histories of the lives of `journal_lives`.
 use crate::audit::{History, first_other};
 use journal_lives as lives;
 use journal_lives::Life;

@@ -1,8 +1,8 @@
 //! Lives of a journal as tables, worked out by hand: what is asked of it, and what that enters.
 //!
 //! Each line is a call of the journal with what is told of it: the entries that it adds, a line each, a record as `inspect` lists
-//! it, and behind `= ` what the call answers beside them. `journal_tests` asks the journal of one thread and compares;
-//! `history_core_tests` has the judge of histories judge the same entries. A life goes on from the log that stands before it.
+//! it, and behind `= ` what the call answers beside them. `history_core_tests` has the judge of histories judge these entries. A
+//! life goes on from the log that stands before it.
 //! The crate has no function.
 #![tactic(auto)]
 
