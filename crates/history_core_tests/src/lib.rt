@@ -11,8 +11,6 @@ mod audit;
 #[cfg(test)]
 mod fields;
 #[cfg(test)]
-mod journal;
-#[cfg(test)]
 mod locks;
 #[cfg(test)]
 mod reading;

@@ -1,14 +1,11 @@
 //! Each table of histories, and opening logs.
 use crate::audit::{History, first_other, refused_at};
-use crate::journal;
-use crate::journal::first_other_of;
 use crate::locks::TWO_READERS;
 use crate::reading::log_of;
 use crate::splits::A_SPLIT;
 use crate::transactions::{A_DEL, A_PUT, AN_ABORT, AN_UNDONE_LOSER, CHANGED_PUTS, WITH_X};
 use crate::upkeep::{A_CHECKPOINT, UPKEEP};
 use history_core::Judge;
-use journal_lives::Life;
 use operators::{Operators, boxed_operators};
 use std::alloc::Global;
 use std::test::Fail;
@@ -36,37 +33,6 @@ fn first_wrong(
         if let Some(number) = first_other(alloc, operators, *history)? {
             return Ok(Some((name, number)));
         }
-    }
-    Ok(None)
-}
-
-/// Those of the journal's lives, with their damages.
-const LIVES: &[(Life<'static>, &str)] = &[
-    journal::A_SCAN,
-    journal::LEAST_HOLDER,
-    journal::AN_END,
-    journal::TWO_RESTORES,
-    journal::FULL,
-    journal::THREE_WRITES,
-    journal::UNDONE_IN_PART,
-    journal::PUT,
-    journal::FAILED_COMMIT,
-    journal::LOSERS_LEFT,
-    journal::LOSERS,
-    journal::LOSERS_UNDONE,
-];
-
-/// The first life with a judgement that is another one than its table says, and which that is.
-fn first_wrong_life(
-    alloc: Global,
-    operators: &Operators,
-) -> Result<Option<(usize, usize)>, Memory> {
-    let mut place = 0usize;
-    for (life, damages) in LIVES {
-        if let Some(number) = first_other_of(alloc, operators, *life, damages)? {
-            return Ok(Some((place, number)));
-        }
-        place = place.saturating_add(1);
     }
     Ok(None)
 }
@@ -132,7 +98,6 @@ fn begun(alloc: Global, operators: &Operators) -> Result<u64, Memory> {
 #[derive(Clone, Copy)]
 struct Findings {
     history: Option<(&'static str, usize)>,
-    life: Option<(usize, usize)>,
     opening: Option<&'static str>,
     begun: u64,
 }
@@ -140,7 +105,6 @@ struct Findings {
 fn judge_all(alloc: Global, operators: &Operators) -> Result<Findings, Memory> {
     Ok(Findings {
         history: first_wrong(alloc, operators)?,
-        life: first_wrong_life(alloc, operators)?,
         opening: first_wrong_opening(alloc, operators)?,
         begun: begun(alloc, operators)?,
     })
@@ -155,12 +119,6 @@ fn judged(alloc: Global) -> Result<Findings, Memory> {
 #[test]
 fn histories_are_audited(rt: HostRuntime) -> Result<(), Fail> {
     assert_eq!(rt; judged(rt.alloc())?.history, None);
-    Ok(())
-}
-
-#[test]
-fn what_the_journal_enters_is_audited(rt: HostRuntime) -> Result<(), Fail> {
-    assert_eq!(rt; judged(rt.alloc())?.life, None);
     Ok(())
 }
 
