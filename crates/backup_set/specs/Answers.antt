@@ -11,7 +11,8 @@ use Rattle.store_model.specs.declared.object.ObjectName.{ObjectName}
 use Rattle.backup_set.specs.Backup.{backup_name}
 use Rattle.backup_set.specs.Reading.{IsFirstFault, IsHeadFault, LacksPage, head_at}
 use Rattle.backup_set.specs.declared.copy.PageCopy.{PageCopy}
-use Rattle.backup_set.specs.declared.layout.TheConstants.{IMAGES_AT, IMAGE_BYTES, SEGMENT_PAGES}
+use Rattle.backup_set.specs.declared.layout.TheConstants.{IMAGES_AT}
+use Rattle.store_model.specs.declared.limits.TheConstants.{PAGE_BYTES, SEGMENT_PAGES}
 
 -- the answer is what this copy says, but for want of memory and a fault of the vault
 abbrev pub GivesCopy : PageCopy → Result Sealed Fault → Type 0
@@ -22,7 +23,7 @@ GivesCopy c (Err fault) = ⊥
 
 -- the image at this place of the object is the page's, and says this
 pub record HasAt (page : ℕ) (bytes : List ℕ) (place : ℕ) (x : Sealed) : Type 0 where
-  pub image : take IMAGE_BYTES (drop (IMAGES_AT + IMAGE_BYTES * place) bytes) ≡ image_bytes page x.lsn x.state
+  pub image : take PAGE_BYTES (drop (IMAGES_AT + PAGE_BYTES * place) bytes) ≡ image_bytes page x.lsn x.state
   pub state : KeepsState x.state
   pub lsn : IsTrue (is_number x.lsn)
 
@@ -36,7 +37,7 @@ pub record StandsInPlace (backup page : ℕ) (head image : List ℕ) (x : Sealed
   pub count : ℕ
   pub counts : head_at backup (segment_of page) (take IMAGES_AT head) ≡ Ok (count, [])
   pub counted : place_of page < count
-  pub here : take IMAGE_BYTES image ≡ image_bytes page x.lsn x.state
+  pub here : take PAGE_BYTES image ≡ image_bytes page x.lsn x.state
   pub state : KeepsState x.state
   pub lsn : IsTrue (is_number x.lsn)
 

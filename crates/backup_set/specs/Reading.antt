@@ -13,7 +13,8 @@ use Rattle.backup_set.specs.Backup.{AreCopies, IsBackup, copy_bytes, head_bytes}
 use Rattle.backup_set.specs.declared.copy.PageCopy.{PageCopy}
 use Rattle.backup_set.specs.declared.image.Flaw.{Flaw}
 use Rattle.backup_set.specs.declared.image.Flaw.TheVariants.{Memory, Bad}
-use Rattle.backup_set.specs.declared.layout.TheConstants.{MARK, COUNT_AT, IMAGES_AT, IMAGE_BYTES}
+use Rattle.backup_set.specs.declared.layout.TheConstants.{MARK, COUNT_AT, IMAGES_AT}
+use Rattle.store_model.specs.declared.limits.TheConstants.{PAGE_BYTES}
 
 -- the head of this backup's object of a segment: how many images come
 unfoldable pub head_at : ℕ → ℕ → List ℕ → Read ℕ
@@ -39,11 +40,11 @@ copy_at segment above body = next_at segment above body >>= λ number. sealed_at
 -- its rule
 abbrev pub IsNoImage : ℕ → ℕ → List ℕ → ℕ → Type 0
 IsNoImage segment above image at =
-    ((at ≡ 0) × (take 32 image ≢ digest_of image)) ⊎ (Verifies image × ((left : ℕ) × (copy_at segment above (drop 32 image) ≡ Err left) × (at + left ≡ IMAGE_BYTES)))
+    ((at ≡ 0) × (take 32 image ≢ digest_of image)) ⊎ (Verifies image × ((left : ℕ) × (copy_at segment above (drop 32 image) ≡ Err left) × (at + left ≡ PAGE_BYTES)))
 
 -- the bytes begin with no image of such a page: it is cut, or is none
 abbrev pub NoCopy : ℕ → ℕ → List ℕ → ℕ → Type 0
-NoCopy segment above rest at = ((at ≡ 0) × (length rest < IMAGE_BYTES)) ⊎ ((IMAGE_BYTES ≤ length rest) × IsNoImage segment above (take IMAGE_BYTES rest) at)
+NoCopy segment above rest at = ((at ≡ 0) × (length rest < PAGE_BYTES)) ⊎ ((PAGE_BYTES ≤ length rest) × IsNoImage segment above (take PAGE_BYTES rest) at)
 
 -- what is told of an image that is none, and of bytes that begin with none
 abbrev pub IsFlawIn : ℕ → ℕ → List ℕ → Flaw → Type 0
@@ -76,7 +77,7 @@ pub record IsFaultBehind (backup segment : ℕ) (bytes : List ℕ) (byte : ℕ) 
   pub at : ℕ
   pub begins : BeginsWith backup segment count front rest bytes
   pub breaks : Breaks segment count front rest at
-  pub place : byte ≡ IMAGES_AT + IMAGE_BYTES * length front + at
+  pub place : byte ≡ IMAGES_AT + PAGE_BYTES * length front + at
 
 -- a field of the head is cut or breaks its rule
 abbrev pub IsHeadFault : ℕ → ℕ → List ℕ → ℕ → Type 0

@@ -6,10 +6,10 @@ ghost use Rattle.wal_record.specs.Rules.{is_page_count};
 ghost use Rattle.state_codec.specs.Gives.{Gives};
 ghost use Rattle.backup_set.specs.Reading.{head_at, is_next_page};
 
-use crate::layout::{MARK, SEGMENT_PAGES};
+use crate::layout::MARK;
 use crate::part::{Part, segment_of};
 use state_codec::{FieldFault, u32_in_front};
-use store_model::{MOST_PAGES, PageNo};
+use store_model::{MOST_PAGES, PageNo, SEGMENT_PAGES};
 use vault_objects::{this_u32_at, this_u64_at};
 
 #[tactic(auto, unfolding(wal_record::specs::Reading::number_at))]

@@ -9,12 +9,11 @@ ghost use Rattle.backup_set.specs.Reading.{IsFlaw, IsFlawIn, next_at};
 
 use crate::copy::PageCopy;
 use crate::head::next_page_at;
-use crate::layout::IMAGE_BYTES;
 use media::PageBytes;
 use page_image::{PageFault, open_page};
 use state_codec::FieldFault;
 use std::alloc::Global;
-use store_model::PageNo;
+use store_model::{PAGE_BYTES, PageNo};
 
 /// Why no image of a page begins where one has to.
 #[derive(Drop)]
@@ -57,11 +56,11 @@ fn verifies(alloc: Global, image: &PageBytes) -> bool
 pub fn first_image(bytes: &[u8]) -> Option<PageBytes>
     ensures { MatchOption result (length bytes.now < 4096) (λ image. (4096 ≤ length bytes.now) × (image ≡ take 4096 bytes.now)) }
 {
-    if bytes.len() < IMAGE_BYTES {
+    if bytes.len() < PAGE_BYTES {
         return None;
     }
-    let (front, _) = bytes.split_at(IMAGE_BYTES);
-    let mut image: PageBytes = [0; 4096];
+    let (front, _) = bytes.split_at(PAGE_BYTES);
+    let mut image: PageBytes = [0; PAGE_BYTES];
     image.copy_from_slice(front);
     Some(image)
 }
@@ -88,7 +87,7 @@ fn image_copy(
         Err(FieldFault::Memory) => Err(Flaw::Memory),
         Err(FieldFault::Bad { left }) => if verifies(alloc, image) {
             Err(Flaw::Bad {
-                at: IMAGE_BYTES - left,
+                at: PAGE_BYTES - left,
             })
         } else {
             Err(Flaw::Bad { at: 0 })

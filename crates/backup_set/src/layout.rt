@@ -8,9 +8,3 @@ pub const COUNT_AT: usize = 16;
 
 /// Where the images begin.
 pub const IMAGES_AT: usize = 20;
-
-/// The bytes of an image.
-pub const IMAGE_BYTES: usize = 4_096;
-
-/// So many neighbouring pages are a segment, and so many images are the most of an object.
-pub const SEGMENT_PAGES: u32 = 16;

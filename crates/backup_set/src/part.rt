@@ -5,8 +5,7 @@ ghost use Rattle.wal_record.specs.Upkeep.{segment_of};
 ghost use Rattle.backup_set.specs.Answers.{place_of};
 ghost use Rattle.backup_set.specs.Backup.{backup_name};
 
-use crate::layout::SEGMENT_PAGES;
-use store_model::{Fault, ObjectKind, ObjectName, PageNo};
+use store_model::{Fault, ObjectKind, ObjectName, PageNo, SEGMENT_PAGES};
 
 /// One segment of a backup.
 #[derive(Clone, Copy)]

@@ -6,15 +6,16 @@ ghost use Rattle.backup_set.specs.Answers.{FailsToFind, GivesCopy, HasImage, IsB
 ghost use Rattle.backup_set.specs.Backup.{IsAmong, IsBackup, backup_name};
 ghost use Rattle.backup_set.specs.declared.copy.PageCopy.{PageCopy};
 ghost use Rattle.page_image.specs.declared.sealed.Sealed.{Sealed};
-ghost use Rattle.backup_set.specs.declared.layout.TheConstants.{IMAGES_AT, IMAGE_BYTES};
+ghost use Rattle.backup_set.specs.declared.layout.TheConstants.{IMAGES_AT};
+ghost use Rattle.store_model.specs.declared.limits.TheConstants.{PAGE_BYTES};
 
 use crate::image::first_image;
-use crate::layout::{IMAGE_BYTES, IMAGES_AT};
+use crate::layout::IMAGES_AT;
 use crate::part::{Part, place_of, segment_of};
 use crate::search::{head_of, search};
 use page_image::{PageFault, Sealed, open_page};
 use std::alloc::Global;
-use store_model::{Fault, Memory, ObjectName, PageNo};
+use store_model::{Fault, Memory, ObjectName, PAGE_BYTES, PageNo};
 
 /// The object of the backup that has the page's segment.
 pub fn object_of(backup: u64, page: PageNo) -> ObjectName
@@ -29,9 +30,9 @@ pub fn object_of(backup: u64, page: PageNo) -> ObjectName
 
 /// Where the page's image begins in the object of a whole segment.
 pub fn image_place(page: PageNo) -> u64
-    ensures { result ≡ IMAGES_AT + IMAGE_BYTES * place_of page }
+    ensures { result ≡ IMAGES_AT + PAGE_BYTES * place_of page }
 {
-    IMAGES_AT as u64 + IMAGE_BYTES as u64 * u64::from(place_of(page))
+    IMAGES_AT as u64 + PAGE_BYTES as u64 * u64::from(place_of(page))
 }
 
 /// The page, by the first 20 bytes of the object and the 4,096 from the page's place in a whole segment on; None exactly where
@@ -44,7 +45,7 @@ pub fn page_in_place(
     image: &[u8],
 ) -> Result<Option<Sealed>, Memory>
     ensures only { (x : Sealed) → StandsInPlace backup page head.now image.now x → IfOk result (λ found. found ≡ Some x) }
-    ensures held { (bytes : List ℕ) → head.now ≡ take IMAGES_AT bytes → image.now ≡ take IMAGE_BYTES (drop (IMAGES_AT + IMAGE_BYTES * place_of page) bytes)
+    ensures held { (bytes : List ℕ) → head.now ≡ take IMAGES_AT bytes → image.now ≡ take PAGE_BYTES (drop (IMAGES_AT + PAGE_BYTES * place_of page) bytes)
         → IfOk result (λ found. IfSome found (HasImage backup (segment_of page) page bytes)) }
     ensures rules { IfOk result (λ found. IfSome found (λ x. KeepsState x.state)) }
 {

@@ -10,13 +10,13 @@ ghost use Rattle.backup_set.specs.Backup.{IsAmong, IsBackup, backup_name};
 ghost use Rattle.backup_set.specs.declared.copy.PageCopy.{PageCopy};
 
 use crate::image::first_image;
-use crate::layout::{IMAGE_BYTES, IMAGES_AT};
+use crate::layout::IMAGES_AT;
 use crate::part::{Part, place_of, segment_of};
 use crate::search::{head_of, search};
 use media::Vault;
 use page_image::{PageFault, Sealed, open_page};
 use std::alloc::Global;
-use store_model::{Fault, PageNo};
+use store_model::{Fault, PAGE_BYTES, PageNo};
 use vault_objects::{read_bytes, read_object};
 
 /// The page as this backup has it. Where the backup has its whole segment, that reads the object's head and one image. A
@@ -85,8 +85,8 @@ fn image_at<V: Vault>(
     ensures later { V.faults vault.old ≤ V.faults vault.new }
     ensures fuse { Blames V.passes V.refused V.own vault.old vault.new (IsErrAnd result IsVaultFault) }
 {
-    let from = IMAGES_AT as u64 + IMAGE_BYTES as u64 * u64::from(place);
-    let bytes = read_bytes(alloc, vault, part.name(), from, IMAGE_BYTES)?;
+    let from = IMAGES_AT as u64 + PAGE_BYTES as u64 * u64::from(place);
+    let bytes = read_bytes(alloc, vault, part.name(), from, PAGE_BYTES)?;
     match first_image(&bytes) {
         None => Ok(None),
         Some(image) => match open_page(alloc, &image, page) {

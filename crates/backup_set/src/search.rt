@@ -5,12 +5,12 @@ ghost use Rattle.backup_set.specs.Reading.{head_at};
 
 use crate::head::head_at;
 use crate::image::{Flaw, copy_at};
-use crate::layout::{COUNT_AT, IMAGE_BYTES, IMAGES_AT};
+use crate::layout::{COUNT_AT, IMAGES_AT};
 use crate::part::Part;
 use page_image::Sealed;
 use state_codec::FieldFault;
 use std::alloc::Global;
-use store_model::{Fault, PageNo};
+use store_model::{Fault, PAGE_BYTES, PageNo};
 
 /// How many images the head of the object with these first bytes counts.
 pub fn head_of(part: Part, bytes: &[u8]) -> Result<u32, Fault>
@@ -43,19 +43,19 @@ fn find(alloc: Global, part: Part, page: PageNo, count: u32, bytes: &[u8]) -> Re
                     return Ok(copy.sealed);
                 }
                 above = copy.page;
-                let (_, behind) = rest.split_at(IMAGE_BYTES);
+                let (_, behind) = rest.split_at(PAGE_BYTES);
                 rest = behind;
             }
             Err(Flaw::Memory) => return Err(Fault::Memory),
             Err(Flaw::Bad { at }) => {
-                return Err(part.bad_at(IMAGES_AT + IMAGE_BYTES * place + at));
+                return Err(part.bad_at(IMAGES_AT + PAGE_BYTES * place + at));
             }
         }
     }
     if rest.is_empty() {
         Err(part.bad_at(COUNT_AT))
     } else {
-        Err(part.bad_at(IMAGES_AT + IMAGE_BYTES * count as usize))
+        Err(part.bad_at(IMAGES_AT + PAGE_BYTES * count as usize))
     }
 }
 

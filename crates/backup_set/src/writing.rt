@@ -8,12 +8,12 @@ ghost use Rattle.vault_objects.specs.Stored.{MayStore, Stores};
 ghost use Rattle.backup_set.specs.Backup.{AreImages, backup_name, object_bytes};
 ghost use Rattle.backup_set.specs.declared.copy.PageCopy.{PageCopy};
 
-use crate::layout::{IMAGE_BYTES, IMAGES_AT, MARK};
+use crate::layout::{IMAGES_AT, MARK};
 use crate::part::Part;
 use media::{PageBytes, Vault};
 use state_codec::{put_u32, put_u64};
 use std::alloc::{AllocError, Global};
-use store_model::Fault;
+use store_model::{Fault, PAGE_BYTES};
 use vault_objects::store_object;
 
 /// Writes the object of a backup's segment, with these images of pages of the segment by rising page: one put and one
@@ -46,7 +46,7 @@ fn object_bytes(alloc: Global, part: Part, images: &[PageBytes]) -> Result<Vec<u
     requires { length images.now ≤ 16 }
     ensures { IfOk result (λ bytes. bytes.items ≡ object_bytes part.backup part.segment images.now) }
 {
-    let mut bytes = Vec::with_capacity(alloc, IMAGES_AT + IMAGE_BYTES * images.len())?;
+    let mut bytes = Vec::with_capacity(alloc, IMAGES_AT + PAGE_BYTES * images.len())?;
     put_u32(&mut bytes, MARK)?;
     put_u64(&mut bytes, part.backup)?;
     put_u32(&mut bytes, part.segment)?;

@@ -11,7 +11,7 @@ use page_ops::Life;
 use page_repair::Images;
 use std::alloc::Global;
 use std::sync::Wait;
-use store_model::{Lsn, Memory, PageNo};
+use store_model::{Lsn, Memory, PAGE_BYTES, PageNo};
 use wal_record::Entry;
 
 /// What the data device gives for the page; None where it failed, which is no fault of a bring.
@@ -26,7 +26,7 @@ pub(crate) fn read_image<N: Life, I: Images<N>, R: Wait>(
     ensures later { I.faults images.old ≤ I.faults images.new }
     ensures failed { IfNone result (Rose (I.faults images.old) (I.faults images.new)) }
 {
-    let mut bytes = [0; 4096];
+    let mut bytes = [0; PAGE_BYTES];
     match images.read(rt, page, &mut bytes, pass) {
         Ok(()) => Some(bytes),
         Err(_) => None,

@@ -8,7 +8,7 @@ use media::{PageBytes, PageDevice, Sink};
 use page_image::{PageFault, Sealed, open_page};
 use record_line::put_state;
 use std::alloc::{AllocError, Global};
-use store_model::{Lsn, PageNo};
+use store_model::{Lsn, PAGE_BYTES, PageNo};
 
 /// Where the number stands in an image.
 const NUMBER_AT: u64 = 33;
@@ -24,7 +24,7 @@ pub fn inspect_page<P: PageDevice, K: Sink>(
     last: Lsn,
     sink: &mut K,
 ) -> Result<(), Halt> {
-    let mut bytes: PageBytes = [0; 4096];
+    let mut bytes: PageBytes = [0; PAGE_BYTES];
     match device.read(page, &mut bytes) {
         Ok(()) => {}
         Err(_) => return Err(Halt::Device),

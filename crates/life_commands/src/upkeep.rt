@@ -13,10 +13,8 @@ use page_ops::{Life, Survey};
 use script::Device;
 use std::alloc::Global;
 use std::sync::Wait;
+use store_model::SEGMENT_PAGES;
 use transcript::{Stat, Upkeep};
-
-/// So many neighbouring pages are a segment.
-const SEGMENT: u32 = 16;
 
 /// A Checkpoint is taken.
 pub fn checkpoint_open<'a, N: Life, L: Disk, R: Wait>(
@@ -98,7 +96,7 @@ pub fn stat_open<'a, N: Life, L: Disk, R: Wait>(
 fn counts_of(known: &Survey) -> Stat
     ensures { result ≡ counts_of known.now }
 {
-    let lost = u64::from(known.analysis.lost.div_ceil(SEGMENT));
+    let lost = u64::from(known.analysis.lost.div_ceil(SEGMENT_PAGES));
     Stat {
         commits: known.analysis.commits,
         losers: known.losers.len() as u64,

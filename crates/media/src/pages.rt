@@ -5,10 +5,10 @@ ghost use Rattle.media.specs.Counted.{Armed, Counted, Uncounted};
 ghost use Rattle.media.specs.Images.{FailsVerification, Adds, NoOther, Keeps, KeepsBut, SameImages};
 
 use crate::fault::Failed;
-use store_model::PageNo;
+use store_model::{PAGE_BYTES, PageNo};
 
 /// The bytes of a page: a digest of 32 bytes, and then what it is the digest of.
-pub type PageBytes = [u8; 4096];
+pub type PageBytes = [u8; PAGE_BYTES];
 
 /// Images of pages, each written under a page's number. It may give an old image, or a damaged one: a read gives any of
 /// the images written for the page since the last replace, or bytes that fail verification. A crash changes nothing of

@@ -9,13 +9,10 @@ use std::io;
 use std::io::{Seek, SeekFrom, Write};
 use std::marker::Model;
 use std::rt::Files;
-use store_model::PageNo;
+use store_model::{PAGE_BYTES, PageNo};
 
 /// The file that has the pages.
 const PAGES: &str = "pages.dat";
-
-/// How many bytes a page has.
-const PAGE: u64 = 4096;
 
 /// A data device in a file of a folder. What was never written reads as zero bytes, which fail verification.
 #[derive(Drop)]
@@ -48,13 +45,13 @@ impl<F> FilePages<F> {
     where
         F: OpenFile,
     {
-        Ok(self.file.metadata()?.len().div_ceil(PAGE))
+        Ok(self.file.metadata()?.len().div_ceil(PAGE_BYTES as u64))
     }
 }
 
 /// Where a page stands in the file.
 fn place_of(page: PageNo) -> u64 {
-    u64::from(page).saturating_sub(1) * PAGE
+    u64::from(page).saturating_sub(1) * PAGE_BYTES as u64
 }
 
 fn read_page<F: io::Read + Seek>(
@@ -113,7 +110,7 @@ impl<F: io::Read + Write + Seek + OpenFile + Drop> PageDevice for FilePages<F> {
     }
 
     fn spoil(&mut self, page: PageNo) -> Result<(), Failed> {
-        let outcome = write_page(&mut self.file, page, &[0u8; 4096]);
+        let outcome = write_page(&mut self.file, page, &[0u8; PAGE_BYTES]);
         self.faults.told(outcome)
     }
 

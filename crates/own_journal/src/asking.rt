@@ -17,11 +17,8 @@ use life_history::Counts;
 use media::Disk;
 use page_ops::{Found, Life, Listed, Survey, Work};
 use std::alloc::Global;
-use store_model::{Fault, PageNo, TxId};
+use store_model::{Fault, PageNo, SEGMENT_PAGES, TxId};
 use wal_record::{Entry, Record};
-
-/// So many neighbouring pages are a segment.
-const SEGMENT: u32 = 16;
 
 /// As `Entering::listed`.
 pub(crate) fn listed<L: Disk, N: Life>(
@@ -42,7 +39,7 @@ pub(crate) fn listed<L: Disk, N: Life>(
             let listing = journal.listing();
             Ok(Listed {
                 ends: listing.entry(page),
-                unrestored: listing.is_unrestored(page.saturating_sub(1) / SEGMENT),
+                unrestored: listing.is_unrestored(page.saturating_sub(1) / SEGMENT_PAGES),
                 lost: listing.lost(),
             })
         }

@@ -10,11 +10,8 @@ use page_repair::{Images, Supply};
 use segment_restore::{NoBases, mark_restored, rebuild_in_life, restore};
 use std::alloc::Global;
 use std::sync::Wait;
-use store_model::{Fault, Lsn, PageNo};
+use store_model::{Fault, Lsn, PageNo, SEGMENT_PAGES};
 use wal_record::Entry;
-
-/// So many neighbouring pages are a segment.
-const SEGMENT: u32 = 16;
 
 /// A supply of pages that are rebuilt by what the log keeps, from the image that is handed in or from nothing. No vault is read.
 #[derive(Drop)]
@@ -26,7 +23,7 @@ pub struct LogAlone<'a> {
 fn segment_of(page: PageNo) -> u32
     ensures { result ≡ segment_of page }
 {
-    page.saturating_sub(1) / SEGMENT
+    page.saturating_sub(1) / SEGMENT_PAGES
 }
 
 impl<'a, N: Life, J: Entering<N>> Supply<N, J> for LogAlone<'a> {

@@ -1,7 +1,4 @@
-//! How long an image is, and its parts.
-
-/// The bytes of an image.
-pub const IMAGE_BYTES: usize = 4_096;
+//! The parts of an image.
 
 /// The bytes of its digest, which stands in front.
 pub const DIGEST_BYTES: usize = 32;

@@ -7,10 +7,10 @@ ghost use Rattle.page_image.specs.declared.layout.TheConstants.{BODY_BYTES};
 
 use crate::digest::sha_of;
 use crate::draft::Draft;
-use crate::layout::{DIGEST_BYTES, IMAGE_BYTES};
+use crate::layout::DIGEST_BYTES;
 use crate::writing::put_state;
 use media::PageBytes;
-use store_model::{Lsn, PageNo};
+use store_model::{Lsn, PAGE_BYTES, PageNo};
 use wal_record::PageState;
 
 /// The image of a page with this number and LSN. It takes no memory.
@@ -41,7 +41,7 @@ fn framed(body: &[u8]) -> PageBytes
     requires { length body.now ≤ BODY_BYTES }
     ensures { result ≡ sealed_body (padded body.now) }
 {
-    let mut bytes = [0u8; IMAGE_BYTES];
+    let mut bytes = [0u8; PAGE_BYTES];
     put(&mut bytes, DIGEST_BYTES, body);
     let digest = digest_of(&bytes);
     put(&mut bytes, 0, &digest);

@@ -19,17 +19,14 @@ use page_ops::{Entered, Entering, Group, Life, Rights};
 use page_repair::Images;
 use std::alloc::Global;
 use std::sync::Wait;
-use store_model::{Fault, List, Memory, PageNo};
+use store_model::{Fault, List, Memory, PageNo, SEGMENT_PAGES};
 use wal_record::{Entry, Record, Restored};
-
-/// So many neighbouring pages are a segment.
-const SEGMENT: u32 = 16;
 
 /// The segment that has the page.
 pub(crate) fn segment_of(page: PageNo) -> u32
     ensures { result ≡ segment_of page }
 {
-    page.saturating_sub(1) / SEGMENT
+    page.saturating_sub(1) / SEGMENT_PAGES
 }
 
 /// Restores the page, if it was made. The device may fail.
@@ -90,8 +87,8 @@ pub fn restore<N: Life, J: Entering<N>, I: Images<N>, B: Bases<N, J>, R: Wait>(
     ensures open { OnOk result (MeetsNoEnd (J.account journal.old) (J.account journal.new)) }
     ensures refused { IfErr result (FailsToBring N.opens N.log_faults N.made (of_vault (B.vault_faults bases.old)) (of_vault (B.vault_faults bases.new)) (J.account journal.old) (J.account journal.new) pass.new.log) }
 {
-    let before = segment.saturating_mul(SEGMENT);
-    let last = lost.min(before.saturating_add(SEGMENT));
+    let before = segment.saturating_mul(SEGMENT_PAGES);
+    let last = lost.min(before.saturating_add(SEGMENT_PAGES));
     journal.see(rt, &mut Rights::none(), pass);
     for done in before..last {
         restore_listed(rt, alloc, journal, images, bases, done + 1, operators, pass)?;

@@ -13,7 +13,10 @@ pub const VALUE_BYTES: usize = 256;
 /// The most bytes of an operator's argument and of its result: enough for every number below 2^64.
 pub const OPERAND_BYTES: usize = 64;
 
-/// The bytes of a page's state: an image has 4,096, of which 45 stand before the state.
+/// The bytes of a page on its device, and of its image in a backup.
+pub const PAGE_BYTES: usize = 4_096;
+
+/// The bytes of a page's state: of those of its page, 45 stand before the state.
 pub const STATE_BYTES: usize = 4_051;
 
 /// The least limit of a store: how many pages and writes not yet undone it has room for.
@@ -21,6 +24,9 @@ pub const LEAST_LIMIT: u32 = 8;
 
 /// The greatest limit of a store, and the greatest number of a page: 64 MiB of pages.
 pub const MOST_PAGES: u32 = 16_384;
+
+/// How many neighbouring pages are a segment, which is backed up as one object and restored as one.
+pub const SEGMENT_PAGES: u32 = 16;
 
 /// The greatest LSN, and the greatest number of a transaction, a backup or an archive run. The next one still fits into
 /// eight bytes.

@@ -11,7 +11,7 @@ ghost use Rattle.upkeep_judge.specs.Backups.{AreBackupsOf, IsFresh, is_segment};
 
 use page_judge::PageNames;
 use std::alloc::Global;
-use store_model::{List, Lsn, Memory};
+use store_model::{List, Lsn, Memory, SEGMENT_PAGES};
 use wal_record::{BackupDone, PageLsn, Record};
 
 /// The number of the last backup, 0 for none, and the segments that it has so far.
@@ -38,7 +38,7 @@ fn are_images(names: &PageNames, last: Lsn, pages: &[PageLsn]) -> bool
 fn lies_in(page: u32, segment: u32) -> bool
     ensures { result ≡ (segment_of page == segment) }
 {
-    page.saturating_sub(1) / 16 == segment
+    page.saturating_sub(1) / SEGMENT_PAGES == segment
 }
 
 /// Whether each page lies in the segment.

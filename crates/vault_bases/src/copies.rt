@@ -16,14 +16,11 @@ use page_ops::{Entering, Life};
 use std::alloc::Global;
 use std::sync::Wait;
 use std::sync::ledger::Ledger;
-use store_model::{Fault, PageNo};
+use store_model::{Fault, PAGE_BYTES, PageNo};
 use wal_record::Entry;
 
 /// The bytes of an object before its images.
 const HEAD_BYTES: usize = 20;
-
-/// The bytes of an image.
-const IMAGE_BYTES: usize = 4_096;
 
 /// The most bytes that an object has: the head and 16 images.
 const OBJECT_BYTES: usize = 65_556;
@@ -48,7 +45,7 @@ fn in_place<N: Life, J: Entering<N>, O: Objects<N>, L: Ledger, R: Wait>(
     let name = object_of(backup, page);
     let head = read_named(rt, alloc, journal, bases, name, 0, HEAD_BYTES, pass)?;
     let place = image_place(page);
-    let image = read_named(rt, alloc, journal, bases, name, place, IMAGE_BYTES, pass)?;
+    let image = read_named(rt, alloc, journal, bases, name, place, PAGE_BYTES, pass)?;
     Ok(page_in_place(alloc, backup, page, &head, &image)?)
 }
 
