@@ -1,0 +1,42 @@
+//! The order of two texts.
+ghost use Rattle.std.specs.Prelude.{◌≡◌};
+ghost use Rattle.std.specs.Ordering.{nat_cmp};
+ghost use Rattle.std.specs.Cmp.Lexicographic.{slice_cmp};
+ghost use Rattle.text_order.specs.Words.{word};
+
+use std::cmp::Ordering;
+
+/// The first eight bytes as a number, the first one greatest. Zeros stand for those that lack.
+fn word_of(text: &[u8]) -> u64
+    ensures { result ≡ word 8 text.now }
+{
+    match text {
+        [a, b, c, d, e, f, g, h, ..] => u64::from_be_bytes([*a, *b, *c, *d, *e, *f, *g, *h]),
+        [a, b, c, d, e, f, g] => u64::from_be_bytes([*a, *b, *c, *d, *e, *f, *g, 0]),
+        [a, b, c, d, e, f] => u64::from_be_bytes([*a, *b, *c, *d, *e, *f, 0, 0]),
+        [a, b, c, d, e] => u64::from_be_bytes([*a, *b, *c, *d, *e, 0, 0, 0]),
+        [a, b, c, d] => u64::from_be_bytes([*a, *b, *c, *d, 0, 0, 0, 0]),
+        [a, b, c] => u64::from_be_bytes([*a, *b, *c, 0, 0, 0, 0, 0]),
+        [a, b] => u64::from_be_bytes([*a, *b, 0, 0, 0, 0, 0, 0]),
+        [a] => u64::from_be_bytes([*a, 0, 0, 0, 0, 0, 0, 0]),
+        [] => 0,
+    }
+}
+
+/// The order of two texts.
+pub fn compare_texts(a: &[u8], b: &[u8]) -> Ordering
+    ensures { result ≡ slice_cmp nat_cmp a.now b.now }
+{
+    let (mut left, mut right) = (a, b);
+    loop {
+        let order = word_of(left).cmp(&word_of(right));
+        if order != Ordering::Equal {
+            return order;
+        }
+        match (left.get(8..), right.get(8..)) {
+            (Some(x), Some(y)) => (left, right) = (x, y),
+            // (One of them ends here, and the other begins with it, or with it and zeros.)
+            _ => return left.len().cmp(&right.len()),
+        }
+    }
+}
