@@ -10,6 +10,7 @@ ghost use Rattle.foster_laws.specs.Descents.{CoversAt};
 use page_rows::Spot;
 use std::cmp::Ordering;
 use store_model::{Bound, PageNo};
+use text_order::compare_texts;
 use wal_record::{BranchRow, PageState, Rows};
 
 /// The place of the row that covers a key of the own part, or any other text there.
@@ -64,7 +65,7 @@ fn order(bound: &Bound, key: &[u8]) -> Ordering
 {
     match bound.as_bytes() {
         None => Ordering::Greater,
-        Some(text) => text.cmp(key),
+        Some(text) => compare_texts(text, key),
     }
 }
 

@@ -5,6 +5,7 @@ ghost use Rattle.page_rows.specs.Rows.{Rise, IsSpot, IsSpotIn, leaf_at, branch_a
 
 use std::cmp::Ordering;
 use store_model::{Bound, Key};
+use text_order::compare_texts;
 use wal_record::{BranchRow, LeafRow, PageState, Rows};
 
 /// Where a key stands among rows: at the row of this place, or before it in the gap that ends there.
@@ -30,7 +31,7 @@ pub(crate) fn leaf_spot(rows: &[LeafRow], key: &Key) -> Spot
     requires { IsTrue (rises leaf_below rows.now) }
     ensures { IsSpotIn leaf_at key.now rows.now result }
 {
-    match rows.binary_search_by(|row| row.key.as_bytes().cmp(&key.as_bytes())) {
+    match rows.binary_search_by(|row| compare_texts(row.key.as_bytes(), key.as_bytes())) {
         Ok(i) => Spot::Here(i),
         Err(i) => Spot::Gap(i),
     }
@@ -52,6 +53,6 @@ fn order(bound: &Bound, key: &Key) -> Ordering
 {
     match bound.as_bytes() {
         None => Ordering::Greater,
-        Some(text) => text.cmp(key.as_bytes()),
+        Some(text) => compare_texts(text, key.as_bytes()),
     }
 }

@@ -6,4 +6,3 @@ pub mod Changes
 pub mod Points
 pub mod Cuts
 pub mod Holding
-pub mod Words

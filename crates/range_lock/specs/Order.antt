@@ -1,7 +1,5 @@
 -- The order in which a conflict is named: by holder, then by low bound, then by high bound. The top is above all texts.
--- And the number that begins a text.
-use Rattle.std.specs.Prelude.{◌≡◌, ◌≤◌, ℕ, List, [], length, take, Option, Some, None}
-use Rattle.std.specs.Int.{from_be_bytes, w64}
+use Rattle.std.specs.Prelude.{ℕ, List, [], Option, Some, None}
 use Rattle.std.specs.declared.cmp.Ordering.{Ordering}
 use Rattle.std.specs.Ordering.{nat_cmp, on, then_cmp}
 use Rattle.std.specs.Cmp.Lexicographic.{slice_cmp}
@@ -24,8 +22,3 @@ range_cmp = then_cmp (on (λ (r : Interval). r.low) bound_cmp) (on (λ (r : Inte
 
 abbrev pub rival_cmp : Rival → Rival → Ordering
 rival_cmp = then_cmp (on (λ (r : Rival). r.holder) nat_cmp) (on (λ (r : Rival). r.range) range_cmp)
-
--- the text's first eight bytes as a number, the first one greatest
-pub record IsFirstWord (text : List ℕ) (n : ℕ) : Type 0 where
-  pub long : 8 ≤ length text
-  pub word : n ≡ from_be_bytes w64 (take 8 text)

@@ -5,9 +5,9 @@ ghost use Rattle.std.specs.Cmp.Rules.{comparing};
 ghost use Rattle.std.specs.Cmp.Lexicographic.{slice_cmp};
 ghost use Rattle.std.specs.Ordering.{nat_cmp, on, then_cmp, as_partial_cmp};
 
-use crate::order::compare_texts;
 use std::cmp::Ordering;
 use store_model::{Key, KeyRange, Mode, TxId};
+use text_order::compare_texts;
 
 /// A transaction's lock on a single key. These locks are ordered by key, then by transaction.
 #[derive(PartialEq, Eq, Drop)]

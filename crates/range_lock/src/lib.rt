@@ -24,7 +24,6 @@ mod entry;
 mod holders;
 mod key_list;
 mod keys;
-mod order;
 mod point;
 mod range_locks;
 mod refusal;
