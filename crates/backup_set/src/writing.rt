@@ -13,7 +13,7 @@ use crate::part::Part;
 use media::{PageBytes, Vault};
 use state_codec::{put_u32, put_u64};
 use std::alloc::{AllocError, Global};
-use store_model::{Fault, PAGE_BYTES};
+use store_model::{Fault, Memory, PAGE_BYTES};
 use vault_objects::store_object;
 
 /// Writes the object of a backup's segment, with these images of pages of the segment by rising page: one put and one
@@ -37,19 +37,24 @@ pub fn write_segment<V: Vault>(
     ensures fuse { Blames V.passes V.refused V.own vault.old vault.new (IsErrAnd result IsVaultFault) }
 {
     let part = Part { backup, segment };
-    let bytes = object_bytes(alloc, part, images)?;
+    let bytes = segment_bytes(alloc, backup, segment, images)?;
     store_object(vault, part.name(), &bytes)
 }
 
-/// The bytes of the object.
-fn object_bytes(alloc: Global, part: Part, images: &[PageBytes]) -> Result<Vec<u8>, AllocError>
+/// The bytes of the object of a backup's segment with these images, for whoever puts them into a vault itself.
+pub fn segment_bytes(
+    alloc: Global,
+    backup: u64,
+    segment: u32,
+    images: &[PageBytes],
+) -> Result<Vec<u8>, Memory>
     requires { length images.now ≤ 16 }
-    ensures { IfOk result (λ bytes. bytes.items ≡ object_bytes part.backup part.segment images.now) }
+    ensures { IfOk result (λ bytes. bytes.items ≡ object_bytes backup segment images.now) }
 {
     let mut bytes = Vec::with_capacity(alloc, IMAGES_AT + PAGE_BYTES * images.len())?;
     put_u32(&mut bytes, MARK)?;
-    put_u64(&mut bytes, part.backup)?;
-    put_u32(&mut bytes, part.segment)?;
+    put_u64(&mut bytes, backup)?;
+    put_u32(&mut bytes, segment)?;
     put_u32(&mut bytes, images.len() as u32)?;
     put_images(&mut bytes, images)?;
     Ok(bytes)
