@@ -2,3 +2,5 @@ pub mod SameNames
 pub mod Drafting
 pub mod Keeping
 pub mod EnteredNamings
+pub mod MadeObjects
+pub mod Places

@@ -7,7 +7,7 @@
 //!
 //! An object is made in three steps, each in a call of its own so that no lock spans two device calls: its bytes are put as a
 //! draft, the draft is synced, and then a record names it (`specs/Drafts`). What is named stays as it was at each of them,
-//! also where the vault fails.
+//! also where the vault fails. [`name_object`] takes the three steps, and makes the log durable up to the record.
 //!
 //! [`Objects`] is the vault of a life, whether one thread owns it or threads share it under a lock. [`OwnObjects`] is one
 //! that a thread owns, over any vault of media. It has the right to maintenance, without which no record names an object; so
@@ -15,12 +15,14 @@
 #![tactic(auto)]
 
 mod draft;
+mod making;
 mod naming;
 mod naming_entry;
 mod objects;
 mod own_objects;
 
 pub use draft::{Done, Draft, Drafted};
+pub use making::name_object;
 pub use naming::Naming;
 pub use objects::Objects;
 pub use own_objects::OwnObjects;

@@ -9,7 +9,7 @@ ghost use Rattle.wal_record.specs.Books.{maintenance_book};
 ghost use Rattle.wal_record.specs.History.{life_log};
 ghost use Rattle.wal_record.specs.Rules.{HasSpelling};
 ghost use Rattle.wal_record.specs.declared.record.Record.{Record};
-ghost use Rattle.named_objects.specs.Drafts.{OnNamed, behind_done, behind_put, behind_sync, naming_entries, ready};
+ghost use Rattle.named_objects.specs.Drafts.{ComesNext, OnNamed, behind_done, behind_put, behind_sync, naming_entries, ready};
 ghost use Rattle.named_objects.specs.Named.{IsNamedPiece, Names, Tells, name_of, record_of};
 ghost use Rattle.named_objects.specs.declared.draft.Done.TheVariants as dones;
 ghost use Rattle.named_objects.specs.declared.draft.Draft.{Draft};
@@ -90,6 +90,7 @@ pub trait Objects<N: Life> {
         requires suits { (opening : List Record) → N.opens opening → Suits opening pass.old.log (record_of naming) }
         requires tells { (opening : List Record) → N.opens opening → Tells (life_log opening pass.old.log) naming bytes.now }
         ensures late { result ≡ Ok drafts.Late → maintenance_book pass.new.log ≢ since }
+        ensures taken { result ≡ Ok drafts.Taken → maintenance_book pass.new.log ≡ since }
         ensures draft { draft self.new ≡ behind_put naming (draft self.old) result }
         ensures seen { Looks N.opens N.entries N.session_entries (J.account journal.old) pass.old (J.account journal.new) pass.new }
         ensures calm { MeetsNoFault (J.account journal.old) (J.account journal.new) }
@@ -117,6 +118,8 @@ pub trait Objects<N: Life> {
         ensures entered { Enters N.opens N.entries N.session_entries (known (J.account journal.old) pass.old no_claims) (naming_entries naming result) (known (J.account journal.new) pass.new no_claims) }
         // The log names it, with the bytes that it determines.
         ensures named { OnNamed result ((opening : List Record) (bytes : List ℕ) → N.opens opening → Tells (life_log opening pass.old.log) naming bytes → Names (life_log opening pass.new.log) (name_of naming) bytes) }
+        // No object was named between that place and this one.
+        ensures next { ComesNext since naming pass.new.log result }
         ensures late { alone → result ≡ Ok dones.Late → (maintenance_book pass.new.log ≢ since) ⊎ (draft self.old ≢ ready naming) }
         ensures draft { draft self.new ≡ behind_done (draft self.old) result }
         ensures faults { faults self.new ≡ faults self.old }

@@ -1,6 +1,6 @@
 use Rattle.std.proofs.Common.{◌∙◌, ap, sym, subst}
 use Rattle.std.proofs.lemmas.Result.{err_from_is_err_and}
-use Rattle.std.specs.Prelude.{Option, IfSome}
+use Rattle.std.specs.Prelude.{Option, IfSome, IsSome}
 use Rattle.books.specs.Rights.{MaintClaim}
 use Rattle.page_ops.proofs.Composing.{ends_by_then}
 use Rattle.page_ops.specs.Claims.{MaintAgrees}
@@ -10,6 +10,7 @@ use Rattle.wal_record.specs.declared.entry.Entry.{Entry}
 use Rattle.named_objects.proofs.Drafting.{named_now}
 use Rattle.named_objects.proofs.EnteredNamings.{entered_behind}
 use Rattle.named_objects.proofs.Keeping.{look_kept, naming_kept, suits_now}
+use Rattle.named_objects.proofs.Places.{comes_next}
 use Rattle.named_objects.proofs.own_objects.OwnObjectsObjects.done.Goals as goal
 
 pub invariant_of-self : goal.invariant_of-self
@@ -51,3 +52,10 @@ pub returns-clause-named : goal.returns-clause-named
 returns-clause-named g c =
     let e = c.in_ok-lsn.ensures.entered in
     named_now g.N.Life.opens c.args.pass.now.log e.moment c.copy.new.self.log c.in_ok-lsn.lsn c.args.naming (prefix_trans c.args.pass.now.log c.look-last.new.pass.log e.moment c.look-last.ensures.seen.now.begins e.found.begins) (ap (λ (p : PassSeen Entry). p.log) c.copy.ensures.same ∙ e.is) c.requires.suits
+
+pub returns-clause-next : goal.returns-clause-next
+returns-clause-next g c =
+    let look = c.look-last.ensures in
+    let e = c.in_ok-lsn.ensures.entered in
+    comes_next c.look-last.new.pass.log e.moment c.copy.new.self.log c.args.since c.look-last.result c.in_ok-lsn.lsn c.look-last.new.right c.args.naming (subst (λ (m : Option MaintClaim). IsSome m) (sym look.right) c.self.invariant.0) look.agrees e.found.rights.m look.place
+    c.if-last-since.false (ap (λ (p : PassSeen Entry). p.log) c.copy.ensures.same ∙ e.is)
