@@ -10,8 +10,6 @@ mod answers;
 #[cfg(test)]
 mod lines;
 #[cfg(test)]
-mod planting;
-#[cfg(test)]
 mod players;
 #[cfg(test)]
 mod tests;

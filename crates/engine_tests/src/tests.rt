@@ -5,12 +5,12 @@ ghost use Rattle.wal_record.specs.State.{KeepsState};
 ghost use Rattle.wal_record.specs.declared.record.Record.{Record};
 
 use crate::lines::{Line, play};
-use crate::planting::{Planted, empty_leaf, new_log, no_pages, plant};
 use listed_log::ListedLog;
 use media::Disk;
 use media_mem::MemDisk;
 use operators::{Operators, boxed_operators};
 use page_ops::{Ground, Life, Tokens, Unnamed};
+use planted_store::{Planted, empty_leaf, new_log, no_pages, plant};
 use small_stores::Frames;
 use std::alloc::Global;
 use std::marker::Brand;

@@ -8,8 +8,6 @@
 #[cfg(test)]
 mod damage;
 #[cfg(test)]
-mod planting;
-#[cfg(test)]
 mod steps;
 #[cfg(test)]
 mod tests;

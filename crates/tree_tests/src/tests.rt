@@ -5,13 +5,13 @@ ghost use Rattle.page_ops.specs.Names.{life_names};
 ghost use Rattle.wal_record.specs.State.{KeepsState};
 ghost use Rattle.wal_record.specs.declared.record.Record.{Record};
 
-use crate::planting::{Planted, empty_leaf, new_log, no_pages, plant};
 use crate::steps::{Deed, Keys};
 use crate::work::{Step, work, work_on_damaged};
 use listed_log::ListedLog;
 use media::Disk;
 use media_mem::MemDisk;
 use page_ops::{Ground, Life, Tokens, Unnamed};
+use planted_store::{Planted, empty_leaf, new_log, no_pages, plant};
 use small_stores::Frames;
 use std::alloc::Global;
 use std::marker::Brand;

@@ -23,7 +23,7 @@ use store_model::{Bound, LEAST_LIMIT, List, MOST_PAGES, Memory, PageNo};
 use wal_record::{Entry, Format, PageState, Record, Rows};
 
 /// An empty leaf with all keys.
-pub(crate) fn empty_leaf(alloc: Global) -> Option<PageState>
+pub fn empty_leaf(alloc: Global) -> Option<PageState>
     ensures { IfSome result KeepsState }
 {
     Some(PageState {
@@ -36,11 +36,7 @@ pub(crate) fn empty_leaf(alloc: Global) -> Option<PageState>
 }
 
 /// A log of one record, the format of a store of up to so many pages and open writes.
-pub(crate) fn new_log<L: Disk + Drop>(
-    alloc: Global,
-    disk: L,
-    limit: u32,
-) -> Result<ListedLog<L>, Memory>
+pub fn new_log<L: Disk + Drop>(alloc: Global, disk: L, limit: u32) -> Result<ListedLog<L>, Memory>
     ensures open { IfOk result (λ log. log.log.log.ended ≡ None) }
 {
     if limit < LEAST_LIMIT || MOST_PAGES < limit {
@@ -58,7 +54,7 @@ pub(crate) fn new_log<L: Disk + Drop>(
 }
 
 /// Places for so many pages, none of which is there.
-pub(crate) fn no_pages<N: Life>(alloc: Global, places: u32) -> Result<Frames<N>, Memory> {
+pub fn no_pages<N: Life>(alloc: Global, places: u32) -> Result<Frames<N>, Memory> {
     let (mut frames, mut away) = (Vec::new(alloc), Vec::new(alloc));
     for _ in 0..places {
         frames.push(None)?;
@@ -83,16 +79,16 @@ fn first_right<N: Life>(
 
 /// A store of one thread, and a first pass.
 #[derive(Drop)]
-pub(crate) struct Planted<'a, L: Disk, N: Life> {
-    pub(crate) journal: OwnJournal<'a, L, N>,
-    pub(crate) pages: OwnPages<N>,
-    pub(crate) pass: Pass<Entry, N>,
+pub struct Planted<'a, L: Disk, N: Life> {
+    pub journal: OwnJournal<'a, L, N>,
+    pub pages: OwnPages<N>,
+    pub pass: Pass<Entry, N>,
     ghost none: { pages.out ≡ 0 },
 }
 
 /// Page 1 is in its frame.
 #[tactic(auto, using(crate::proofs::Begun::one_page))]
-pub(crate) fn plant<'a, L: Disk, N: Life>(
+pub fn plant<'a, L: Disk, N: Life>(
     alloc: Global,
     ground: &'a Ground<N>,
     tokens: Tokens<N>,

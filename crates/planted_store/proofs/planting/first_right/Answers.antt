@@ -1,7 +1,7 @@
 use Rattle.std.proofs.Common.{◌≡◌, ℕ, eqb, cond, List, [], ◌∷◌, ◌++◌, Option, Some, None, Bool, true, false, refl, ap, ◌∙◌, eq-eqb}
 use Rattle.books.specs.Booking.{entry, entry_of, replaced}
 use Rattle.books.specs.declared.entry.BookEntry.{BookEntry}
-use Rattle.engine_tests.proofs.planting.first_right.Goals as goal
+use Rattle.planted_store.proofs.planting.first_right.Goals as goal
 
 -- the last entry alone has its number
 replaced_last : (n first : ℕ) (es : List BookEntry) → entry_of n es ≡ None → replaced (entry n first 0) (es ++ entry n 0 0 ∷ []) ≡ es ++ entry n first 0 ∷ []
