@@ -35,6 +35,7 @@ use Rattle.journal.specs.Kept.{HasPlaces, IsOfLife, EndsByFault, IsKept}
 use Rattle.page_ops.specs.Seeing.{Account}
 use Rattle.store_model.specs.declared.fault.Fault.TheVariants as answers
 use Rattle.journal.specs.Locks.{AreHeld}
+use Rattle.journal.specs.State.{HasOneMore}
 use Rattle.journal.specs.Groups.{IsNext}
 use Rattle.journal.proofs.Locking.{held_same}
 use Rattle.journal.proofs.Grouping.{locks_group, phases_group}
@@ -84,6 +85,16 @@ same_blocks tells told may_leave goes rs m m' s k same = record {
   records = λ t runs. subst (λ (l : LogState _). HoldsEnd told may_leave l rs) (sym same) (k.records t (ap (λ (l : LogState _). l.ended) (sym same) ∙ runs));
 }
 
+-- ---- room for commits
+
+room_same : (live spare spare' : ℕ) → live ≤ spare → HasOneMore spare spare' → live ≤ spare'
+room_same live spare spare' c (inl room) = let one = room.1 in omega (arith, c, one)
+room_same live spare spare' c (inr room) = let same = room.1 in omega (arith, c, same)
+
+room_begun : (live live' spare spare' : ℕ) → live ≤ spare → HasOneMore spare spare' → (live' ≡ live + 1) × (live' ≤ 64) → live' ≤ spare'
+room_begun live live' spare spare' c (inl room) more = let one = room.1 in let now = more.0 in omega (arith, c, one, now)
+room_begun live live' spare spare' c (inr room) more = let same = room.1 in let all = room.0 in let most = more.1 in omega (arith, same, all, most)
+
 module _ {D : Type 0} (opens : List Record → Type 0) (tells : Type 0) (told : D → Kept) (may_leave : D → Kept → Type 0) (h h' : List Entry) (m m' : Managed D) (s s' : Listing) (t : RangeLocks) (mark : ℕ) (k : IsOfLife opens tells told may_leave h m s t mark) where
   -- an entry that is no record, and takes nobody's place
   pub life_entry : (t' : RangeLocks) (e : Entry) → h' ≡ h ++ e ∷ [] → log_of (e ∷ []) ≡ [] → AreHeld (h ++ e ∷ []) t' → live_count h' ≡ live_count h → IsOfLife opens tells told may_leave h' m s t' mark
@@ -101,33 +112,32 @@ module _ {D : Type 0} (opens : List Record → Type 0) (tells : Type 0) (told : 
       }
 
   -- room for a commit more
-  life_room : m' ≡ record m { spare = m.spare + 1 } → s' ≡ s → IsOfLife opens tells told may_leave h m' s' t mark
-  life_room room listing =
-      let same : m'.log ≡ m.log = ap (λ (x : Managed D). x.log) room in
+  life_room : m'.log ≡ m.log → HasOneMore m.spare m'.spare → s' ≡ s → IsOfLife opens tells told may_leave h m' s' t mark
+  life_room same room listing =
       record {
         records = λ opening stands. subst (λ (x : Listing). IsLogWith tells told may_leave (may_go_on opening) (life_log opening h) m' x) (sym listing) (same_blocks tells told may_leave (may_go_on opening) (life_log opening h) m m' s (k.records opening stands) same);
         locks = k.locks;
         telling = k.telling;
         places = record {
-          commits = let c = k.places.commits in omega (arith, c, ap (λ (x : Managed D). x.spare) room);
+          commits = room_same (live_count h) m.spare m'.spare k.places.commits room;
           numbers = k.places.numbers;
         };
         durable = λ opening stands tell. subst (λ (l : LogState D). mark ≤ durable_lsn l.places) (sym same) (k.durable opening stands tell);
       }
 
   -- a beginning, or only room for its commit
-  pub life_begin : (session : ℕ) (result : Result ℕ Fault) → m' ≡ record m { spare = m.spare + 1 } → s' ≡ s → m.log.next - 1 < 2 ^ 62 → h' ≡ h ++ begun session result
+  pub life_begin : (session : ℕ) (result : Result ℕ Fault) → m'.log ≡ m.log → HasOneMore m.spare m'.spare → s' ≡ s → m.log.next - 1 < 2 ^ 62 → h' ≡ h ++ begun session result
       → OnOk result ((live_count h' ≡ live_count h + 1) × (live_count h' ≤ 64)) → IsOfLife opens tells told may_leave h' m' s' t mark
-  life_begin session (Err fault) room listing few now live = subst (λ (l : List Entry). IsOfLife opens tells told may_leave l m' s' t mark) (sym (now ∙ append-nil h)) (life_room room listing)
-  life_begin session (Ok tx) room listing few now live =
-      let roomy = life_room room listing in
+  life_begin session (Err fault) same room listing few now live = subst (λ (l : List Entry). IsOfLife opens tells told may_leave l m' s' t mark) (sym (now ∙ append-nil h)) (life_room same room listing)
+  life_begin session (Ok tx) same room listing few now live =
+      let roomy = life_room same room listing in
       let log : (opening : List Record) → life_log opening h' ≡ life_log opening h = λ opening. ap (life_log opening) now ∙ log_same opening h (entries.Began session tx) refl in
       record {
         records = λ opening stands. subst (λ (l : List Record). IsLogWith tells told may_leave (may_go_on opening) l m' s') (sym (log opening)) (roomy.records opening stands);
         locks = λ l. subst (λ (ls : List Held). table.Holds t l ↔ IsAmong (held l.range l.mode) ls) (sym (ap (λ x. taken_locks x l.tx) now ∙ taken_push h (entries.Began session tx) l.tx)) (k.locks l);
         telling = k.telling;
         places = record {
-          commits = let c = k.places.commits in let one = ap (λ (x : Managed D). x.spare) room in let more = live.0 in omega (arith, c, one, more);
+          commits = room_begun (live_count h) (live_count h') m.spare m'.spare k.places.commits room live;
           numbers = λ opening stands. let n = (k.records opening stands).next in let most = live.1 in omega (arith, n, few, most, ap (λ (l : List Record). length l) (log opening));
         };
         durable = roomy.durable;
@@ -249,11 +259,11 @@ ends_acknowledged ended h h1 h2 faults faults' lsn session tx prev k first secon
 -- ---- whole steps
 
 module _ {D : Type 0} (opens : List Record → Type 0) (tells : Type 0) (told : D → Kept) (may_leave : D → Kept → Type 0) (h h' : List Entry) (m m' : Managed D) (s s' : Listing) (t t' : RangeLocks) (mark faults faults' : ℕ) (k : IsKept opens tells told may_leave h m s t mark faults) (same : faults' ≡ faults) where
-  pub kept_begin : (session : ℕ) (result : Result ℕ Fault) → m' ≡ record m { spare = m.spare + 1 } → s' ≡ s → m.log.next - 1 < 2 ^ 62 → h' ≡ h ++ begun session result
+  pub kept_begin : (session : ℕ) (result : Result ℕ Fault) → m'.log ≡ m.log → HasOneMore m.spare m'.spare → s' ≡ s → m.log.next - 1 < 2 ^ 62 → h' ≡ h ++ begun session result
       → OnOk result ((live_count h' ≡ live_count h + 1) × (live_count h' ≤ 64)) → IsKept opens tells told may_leave h' m' s' t mark faults'
-  kept_begin session result room listing few now live = record {
-    life = life_begin opens tells told may_leave h h' m m' s s' t mark k.life session result room listing few now live;
-    ends = subst (λ (e : Option ℕ). EndsByFault e h' faults') (sym (ap (λ (x : Managed D). x.log.ended) room)) (by result now);
+  kept_begin session result same_log room listing few now live = record {
+    life = life_begin opens tells told may_leave h h' m m' s s' t mark k.life session result same_log room listing few now live;
+    ends = subst (λ (e : Option ℕ). EndsByFault e h' faults') (sym (ap (λ (x : LogState D). x.ended) same_log)) (by result now);
   }
     where
       by : (result : Result ℕ Fault) → h' ≡ h ++ begun session result → EndsByFault m.log.ended h' faults'

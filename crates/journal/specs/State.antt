@@ -1,5 +1,5 @@
 -- A journal as contracts see it.
-use Rattle.std.specs.Prelude.{◌≡◌, ◌⊎◌, ℕ, List, Option, Some, IfSome}
+use Rattle.std.specs.Prelude.{◌≡◌, ◌⊎◌, ◌+◌, ◌<◌, ◌≤◌, ℕ, List, Option, Some, IfSome}
 use Rattle.media.specs.Counted.{Armed, Blames}
 use Rattle.page_ops.specs.Seeing.{Account, Calls}
 use Rattle.wal_record.specs.declared.entry.Entry.{Entry}
@@ -8,11 +8,13 @@ use Rattle.wal_record.specs.declared.entry.Entry.{Entry}
 abbrev pub calls_of : {D : Type 0} → (D → Option ℕ) → (D → ℕ) → (D → ℕ) → D → Calls
 calls_of passes refused own disk = record { passes = passes disk; refused = refused disk; own = own disk }
 
--- its history, the LSN up to which the log was durable as the life ended, if it has, and the calls of the log disk
+-- its history, the LSN up to which the log was durable as the life ended, if it has, the calls of the log disk, and for how
+-- many commits the log has room
 pub record JournalState : Type 0 where
   pub history : List Entry
   pub ended : Option ℕ
   pub calls : Calls
+  pub room : ℕ
 
 -- ---- calls of the log disk
 
@@ -28,6 +30,16 @@ ArmsDisk fuses n old new = Armed fuses (λ (c : Calls). c.passes) (λ (c : Calls
 pub record IsUntouched (old new : JournalState) : Type 0 where
   pub ended : new.ended ≡ old.ended
   pub calls : new.calls ≡ old.calls
+
+-- ---- room for commits
+
+-- there is room for one more, where there wasn't for as many as may be live
+abbrev pub HasOneMore : ℕ → ℕ → Type 0
+HasOneMore old new = ((old < 64) × (new ≡ old + 1)) ⊎ ((64 ≤ old) × (new ≡ old))
+
+-- it stays as it was, or there is room for one more, where there wasn't for as many as may be live
+abbrev pub KeepsRoom : ℕ → ℕ → Type 0
+KeepsRoom old new = (new ≡ old) ⊎ ((old < 64) × (new ≡ old + 1))
 
 -- ---- the end
 

@@ -6,7 +6,7 @@ ghost use Rattle.listed_log.specs.Listed.{IsLogWith};
 ghost use Rattle.log_blocks.specs.LogState.{durable_lsn};
 ghost use Rattle.log_blocks.specs.Opening.{IsLogFault};
 ghost use Rattle.log_manager.specs.Managed.{IsNoBadLog, first_kept};
-ghost use Rattle.journal.specs.State.{LearnsEnd};
+ghost use Rattle.journal.specs.State.{HasOneMore, LearnsEnd};
 ghost use Rattle.journal.specs.Stops.{EndsDurably};
 ghost use Rattle.media.specs.Counted.{Blames};
 ghost use Rattle.page_ops.specs.Causes.{IsOpen};
@@ -23,7 +23,7 @@ use media::Disk;
 use page_ops::{Found, Life, LogFaults};
 use std::alloc::Global;
 use std::sync::ledger::Book;
-use store_model::{Fault, Lsn};
+use store_model::{Fault, Lsn, MOST_ACTIVE};
 use wal_record::{Entry, Record};
 
 /// The life goes on, as far as the counts know and the log says. Else it has ended, and the counts know that then.
@@ -50,7 +50,7 @@ pub(crate) fn check_open<L: Disk, N: Life>(
     Ok(())
 }
 
-/// Makes room in the log for one more commit.
+/// Makes room in the log for one more commit, unless it has room for those of as many transactions as may be live.
 pub(crate) fn make_room<L: Disk, N: Life>(
     log: &mut ListedLog<L>,
     faults: &mut Book<LogFaults<N>>,
@@ -59,7 +59,8 @@ pub(crate) fn make_room<L: Disk, N: Life>(
     requires none { log.old.log.log.ended ≡ None → faults.old.total ≡ 0 }
     requires one { is_some log.old.log.log.ended ≡ true → 0 < faults.old.total }
     ensures total { faults.new.total ≡ faults.old.total }
-    ensures ok { OnOk result (log.new ≡ record log.old { log = record log.old.log { spare = log.old.log.spare + 1 } }) }
+    ensures log { (log.new.log.log ≡ log.old.log.log) × (log.new.listing ≡ log.old.listing) }
+    ensures ok { OnOk result (HasOneMore log.old.log.spare log.new.log.spare) }
     ensures few { OnOk result (log.old.log.log.next - 1 < 2 ^ 62) }
     ensures open { OnOk result ((counts.new ≡ counts.old) × IsOpen counts.old) }
     ensures same { OnErr result (log.new ≡ log.old) }
@@ -69,6 +70,9 @@ pub(crate) fn make_room<L: Disk, N: Life>(
     check_open(log, faults, counts)?;
     if log.last() >= MOST {
         return Err(Fault::Memory);
+    }
+    if log.spare() >= MOST_ACTIVE as usize {
+        return Ok(());
     }
     log.reserve_commit()?;
     Ok(())

@@ -30,7 +30,7 @@ ghost use Rattle.wal_record.specs.declared.record.Record.{Record};
 ghost use Rattle.wal_record.specs.declared.record.Record.TheVariants as kinds;
 ghost use Rattle.journal.specs.Declined.{IsDeclined, IsTaken};
 ghost use Rattle.journal.specs.Kept.{IsTold};
-ghost use Rattle.journal.specs.State.{BlamesDisk, IsUntouched, KeepsEnd, LearnsEnd, calls_of};
+ghost use Rattle.journal.specs.State.{BlamesDisk, IsUntouched, KeepsEnd, KeepsRoom, LearnsEnd, calls_of};
 ghost use Rattle.journal.specs.Stops.{AreSafe};
 ghost use Rattle.journal.specs.Groups.{EndsLoser, EndsSession, EntersFilled, EntersNow, GroupFollows, IsCheckpointAlone, IsNext, IsNextPage};
 
@@ -92,7 +92,7 @@ impl<'a, L: Disk, N: Life> Model for Journal<'a, L, N> {
 
     ghost Value = { JournalState };
 
-    ghost view = { λ j. record { history = j.history; ended = j.log.log.log.ended; calls = calls_of L.passes L.refused L.own j.log.log.log.device } };
+    ghost view = { λ j. record { history = j.history; ended = j.log.log.log.ended; calls = calls_of L.passes L.refused L.own j.log.log.log.device; room = j.log.log.spare } };
 
     ghost invariant = { λ j. (j.mark ≡ j.marked) × IsKept N.opens L.tells L.told L.may_leave j.history j.log.log j.log.listing j.locks j.marked j.faults.total × AreRestored j.history j.restored × HasLosers N.opens j.history j.losers × AreSafe N.opens L.told L.may_leave j.history j.log.log.log × EndsDurably j.log.log.log };
 }
@@ -175,7 +175,8 @@ impl<'a, L: Disk, N: Life> Journal<'a, L, N> {
         }
     }
 
-    /// As `Journaling::begin`. It makes the room in the log that the commit needs.
+    /// As `Journaling::begin`. It makes the room in the log that the commit needs, unless there is room for the commits of as
+    /// many transactions as may be live. So begins that are refused never ask the log for more than that.
     pub fn begin(
         &mut self,
         s: &mut SessionRight<N>,
@@ -190,6 +191,7 @@ impl<'a, L: Disk, N: Life> Journal<'a, L, N> {
         ensures crowd { IfErr result (IsCrowd pass.new.log) }
         ensures refused { IfErr result (FailsToEnter OrTooMany) }
         ensures ends { Ends N.opens N.log_faults N.made counts.old counts.new pass.new.log result }
+        ensures room { KeepsRoom self.old.room self.new.room }
         ensures disk { IsUntouched self.old self.new }
         ensures learns { LearnsEnd counts.old counts.new self.new.ended }
     {

@@ -13,11 +13,11 @@ pub invariant_of-self : goal.invariant_of-self
 invariant_of-self g c =
     let room = c.in-Ok.ensures in (
       c.self.invariant.0,
-      kept_begin _ _ _ _ _ _ _ _ _ _ c.self.inside.locks c.self.inside.locks _ _ _ c.self.invariant.1 room.total c.args.s.now.session c.begin.result (ap (λ x. x.log) room.ok) (ap (λ x. x.listing) room.ok) room.few c.begin.ensures.history c.begin.ensures.live,
+      kept_begin _ _ _ _ _ _ _ _ _ _ c.self.inside.locks c.self.inside.locks _ _ _ c.self.invariant.1 room.total c.args.s.now.session c.begin.result room.log.0 room.ok room.log.1 room.few c.begin.ensures.history c.begin.ensures.live,
       restored_begun c.self.inside.history _ c.self.inside.restored c.args.s.now.session c.begin.result c.self.invariant.2 c.begin.ensures.history,
       losers_begun g.N.Life.opens c.self.inside.history _ c.self.inside.losers c.args.s.now.session c.begin.result c.self.invariant.3 c.begin.ensures.history,
-      begun_safe g.N.Life.opens g.L.Disk.told g.L.Disk.may_leave c.self.inside.history _ c.self.inside.log.log.log c.make_room.new.log.log.log c.self.invariant.4 c.args.s.now.session c.begin.result c.begin.ensures.history (ap (λ x. x.log.log) room.ok),
-      durable_same c.self.inside.log.log.log c.make_room.new.log.log.log c.self.invariant.5 (ap (λ x. x.log.log.places) room.ok) (ap (λ x. x.log.log.ended) room.ok),
+      begun_safe g.N.Life.opens g.L.Disk.told g.L.Disk.may_leave c.self.inside.history _ c.self.inside.log.log.log c.make_room.new.log.log.log c.self.invariant.4 c.args.s.now.session c.begin.result c.begin.ensures.history room.log.0,
+      durable_same c.self.inside.log.log.log c.make_room.new.log.log.log c.self.invariant.5 (ap (λ x. x.places) room.log.0) (ap (λ x. x.ended) room.log.0),
     )
 
 pub returns-in-Err-clause-ends : goal.returns-in-Err-clause-ends
