@@ -1,0 +1,5 @@
+mod Lists
+mod Drawing
+mod Suiting
+mod Turning
+mod Adding
