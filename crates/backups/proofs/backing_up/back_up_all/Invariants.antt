@@ -14,5 +14,5 @@ invariant-loop-segment g l = record {
   next : MayGoOn g.N.Life.opens l.since l.backup l.segment l.pass.log;
   desk : KeepsDesk (g.P.Pages.desk l.fn.pages) (g.P.Pages.desk l.pages);
   faults : g.O.Objects.faults l.fn.objects ≤ g.O.Objects.faults l.objects;
-  open : MeetsNoEnd (g.J.Entering.account l.fn.journal) (g.J.Entering.account l.journal);
+  calm : MeetsNoEnd (g.J.Entering.account l.fn.journal) (g.J.Entering.account l.journal);
 }

@@ -15,5 +15,5 @@ invariant-loop-done g l = record {
   desk : KeepsDesk (g.P.Pages.desk l.fn.pages) (g.P.Pages.desk l.pages);
   begins : IsPrefix l.fn.pass.log l.pass.log;
   goes : Goes is_upkeep (known (g.J.Entering.account l.fn.journal) l.fn.pass no_claims) (known (g.J.Entering.account l.journal) l.pass no_claims);
-  open : MeetsNoEnd (g.J.Entering.account l.fn.journal) (g.J.Entering.account l.journal);
+  calm : MeetsNoEnd (g.J.Entering.account l.fn.journal) (g.J.Entering.account l.journal);
 }
