@@ -13,14 +13,14 @@ ghost use Rattle.backups.specs.Backups.{BacksUpOr, FailsToBackUp};
 ghost use Rattle.backups.specs.Copies.{AreMade};
 ghost use Rattle.backups.specs.Going.{HasBackedUpOr, MayGoOn};
 
-use crate::copying::{SEGMENT, copy_segment};
+use crate::copying::copy_segment;
 use backup_set::segment_bytes;
 use front::Pass;
 use named_objects::{Objects, name_object};
 use page_ops::{Journaling, Life, Pages};
 use std::alloc::Global;
 use std::sync::Wait;
-use store_model::{Fault, HIGHEST, Lsn};
+use store_model::{Fault, HIGHEST, Lsn, SEGMENT_PAGES};
 use wal_record::Entry;
 
 /// The number of the next backup. One above the greatest that a record can name is want of memory.
@@ -105,7 +105,7 @@ fn back_up_all<N: Life, J: Journaling<N>, P: Pages<N, J>, O: Objects<N>, R: Wait
     ensures refused { IfErr result (FailsToBackUp N.opens N.log_faults N.made (P.desk pages.old).faults (P.desk pages.new).faults (O.faults objects.old) (O.faults objects.new) (J.account journal.old) (J.account journal.new) pass.new.log) }
 {
     let mut since = since;
-    for segment in 0..most.div_ceil(SEGMENT) {
+    for segment in 0..most.div_ceil(SEGMENT_PAGES) {
         since = back_up_segment(
             rt, alloc, pages, journal, objects, backup, segment, most, since, pass,
         )?;

@@ -16,11 +16,8 @@ use page_image::seal;
 use page_ops::{Entering, Life, Pages};
 use std::alloc::Global;
 use std::sync::Wait;
-use store_model::{Fault, PageNo};
+use store_model::{Fault, PageNo, SEGMENT_PAGES};
 use wal_record::Entry;
-
-/// So many neighbouring pages are a segment.
-pub(crate) const SEGMENT: u32 = 16;
 
 /// Copies the next page of a segment, as it is now: takes it, wherever it is, and puts it back.
 fn copy_page<N: Life, J: Entering<N>, P: Pages<N, J>, R: Wait>(
@@ -74,8 +71,8 @@ pub(crate) fn copy_segment<N: Life, J: Entering<N>, P: Pages<N, J>, R: Wait>(
     ensures open { OnOk result (MeetsNoEnd (J.account journal.old) (J.account journal.new)) }
     ensures refused { IfErr result (FailsToBring N.opens N.log_faults N.made (P.desk pages.old).faults (P.desk pages.new).faults (J.account journal.old) (J.account journal.new) pass.new.log) }
 {
-    let before = segment * SEGMENT;
-    let last = most.min(before.saturating_add(SEGMENT));
+    let before = segment * SEGMENT_PAGES;
+    let last = most.min(before.saturating_add(SEGMENT_PAGES));
     let mut copies = Copies::new(alloc);
     for done in before..last {
         copy_page(rt, alloc, pages, journal, done + 1, &mut copies, pass)?;
