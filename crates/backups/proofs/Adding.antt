@@ -1,6 +1,6 @@
 -- What a backup's calls enter, one behind the other, and why they are refused.
 use Rattle.std.proofs.Common.{◌≡◌, ◌⊎◌, ℕ, suc, ◌+◌, ◌-◌, ◌*◌, ◌<◌, ◌≤◌, cond, eqb, append_assoc, Bool, true, false, List, [], ◌∷◌, ◌++◌, length, map, Option, Some, None, refl, sym, ap, subst, ◌∙◌, arith, append-nil, inl, inr}
-use Rattle.std.specs.Prelude.{IsTrue, is_some, min, ◌==◌, ◌&&◌, ◌||◌, Result, Ok, Err, IfErr, OnOk}
+use Rattle.std.specs.Prelude.{IsTrue, is_some, min, ◌==◌, ◌&&◌, ◌||◌, Result, Ok, Err, IfErr, IfOk, OnOk}
 use Rattle.std.specs.List.{list_all, list_any}
 use Rattle.std.proofs.lemmas.Bool.Decides.{nat_tests}
 use mathlib.Core.List.{IsPrefix}
@@ -38,7 +38,7 @@ use Rattle.page_ops.specs.Groups.{Each}
 use Rattle.page_ops.specs.Names.{LedgerName}
 use Rattle.page_ops.specs.Seeing.{Account, IsConsistent, Keeps, Known, Looks, Upholds, is_upkeep, known}
 use Rattle.page_ops.proofs.Composing.{bring_then}
-use Rattle.page_ops.proofs.Gaining.{gains_of, gains_of_upheld, gains_then, keeps_self, upheld, upheld_then}
+use Rattle.page_ops.proofs.Gaining.{gains_of, gains_of_upheld, gains_then, keeps_self, upheld, upheld_by, upheld_then}
 use Rattle.page_ops.proofs.Staying.{longer_log}
 use Rattle.named_objects.proofs.MadeObjects.{calm_sessions}
 use Rattle.named_objects.specs.Drafts.{FailsToName, NamesOne}
@@ -47,7 +47,7 @@ use Rattle.named_objects.specs.declared.naming.Naming.{Naming}
 use Rattle.named_objects.specs.declared.naming.Naming.TheVariants as namings
 use Rattle.backups.specs.Backups.{AddsTo, BacksUp, BeginsToBackUp, FailsToBackUp, HasPage, IsDurable, IsTold, SomeOf, is_of_backup}
 use Rattle.backups.specs.Copies.{AreDrawn, AreMade, Drawn, WasCurrent, told_of}
-use Rattle.backups.specs.Going.{HasBackedUp}
+use Rattle.backups.specs.Going.{HasBackedUp, HasBackedUpOr}
 use Rattle.backups.proofs.Lists.{all_both, all_more, each_both, each_more, each_of_all, low_or_high, some_left, some_more, some_right}
 
 -- ---- entries of a backup
@@ -188,6 +188,19 @@ module _ (opens : List Record → Type 0) (entries sessions : LedgerName) (backu
           (inl (refl, subst (λ (ts : List PageLsn). IsTold page (head (life_log opening p.log) page) ts) (sym (ap (λ (z : Drawn). z.told) drawn.drawn)) told));
       durable = λ opening stands. each_both (IsDurable s.durable) upkeep.own (Rec lsn (kinds.BackupDone done) ∷ []) (each_of_all is_upkeep (IsDurable s.durable) (upkeep_durable s.durable) upkeep.own upkeep.kinds) (durable opening stands, tt);
     }
+
+    -- whatever becomes of it
+    pub segment_or : (result : Result ℕ Fault) → NamesOne opens entries sessions (namings.Backup done) result (known c r no_claims) (known d s no_claims) → IfOk result (λ lsn. (opening : List Record) → opens opening → lsn ≤ s.durable)
+        → HasBackedUpOr opens entries sessions backup (16 * segment) (min most (16 * segment + 16)) result (known a p no_claims) (known d s no_claims)
+    segment_or (Ok lsn) g durable = segment_done lsn g durable
+    segment_or (Err f) g durable = refused_late f g
+
+-- a first part of the segment's upkeep alone
+pub refused_first : (opens : List Record → Type 0) (entries sessions : LedgerName) (backup : ℕ) (a b : Account) (p q : PassSeen Entry) → Goes is_upkeep (known a p no_claims) (known b q no_claims) → IsSettled opens entries sessions b q.log
+    → (own : List Entry) × AddsTo opens entries sessions backup own (known a p no_claims) (known b q no_claims)
+refused_first opens entries sessions backup a b p q goes settled =
+    let u = upheld_by is_upkeep opens entries sessions (known a p no_claims) (known b q no_claims) goes settled in
+    (u.own, adds_upkeep opens entries sessions backup (known a p no_claims) (known b q no_claims) u)
 
 -- ---- the whole
 
@@ -337,6 +350,11 @@ module _ (opens : List Record → Type 0) (log_faults made : LedgerName) where
   fails_then own own' now v v' w a b c h (faults.LogBad block byte) none keeps more up why = bring_then opens log_faults made a b c h none keeps own own' now (faults.LogBad block byte) more why
   fails_then own own' now v v' w a b c h (faults.VaultBad object byte) none keeps more up why = bring_then opens log_faults made a b c h none keeps own own' now (faults.VaultBad object byte) more why
   fails_then own own' now v v' w a b c h _ none keeps more up why = absurd why
+
+  -- as an object isn't made
+  pub refused_by_name : (result : Result ℕ Fault) (own now : Faults) (v v' w : ℕ) (a b c : Account) (h : List Entry) → MeetsNoEnd a b → Keeps a b → KeepsFaults own now → v ≤ v' → IfErr result (FailsToName opens log_faults made v' w b c h) → IfErr result (FailsToBackUp opens log_faults made own now v w a c h)
+  refused_by_name (Ok x) own now v v' w a b c h none keeps more up why = tt
+  refused_by_name (Err f) own now v v' w a b c h none keeps more up why = fails_then own now now v v' w a b c h f none keeps more up (of_name now now v' w b c h f why)
 
 pub same_faults : (x : Faults) → KeepsFaults x x
 same_faults x = record { log = omega arith; vault = omega arith }

@@ -1,6 +1,6 @@
 -- A backup goes on, segment by segment.
 use Rattle.std.proofs.Common.{◌≡◌, ◌≢◌, ◌⊎◌, ℕ, suc, ◌+◌, ◌<◌, ◌≤◌, cond, eqb, Bool, true, false, List, [], ◌∷◌, ◌++◌, refl, sym, ap, subst, ◌∙◌, arith, inl, inr}
-use Rattle.std.specs.Prelude.{IsTrue, max, ◌||◌, ◌&&◌, ◌==◌}
+use Rattle.std.specs.Prelude.{IsTrue, IfOk, Result, Ok, Err, max, ◌||◌, ◌&&◌, ◌==◌}
 use Rattle.std.specs.List.{list_any}
 use Rattle.std.proofs.lemmas.Bool.Decides.{nat_tests}
 use Rattle.std.proofs.lemmas.List.Folds.{list_any-append}
@@ -21,8 +21,10 @@ use Rattle.wal_record.proofs.Along.{AllAlong_less, by_pushes}
 use Rattle.wal_record.proofs.Pushes.{last_backup_push, log_more, maintenance_push}
 use Rattle.wal_record.specs.Legal.{IsAllowed}
 use Rattle.claim_laws.proofs.Upkeep.{books_law, maintenance_law}
-use Rattle.page_ops.specs.Seeing.{IsConsistent}
-use Rattle.named_objects.specs.Drafts.{WasNamed}
+use Rattle.page_ops.specs.Names.{LedgerName}
+use Rattle.page_ops.specs.Seeing.{IsConsistent, Known}
+use Rattle.store_model.specs.declared.fault.Fault.{Fault}
+use Rattle.named_objects.specs.Drafts.{NamesOne, WasNamed}
 use Rattle.named_objects.specs.Named.{record_of}
 use Rattle.named_objects.specs.declared.naming.Naming.{Naming}
 use Rattle.named_objects.specs.declared.naming.Naming.TheVariants as namings
@@ -132,6 +134,12 @@ next_goes opens since lsn backup segment b h seen now is part m begins consisten
           let g = goes_on opens since backup segment h w.moment m (prefix_trans h seen w.moment begins w.begins) w.at opening stands legal in
           subst (λ (l : List Record). GoesOn l backup (segment + 1)) (sym (log_more opening w.moment lsn (kinds.BackupDone b))) (one_done (life_log opening w.moment) backup segment b is part g);
     }
+
+-- whatever becomes of it
+pub next_or : (opens : List Record → Type 0) (entries sessions : LedgerName) (since backup segment : ℕ) (b : BackupDone) (h seen : List Entry) (old new : Known) (result : Result ℕ Fault) → b.backup ≡ backup → b.segment ≡ segment → MayGoOn opens since backup segment h → IsPrefix h seen
+    → NamesOne opens entries sessions (namings.Backup b) result old new → IfOk result (λ lsn. WasNamed since lsn (namings.Backup b) seen new.log) → IfOk result (λ lsn. MayGoOn opens lsn backup (segment + 1) new.log)
+next_or opens entries sessions since backup segment b h seen old new (Ok lsn) is part m begins e w = next_goes opens since lsn backup segment b h seen new.log is part m begins e.consistent w
+next_or opens entries sessions since backup segment b h seen old new (Err f) is part m begins e w = tt
 
 -- the first segment, once the number was asked for behind that place
 pub begins_at : (opens : List Record → Type 0) (since backup : ℕ) (first seen h : List Entry) → since ≡ maintenance_book first → IsPrefix first seen → IsPrefix seen h → IsConsistent opens seen
