@@ -1,12 +1,10 @@
 -- What a backup's calls enter, one behind the other, and why they are refused.
-use Rattle.std.proofs.Common.{◌≡◌, ◌⊎◌, ℕ, suc, ◌+◌, ◌-◌, ◌*◌, ◌<◌, ◌≤◌, cond, eqb, append_assoc, Bool, true, false, List, [], ◌∷◌, ◌++◌, length, map, Option, Some, None, refl, sym, ap, subst, ◌∙◌, arith, append-nil, inl, inr}
-use Rattle.std.specs.Prelude.{IsTrue, is_some, min, ◌==◌, ◌&&◌, ◌||◌, Result, Ok, Err, IfErr, IfOk, OnOk}
-use Rattle.std.specs.List.{list_all, list_any}
+use Rattle.std.proofs.Common.{◌≡◌, ◌⊎◌, ℕ, ◌+◌, ◌-◌, ◌*◌, ◌<◌, ◌≤◌, cond, eqb, append_assoc, Bool, true, false, List, [], ◌∷◌, ◌++◌, length, map, Option, Some, None, refl, sym, ap, subst, ◌∙◌, arith, append-nil, inl, inr}
+use Rattle.std.specs.Prelude.{is_some, min, ◌&&◌, ◌||◌, Result, Ok, Err, IfErr, IfOk}
 use Rattle.std.proofs.lemmas.Bool.Decides.{nat_tests}
 use mathlib.Core.List.{IsPrefix}
 use Rattle.front.specs.Seen.{PassSeen}
 use Rattle.front.proofs.Keeping.{prefix_trans}
-use Rattle.media.specs.Cause.{Rose}
 use Rattle.store_model.specs.declared.fault.Fault.{Fault}
 use Rattle.store_model.specs.declared.fault.Fault.TheVariants as faults
 use Rattle.wal_record.specs.Chains.{head, names, pages}
@@ -32,7 +30,7 @@ use Rattle.foster_tree.proofs.Causing.{none_then}
 use Rattle.foster_tree.proofs.Made.{made_since}
 use Rattle.page_ops.specs.Causes.{EndsBy, FailsToBring, FailsToEnter, MeetsNoEnd, NoOther}
 use Rattle.page_ops.specs.Claims.{no_claims}
-use Rattle.page_ops.specs.Desks.{Desk, Faults, KeepsFaults}
+use Rattle.page_ops.specs.Desks.{Faults, KeepsFaults}
 use Rattle.page_ops.specs.Gains.{Gains, Goes, IsSettled}
 use Rattle.page_ops.specs.Groups.{Each}
 use Rattle.page_ops.specs.Names.{LedgerName}
@@ -42,8 +40,6 @@ use Rattle.page_ops.proofs.Gaining.{gains_of, gains_of_upheld, gains_then, keeps
 use Rattle.page_ops.proofs.Staying.{longer_log}
 use Rattle.named_objects.proofs.MadeObjects.{calm_sessions}
 use Rattle.named_objects.specs.Drafts.{FailsToName, NamesOne}
-use Rattle.named_objects.specs.Named.{record_of}
-use Rattle.named_objects.specs.declared.naming.Naming.{Naming}
 use Rattle.named_objects.specs.declared.naming.Naming.TheVariants as namings
 use Rattle.backups.specs.Backups.{AddsTo, BacksUp, BeginsToBackUp, FailsToBackUp, HasPage, IsDurable, IsTold, SomeOf, is_of_backup}
 use Rattle.backups.specs.Copies.{AreDrawn, AreMade, Drawn, WasCurrent, told_of}

@@ -1,23 +1,21 @@
 -- A segment's pages are copied one by one.
-use Rattle.std.proofs.Common.{◌≡◌, ◌⊎◌, ℕ, suc, ◌+◌, ◌-◌, ◌*◌, ◌/◌, ◌<◌, ◌≤◌, List, [], ◌∷◌, ◌++◌, length, map, Some, refl, sym, ap, subst, ◌∙◌, arith, inl, inr}
+use Rattle.std.proofs.Common.{◌≡◌, ◌⊎◌, ℕ, ◌+◌, ◌-◌, ◌*◌, ◌/◌, ◌<◌, ◌≤◌, List, [], ◌∷◌, ◌++◌, map, refl, sym, ap, subst, ◌∙◌, arith, inl, inr}
 use Rattle.std.specs.Prelude.{IsTrue}
 use Rattle.std.proofs.lemmas.List.{length_push, map-append}
 use mathlib.Core.List.{IsPrefix}
 use Rattle.front.proofs.Keeping.{prefix_self, prefix_trans}
-use Rattle.wal_record.specs.History.{life_log}
-use Rattle.wal_record.specs.Rules.{is_page, is_number}
+use Rattle.wal_record.specs.Rules.{is_page}
 use Rattle.wal_record.specs.Upkeep.{segment_of}
 use Rattle.wal_record.specs.declared.record.PageLsn.{PageLsn}
 use Rattle.wal_record.specs.declared.record.Record.{Record}
 use Rattle.wal_record.specs.declared.entry.Entry.{Entry}
-use Rattle.backup_set.specs.Backup.{AreCopies, IsAmong, IsCopy, copy_bytes}
+use Rattle.backup_set.specs.Backup.{IsAmong, IsCopy, copy_bytes}
 use Rattle.backup_set.specs.Reading.{last_page}
 use Rattle.backup_set.specs.declared.copy.PageCopy.{PageCopy}
 use Rattle.backup_set.proofs.Walking.{fit_more, last_more}
 use Rattle.foster_tree.specs.Nows.{IsNow}
 use Rattle.page_ops.specs.Groups.{Each}
 use Rattle.page_ops.specs.Hands.{Hand, IsInHand}
-use Rattle.page_ops.specs.Claims.{PageAgrees}
 use Rattle.backups.specs.Copies.{AreDrawn, Drawn, HasOneMore, IsCurrent, WasCurrent, drawn_of, nothing_drawn, told_of}
 use Rattle.backups.proofs.Lists.{among_last, among_left, each_both, each_more, low_or_high}
 

@@ -1,6 +1,6 @@
 -- A record that names the copies of a segment suits, and its object has them.
-use Rattle.std.proofs.Common.{◌≡◌, ◌≢◌, ℕ, zero, suc, ◌+◌, ◌-◌, ◌*◌, ◌<◌, ◌≤◌, eqb, Bool, true, false, List, [], ◌∷◌, ◌++◌, length, map, take, Option, Some, refl, sym, ap, subst, ◌∙◌, arith}
-use Rattle.std.specs.Prelude.{IsTrue, ◌&&◌, ◌==◌, ◌^◌, nat_lt, min, not, slice_get}
+use Rattle.std.proofs.Common.{◌≡◌, ◌≢◌, ℕ, ◌-◌, ◌*◌, ◌<◌, ◌≤◌, true, List, [], ◌∷◌, ◌++◌, length, map, take, Option, Some, refl, sym, ap, subst, ◌∙◌, arith}
+use Rattle.std.specs.Prelude.{IsTrue, ◌&&◌, ◌==◌, ◌^◌, nat_lt, not, slice_get}
 use Rattle.std.specs.List.{list_all}
 use Rattle.std.specs.Option.{option_map_or}
 use Rattle.std.proofs.lemmas.Bool.Decides.{nat_tests}
@@ -17,7 +17,6 @@ use Rattle.wal_record.specs.OpenWrites.{has_items}
 use Rattle.wal_record.specs.Rules.{HasSpelling, is_number, is_page, is_page_count, page_lsn_fits, rises_above}
 use Rattle.wal_record.specs.Sound.{are_images}
 use Rattle.wal_record.specs.Upkeep.{segment_of}
-use Rattle.wal_record.specs.declared.record.BackupDone.{BackupDone}
 use Rattle.wal_record.specs.declared.record.PageLsn.{PageLsn}
 use Rattle.wal_record.specs.declared.record.Record.{Record}
 use Rattle.wal_record.specs.declared.record.Record.TheVariants as kinds
@@ -25,16 +24,14 @@ use Rattle.wal_record.specs.declared.entry.Entry.{Entry}
 use Rattle.chain_laws.proofs.Named.{head_in, head_named, image_stays, named_kept}
 use Rattle.claim_laws.specs.Suiting.{Suits}
 use Rattle.page_ops.specs.Groups.{Each}
-use Rattle.page_ops.specs.Seeing.{IsConsistent}
 use Rattle.page_ops.proofs.Staying.{longer_log}
-use Rattle.backup_set.specs.Backup.{AreCopies, IsAmong, IsCopy, copy_bytes, object_bytes}
+use Rattle.backup_set.specs.Backup.{AreCopies, object_bytes}
 use Rattle.backup_set.specs.declared.copy.PageCopy.{PageCopy}
 use Rattle.named_objects.specs.Named.{AreCopiesOf, IsCopyOf, Tells, record_of}
 use Rattle.named_objects.specs.declared.naming.Naming.{Naming}
 use Rattle.named_objects.specs.declared.naming.Naming.TheVariants as namings
-use Rattle.backups.specs.Copies.{AreDrawn, Drawn, IsCurrent, WasCurrent, drawn_of, pages_in, told_of}
+use Rattle.backups.specs.Copies.{AreDrawn, Drawn, WasCurrent, pages_in, told_of}
 use Rattle.backups.specs.Going.{GoesOn}
-use Rattle.backups.proofs.Lists.{each_more}
 
 -- ---- one copy
 

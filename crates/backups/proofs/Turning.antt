@@ -1,5 +1,5 @@
 -- A backup goes on, segment by segment.
-use Rattle.std.proofs.Common.{◌≡◌, ◌≢◌, ◌⊎◌, ℕ, suc, ◌+◌, ◌<◌, ◌≤◌, cond, eqb, Bool, true, false, List, [], ◌∷◌, ◌++◌, refl, sym, ap, subst, ◌∙◌, arith, inl, inr}
+use Rattle.std.proofs.Common.{◌≡◌, ℕ, suc, ◌+◌, ◌<◌, eqb, Bool, true, false, List, [], ◌∷◌, ◌++◌, refl, sym, ap, subst, ◌∙◌, arith}
 use Rattle.std.specs.Prelude.{IsTrue, IfOk, Result, Ok, Err, max, ◌||◌, ◌&&◌, ◌==◌}
 use Rattle.std.specs.List.{list_any}
 use Rattle.std.proofs.lemmas.Bool.Decides.{nat_tests}
@@ -8,7 +8,7 @@ use mathlib.Core.List.{IsPrefix}
 use Rattle.front.proofs.Keeping.{prefix_trans}
 use Rattle.wal_record.specs.Books.{maintenance_book}
 use Rattle.wal_record.specs.Checkpoints.{analysis_of}
-use Rattle.wal_record.specs.History.{life_log, log_of}
+use Rattle.wal_record.specs.History.{life_log}
 use Rattle.wal_record.specs.Legal.{IsLegal}
 use Rattle.wal_record.specs.Upkeep.{backs_up, backup_number, last_backup}
 use Rattle.wal_record.specs.declared.analysis.Analysis.{Analysis}
@@ -25,8 +25,6 @@ use Rattle.page_ops.specs.Names.{LedgerName}
 use Rattle.page_ops.specs.Seeing.{IsConsistent, Known}
 use Rattle.store_model.specs.declared.fault.Fault.{Fault}
 use Rattle.named_objects.specs.Drafts.{NamesOne, WasNamed}
-use Rattle.named_objects.specs.Named.{record_of}
-use Rattle.named_objects.specs.declared.naming.Naming.{Naming}
 use Rattle.named_objects.specs.declared.naming.Naming.TheVariants as namings
 use Rattle.backups.specs.Going.{GoesOn, MayGoOn}
 

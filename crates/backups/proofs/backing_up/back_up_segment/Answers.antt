@@ -1,8 +1,7 @@
-use Rattle.std.proofs.Common.{◌≡◌, ◌+◌, ◌*◌, ◌^◌, ◌<◌, ℕ, List, ap, refl, sym, subst, ◌∙◌, arith}
+use Rattle.std.proofs.Common.{◌≡◌, ap, refl, sym, subst, ◌∙◌, arith}
 use Rattle.std.specs.Prelude.{IfOk}
 use Rattle.std.proofs.lemmas.Bool.Decides.{nat_tests}
 use Rattle.std.proofs.lemmas.Result.{err_from_is_err_and}
-use mathlib.Core.List.{IsPrefix}
 use Rattle.front.proofs.Keeping.{prefix_trans}
 use Rattle.foster_tree.proofs.Causing.{none_then}
 use Rattle.page_ops.proofs.Gaining.{keeps_then}
@@ -10,7 +9,6 @@ use Rattle.wal_record.specs.Books.{maintenance_book}
 use Rattle.wal_record.specs.History.{life_log}
 use Rattle.wal_record.specs.Rules.{HasSpelling}
 use Rattle.wal_record.specs.declared.record.BackupDone.{BackupDone}
-use Rattle.wal_record.specs.declared.entry.Entry.{Entry}
 use Rattle.claim_laws.specs.Suiting.{Suits}
 use Rattle.page_ops.specs.Claims.{no_claims}
 use Rattle.page_ops.specs.Seeing.{known}

@@ -1,5 +1,4 @@
-use Rattle.std.proofs.Common.{◌≡◌, ◌+◌, ◌-◌, ◌*◌, ◌<◌, ℕ, ap, sym, subst, ◌∙◌, arith}
-use Rattle.std.specs.Prelude.{min}
+use Rattle.std.proofs.Common.{◌+◌, ◌<◌, sym, subst, arith}
 use Rattle.std.proofs.lemmas.Result.{err_from_is_err_and}
 use Rattle.front.proofs.Keeping.{prefix_self, prefix_trans}
 use Rattle.page_ops.specs.Seeing.{is_upkeep}
@@ -7,7 +6,7 @@ use Rattle.page_ops.proofs.Gaining.{goes_self, goes_then}
 use Rattle.foster_tree.proofs.Causing.{none_met, none_then, refused_then}
 use Rattle.foster_tree.proofs.Desks.{desk_same, desk_then}
 use Rattle.foster_tree.proofs.Made.{made_since}
-use Rattle.backups.specs.Copies.{AreDrawn, Drawn, pages_in}
+use Rattle.backups.specs.Copies.{AreDrawn, Drawn}
 use Rattle.backups.proofs.Drawing.{nothing, more}
 use Rattle.backups.proofs.copying.copy_segment.Goals as goal
 
