@@ -1,5 +1,5 @@
 //! The order of two texts.
-ghost use Rattle.std.specs.Prelude.{◌≡◌};
+ghost use Rattle.std.specs.Prelude.{◌≡◌, ◌<◌, length};
 ghost use Rattle.std.specs.Ordering.{nat_cmp};
 ghost use Rattle.std.specs.Cmp.Lexicographic.{slice_cmp};
 ghost use Rattle.text_order.specs.Words.{word};
@@ -12,6 +12,17 @@ fn word_of(text: &[u8]) -> u64
 {
     match text {
         [a, b, c, d, e, f, g, h, ..] => u64::from_be_bytes([*a, *b, *c, *d, *e, *f, *g, *h]),
+        _ => short_word(text),
+    }
+}
+
+/// The same of fewer bytes. It is a call of its own, so that longer texts aren't asked for each length.
+#[inline(never)]
+fn short_word(text: &[u8]) -> u64
+    requires { length text.now < 8 }
+    ensures { result ≡ word 8 text.now }
+{
+    match text {
         [a, b, c, d, e, f, g] => u64::from_be_bytes([*a, *b, *c, *d, *e, *f, *g, 0]),
         [a, b, c, d, e, f] => u64::from_be_bytes([*a, *b, *c, *d, *e, *f, 0, 0]),
         [a, b, c, d, e] => u64::from_be_bytes([*a, *b, *c, *d, *e, 0, 0, 0]),
@@ -19,7 +30,7 @@ fn word_of(text: &[u8]) -> u64
         [a, b, c] => u64::from_be_bytes([*a, *b, *c, 0, 0, 0, 0, 0]),
         [a, b] => u64::from_be_bytes([*a, *b, 0, 0, 0, 0, 0, 0]),
         [a] => u64::from_be_bytes([*a, 0, 0, 0, 0, 0, 0, 0]),
-        [] => 0,
+        _ => 0,
     }
 }
 
