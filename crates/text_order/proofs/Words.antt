@@ -67,6 +67,14 @@ step w x y m n h k = by (nat_cmp x y) (ranked x y (nat_cmp x y) refl)
     by Equal same = ap (λ (z : ℕ). nat_cmp (x * w + m) (z * w + n)) (sym same) ∙ shifted (x * w) m n
     by Greater l = is_greater _ _ (outweighs w y x n m l k)
 
+pub same_number : (x y : ℕ) → nat_cmp x y ≡ Equal → x ≡ y
+same_number x y e = by (nat_cmp x y) e (ranked x y (nat_cmp x y) refl)
+  where
+    by : (o : Ordering) → o ≡ Equal → MatchOrdering o (x < y) (x ≡ y) (y < x) → x ≡ y
+    by Less f m = absurd cc
+    by Equal f m = m
+    by Greater f m = absurd cc
+
 then_assoc : (a b c : Ordering) → ordering_then a (ordering_then b c) ≡ ordering_then (ordering_then a b) c
 then_assoc Less b c = refl
 then_assoc Equal b c = refl

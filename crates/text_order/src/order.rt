@@ -1,22 +1,26 @@
 //! The order of two texts.
-ghost use Rattle.std.specs.Prelude.{◌≡◌, ◌<◌, length};
+ghost use Rattle.std.specs.Prelude.{◌≡◌, ◌<◌, IfNone, IfSome, length};
 ghost use Rattle.std.specs.Ordering.{nat_cmp};
 ghost use Rattle.std.specs.Cmp.Lexicographic.{slice_cmp};
 ghost use Rattle.text_order.specs.Words.{word};
 
 use std::cmp::Ordering;
 
-/// The first eight bytes as a number, the first one greatest. Zeros stand for those that lack.
-fn word_of(text: &[u8]) -> u64
-    ensures { result ≡ word 8 text.now }
+/// The first eight bytes as a number, the first one greatest, if there are so many.
+fn first_word(text: &[u8]) -> Option<u64>
+    ensures value { IfSome result (λ n. n ≡ word 8 text.now) }
+    ensures short { IfNone result (length text.now < 8) }
 {
     match text {
-        [a, b, c, d, e, f, g, h, ..] => u64::from_be_bytes([*a, *b, *c, *d, *e, *f, *g, *h]),
-        _ => short_word(text),
+        [a, b, c, d, e, f, g, h, ..] => {
+            Some(u64::from_be_bytes([*a, *b, *c, *d, *e, *f, *g, *h]))
+        }
+        _ => None,
     }
 }
 
-/// The same of fewer bytes. It is a call of its own, so that longer texts aren't asked for each length.
+/// The same of fewer bytes, with zeros for those that lack. It is a call of its own, so that longer texts aren't asked for each
+/// length.
 #[inline(never)]
 fn short_word(text: &[u8]) -> u64
     requires { length text.now < 8 }
@@ -34,8 +38,29 @@ fn short_word(text: &[u8]) -> u64
     }
 }
 
-/// The order of two texts.
+/// The word of a text of any length.
+fn word_of(text: &[u8]) -> u64
+    ensures { result ≡ word 8 text.now }
+{
+    match first_word(text) {
+        Some(word) => word,
+        None => short_word(text),
+    }
+}
+
+/// The order of two texts. Most differ in their first eight bytes, so these are compared first, and in few instructions.
 pub fn compare_texts(a: &[u8], b: &[u8]) -> Ordering
+    ensures { result ≡ slice_cmp nat_cmp a.now b.now }
+{
+    match (first_word(a), first_word(b)) {
+        (Some(x), Some(y)) if x != y => x.cmp(&y),
+        _ => compare_by_words(a, b),
+    }
+}
+
+/// The order of two texts, word by word. It is a call of its own, so that the comparison above is made where it is wanted.
+#[inline(never)]
+fn compare_by_words(a: &[u8], b: &[u8]) -> Ordering
     ensures { result ≡ slice_cmp nat_cmp a.now b.now }
 {
     let (mut left, mut right) = (a, b);

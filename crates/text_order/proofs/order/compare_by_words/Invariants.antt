@@ -2,7 +2,7 @@ use Rattle.std.proofs.Common.{◌≡◌, length}
 use Rattle.std.specs.Ordering.{nat_cmp}
 use Rattle.std.specs.Cmp.Lexicographic.{slice_cmp}
 use Rattle.text_order.proofs.Words.{AreBytes}
-use Rattle.text_order.proofs.order.compare_texts.Given as goal
+use Rattle.text_order.proofs.order.compare_by_words.Given as goal
 
 -- what is left to compare is ordered as the texts are
 abbrev pub invariant-loop-left : goal.invariant-loop-left
