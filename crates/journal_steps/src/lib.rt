@@ -1,0 +1,16 @@
+//! What tests ask of a journal, step by step, and what it tells of that, as text.
+//!
+//! The steps know the journal by its traits alone, so they are proved over any, and the crates of tests have tables and concrete
+//! types only. No opening log is told: what a group needs beside its form and its rights is then no matter of the caller's.
+//! Page 1 stands for all pages.
+#![tactic(auto)]
+
+mod answers;
+mod calls;
+mod ended;
+mod entering;
+mod groups;
+mod steps;
+
+pub use calls::Hands;
+pub use steps::{Line, Step, first_other};
