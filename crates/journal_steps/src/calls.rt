@@ -10,7 +10,7 @@ use wal_record::Entry;
 
 /// The rights to page 1 and to the sessions of a life.
 #[derive(Drop)]
-pub struct Hands<N: Life> {
+pub(crate) struct Hands<N: Life> {
     pub(crate) page: Option<PageRight<N>>,
     pub(crate) sessions: Vec<SessionRight<N>>,
 }
@@ -29,7 +29,7 @@ fn place_of<N: Life>(sessions: &[SessionRight<N>], tx: TxId) -> Option<usize> {
 
 impl<N: Life> Hands<N> {
     /// Those of a life without sessions.
-    pub fn new(alloc: Global, page: Option<PageRight<N>>) -> Hands<N> {
+    pub(crate) fn new(alloc: Global, page: Option<PageRight<N>>) -> Hands<N> {
         Hands {
             page,
             sessions: Vec::new(alloc),
@@ -65,6 +65,21 @@ impl<N: Life> Hands<N> {
     }
 }
 
+/// A new session begins a transaction. It is kept, also where it has none.
+fn begin_one<N: Life, J: Journaling<N>, R: Wait>(
+    rt: &R,
+    alloc: Global,
+    journal: &mut J,
+    hands: &mut Hands<N>,
+    pass: &mut Pass<Entry, N>,
+) -> Result<TxId, Fault> {
+    hands.sessions.reserve(1)?;
+    let mut s = journal.session(rt, alloc, pass)?;
+    let begun = journal.begin(rt, alloc, &mut s, pass);
+    hands.sessions.push(s)?;
+    begun
+}
+
 /// A new session begins a transaction.
 pub(crate) fn begin<N: Life, J: Journaling<N>, R: Wait>(
     rt: &R,
@@ -73,11 +88,25 @@ pub(crate) fn begin<N: Life, J: Journaling<N>, R: Wait>(
     hands: &mut Hands<N>,
     pass: &mut Pass<Entry, N>,
 ) -> Result<String, Fault> {
-    hands.sessions.reserve(1)?;
-    let mut s = journal.session(rt, alloc, pass)?;
-    let begun = journal.begin(rt, alloc, &mut s, pass);
-    hands.sessions.push(s)?;
+    let begun = begin_one(rt, alloc, journal, hands, pass);
     begun_text(alloc, begun)
+}
+
+/// As many begin as may, up to 100. What the next one is told.
+pub(crate) fn begin_all<N: Life, J: Journaling<N>, R: Wait>(
+    rt: &R,
+    alloc: Global,
+    journal: &mut J,
+    hands: &mut Hands<N>,
+    pass: &mut Pass<Entry, N>,
+) -> Result<String, Fault> {
+    for _ in 0..100 {
+        let told = begin(rt, alloc, journal, hands, pass)?;
+        if told.as_str() == "too many" {
+            return Ok(told);
+        }
+    }
+    Ok(format!(in alloc; "all begin")?)
 }
 
 /// Locks a range for the session's transaction.

@@ -12,5 +12,4 @@ mod entering;
 mod groups;
 mod steps;
 
-pub use calls::Hands;
-pub use steps::{Line, Step, first_other};
+pub use steps::{Line, Step, play};

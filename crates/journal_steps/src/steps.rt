@@ -2,9 +2,10 @@
 ghost use Rattle.std.specs.Prelude.{List};
 ghost use Rattle.wal_record.specs.declared.record.Record.{Record};
 
-use crate::calls::{Hands, begin, commit, lock};
+use crate::calls::{Hands, begin, begin_all, commit, lock};
 use crate::ended::calls_ended;
 use crate::entering::{Change, end, lose, miss, put, restore, undo};
+use books::PageRight;
 use front::Pass;
 use page_ops::{Journaling, Life};
 use std::alloc::Global;
@@ -17,6 +18,8 @@ use wal_record::Entry;
 pub enum Step<'a> {
     /// A new session begins a transaction.
     Begin,
+    /// As many begin as may, up to 100. What the next one is told.
+    Begins,
     /// Locks a key.
     Lock(TxId, Mode, &'a str),
     /// Locks the keys from one on and below another, or above all where that is empty.
@@ -140,6 +143,7 @@ fn answer<N: Life, J: Journaling<N>, R: Wait>(
 {
     match step {
         Step::Begin => begin(rt, alloc, journal, hands, pass),
+        Step::Begins => begin_all(rt, alloc, journal, hands, pass),
         Step::Lock(tx, mode, key) => lock_key(rt, alloc, journal, hands, tx, key, mode, pass),
         Step::Scan(tx, mode, low, high) => {
             let range = range_of(low, high);
@@ -181,7 +185,7 @@ fn tell<N: Life, J: Journaling<N>, R: Wait>(
 
 /// The first step that answers otherwise than it should, counted from 1, and what it answers. Nothing where each answers as it
 /// should.
-pub fn first_other<N: Life, J: Journaling<N>, R: Wait>(
+fn first_other<N: Life, J: Journaling<N>, R: Wait>(
     rt: &R,
     alloc: Global,
     journal: &mut J,
@@ -200,4 +204,19 @@ pub fn first_other<N: Life, J: Journaling<N>, R: Wait>(
         }
     }
     Ok(String::new(alloc))
+}
+
+/// Plays the lines in a life that has just begun, with the right to page 1 if it has that page. As [`first_other`].
+pub fn play<N: Life, J: Journaling<N>, R: Wait>(
+    rt: &R,
+    alloc: Global,
+    journal: &mut J,
+    page: Option<PageRight<N>>,
+    lines: &[Line<'_>],
+    pass: &mut Pass<Entry, N>,
+) -> Result<String, Fault>
+    requires untold { (opening : List Record) → N.opens opening → ⊥ }
+{
+    let mut hands = Hands::new(alloc, page);
+    first_other(rt, alloc, journal, &mut hands, lines, pass)
 }

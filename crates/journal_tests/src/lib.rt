@@ -1,16 +1,17 @@
-//! The journal of one thread on a log in memory, through its traits.
+//! The journal of one thread on a log disk in memory, through its traits.
 //!
-//! The crate has tests alone, since a crate with tests is proved a second time with them. No opening log is told. What is
-//! expected was worked out by hand: each call's answer tells where its entry stands in the history.
+//! The crate has tests alone, since a crate with tests is proved a second time with them. Each plays a table of steps
+//! (`journal_steps`) in a life that is opened from its log disk. What is expected was worked out by hand: each call's answer,
+//! and the number of the entries behind it. No opening log is told.
 #![tactic(auto)]
 
 #[cfg(test)]
-mod ends;
-#[cfg(test)]
-mod life;
+mod lives;
 #[cfg(test)]
 mod locks;
 #[cfg(test)]
-mod restores;
+mod losers;
 #[cfg(test)]
-mod runs;
+mod tests;
+#[cfg(test)]
+mod writes;

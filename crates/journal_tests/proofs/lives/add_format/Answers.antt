@@ -2,7 +2,7 @@ use Rattle.std.proofs.Common.{[], arith, length-append}
 use Rattle.std.specs.Int.{w32}
 use Rattle.wal_record.specs.Spelling.{number_bytes}
 use Rattle.log_manager.proofs.Taking.{length-u32}
-use Rattle.journal_tests.proofs.life.add_format.Goals as goal
+use Rattle.journal_tests.proofs.lives.add_format.Goals as goal
 
 pub append_group-requires-clause-size : goal.append_group-requires-clause-size
 append_group-requires-clause-size c = omega (arith, length-append (number_bytes w32 c.args.limit) [], length-u32 c.args.limit)
