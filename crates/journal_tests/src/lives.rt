@@ -27,7 +27,7 @@ fn add_format<L: Disk>(alloc: Global, log: &mut ListedLog<L>, limit: u32) -> boo
     requires limit { IsTrue (is_limit limit) }
 {
     let format = [Record::Format(Format { limit })];
-    log.append_group(alloc, &format).is_ok() && log.flush_to(1).is_ok()
+    log.append_group(alloc, &format).is_ok() && log.last() == 1 && log.flush_to(1).is_ok()
 }
 
 /// This disk, which is empty, with a log of one record, a Format with this limit.

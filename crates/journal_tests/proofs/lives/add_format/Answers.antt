@@ -5,4 +5,4 @@ use Rattle.log_manager.proofs.Taking.{length-u32}
 use Rattle.journal_tests.proofs.lives.add_format.Goals as goal
 
 pub append_group-requires-clause-size : goal.append_group-requires-clause-size
-append_group-requires-clause-size c = omega (arith, length-append (number_bytes w32 c.args.limit) [], length-u32 c.args.limit)
+append_group-requires-clause-size g c = omega (arith, length-append (number_bytes w32 c.args.limit) [], length-u32 c.args.limit)
