@@ -10,7 +10,7 @@ mod lives;
 #[cfg(test)]
 mod locks;
 #[cfg(test)]
-mod losers;
+mod loser_lives;
 #[cfg(test)]
 mod tests;
 #[cfg(test)]

@@ -1,7 +1,7 @@
 //! Each table of steps, and faults of the log disk in a commit.
 use crate::lives::{Asked, formatted, live};
 use crate::locks::{A_SCAN, AN_END, BEGINS, LEAST_HOLDER};
-use crate::losers::{LOSERS, LOSERS_LEFT, LOSERS_UNDONE, TWO_RESTORES};
+use crate::loser_lives::{LOSERS, LOSERS_LEFT, LOSERS_UNDONE, TWO_RESTORES};
 use crate::writes::{FAILED_COMMIT, FULL, THREE_WRITES, UNDONE_IN_PART};
 use journal_steps::Line;
 use std::alloc::Global;
