@@ -1,10 +1,11 @@
 -- What a page that is written to the data device enters, and what becomes of it.
-use Rattle.std.specs.Prelude.{◌≡◌, ℕ, List, [], ◌∷◌, Bool, true, false, Result, Ok, Err, None, if◌then◌else◌}
+use Rattle.std.specs.Prelude.{◌≡◌, ℕ, List, [], ◌∷◌, Bool, true, false, Option, Some, None, Result, Ok, Err, if◌then◌else◌}
 use Rattle.store_model.specs.declared.fault.Fault.{Fault}
 use Rattle.wal_record.specs.declared.record.Record.{Record}
 use Rattle.wal_record.specs.declared.record.Record.TheVariants as kinds
 use Rattle.wal_record.specs.declared.entry.Entry.{Entry}
 use Rattle.wal_record.specs.declared.entry.Entry.TheVariants as entries
+use Rattle.page_image.specs.Image.{image_bytes}
 use Rattle.page_ops.specs.Desks.{Faults}
 use Rattle.page_ops.specs.Hands.{Hand}
 use Rattle.page_ops.specs.Names.{LedgerName}
@@ -55,6 +56,14 @@ written_out page at (Full h) Kept = []
 written_out page at (Full h) Empty = []
 written_out page at Kept now = []
 written_out page at Empty now = []
+
+-- what the data device was given last of a page that was dirty in its frame and is there still: the page's image at its LSN
+abbrev pub HasImageOf : ℕ → Frame Hand → Frame Hand → Option (List ℕ) → Type 0
+HasImageOf page (Full h) (Full now) newest = h.dirty ≡ true → newest ≡ Some (image_bytes page h.lsn h.state)
+HasImageOf page (Full h) Kept newest = Unit {0}
+HasImageOf page (Full h) Empty newest = Unit {0}
+HasImageOf page Kept now newest = Unit {0}
+HasImageOf page Empty now newest = Unit {0}
 
 -- That, and nothing else, was entered; after a refusal nothing.
 abbrev pub WritesOut : {T : Type 0} → (List Record → Type 0) → LedgerName → LedgerName → ℕ → Result T Fault → Table → Table → Known → Known → Type 0

@@ -5,10 +5,11 @@ ghost use Rattle.page_ops.specs.Causes.{FailsToBring, FailsToReserve, MeetsNoEnd
 ghost use Rattle.page_ops.specs.Claims.{no_claims};
 ghost use Rattle.page_ops.specs.Desks.{KeepsFaults};
 ghost use Rattle.page_ops.specs.Seeing.{Upholds, is_upkeep, known};
+ghost use Rattle.page_repair.specs.Images.{SameOthers};
 ghost use Rattle.buffer_pool.specs.Brings.{Brings, Renews};
 ghost use Rattle.buffer_pool.specs.Repairs.{Repairs};
 ghost use Rattle.buffer_pool.specs.Tables.{Stays, Stores, frame_of, is_dirty, is_full};
-ghost use Rattle.buffer_pool.specs.Writes.{WritesOut, is_written, no_faults};
+ghost use Rattle.buffer_pool.specs.Writes.{HasImageOf, WritesOut, is_written, no_faults};
 
 use crate::bringing::{anew, brought};
 use crate::dropping::into_right;
@@ -128,6 +129,8 @@ pub(crate) fn store<N: Life, J: Entering<N>, I: Images<N>, R: Wait>(
     ensures stored { OnOk result (Stores page frames.old frames.new) }
     ensures dropped { OnOk result ((is_full (frame_of frames.new page) ≡ is_full (frame_of frames.old page)) ⊎ Rose (I.faults images.old) (I.faults images.new)) }
     ensures same { OnErr result (Stays frames.old frames.new) }
+    ensures image { I.tells → OnOk result (HasImageOf page (frame_of frames.old page) (frame_of frames.new page) (I.newest images.new page)) }
+    ensures images { I.tells → SameOthers I.newest page images.old images.new }
     ensures writes { WritesOut N.opens N.entries N.session_entries page result frames.old frames.new (known (J.account journal.old) pass.old no_claims) (known (J.account journal.new) pass.new no_claims) }
     ensures entered { Upholds N.opens N.entries N.session_entries is_written (known (J.account journal.old) pass.old no_claims) (known (J.account journal.new) pass.new no_claims) }
     ensures open { OnOk result (MeetsNoEnd (J.account journal.old) (J.account journal.new)) }

@@ -9,11 +9,12 @@ ghost use Rattle.page_ops.specs.Claims.{IsInRange, no_claims};
 ghost use Rattle.page_ops.specs.Desks.{IsMade, KeepsFaults};
 ghost use Rattle.page_ops.specs.Hands.{Hand};
 ghost use Rattle.page_ops.specs.Seeing.{Upholds, is_upkeep, known};
+ghost use Rattle.page_repair.specs.Images.{SameOthers};
 ghost use Rattle.restart.specs.Plans.{Comes, IsNextAwaiting};
 ghost use Rattle.buffer_pool.specs.Brings.{Brings, Renews};
 ghost use Rattle.buffer_pool.specs.Repairs.{Repairs};
 ghost use Rattle.buffer_pool.specs.Tables.{IsNextDirty, Loses, Stays, Stores, frame_of, is_dirty, is_full};
-ghost use Rattle.buffer_pool.specs.Writes.{WritesOut, is_written, no_faults};
+ghost use Rattle.buffer_pool.specs.Writes.{HasImageOf, WritesOut, is_written, no_faults};
 ghost use Rattle.buffer_pool.specs.declared.frame.Frame.TheVariants.{Empty};
 
 use crate::frames::Frames;
@@ -117,6 +118,8 @@ impl<I: Images<N>, S, N: Life> PlainPool<I, S, N> {
         ensures dropped { OnOk result ((is_full (frame_of self.new.frames page) ≡ is_full (frame_of self.old.frames page)) ⊎ Rose (I.faults self.old.images) (I.faults self.new.images)) }
         ensures same { OnErr result (Stays self.old.frames self.new.frames) }
         ensures others { (self.new.out ≡ self.old.out) × (self.new.reserves ≡ self.old.reserves) × (self.new.supply ≡ self.old.supply) × (self.new.plan ≡ self.old.plan) }
+        ensures image { I.tells → OnOk result (HasImageOf page (frame_of self.old.frames page) (frame_of self.new.frames page) (I.newest self.new.images page)) }
+        ensures images { I.tells → SameOthers I.newest page self.old.images self.new.images }
         ensures writes { WritesOut N.opens N.entries N.session_entries page result self.old.frames self.new.frames (known (J.account journal.old) pass.old no_claims) (known (J.account journal.new) pass.new no_claims) }
         ensures entered { Upholds N.opens N.entries N.session_entries is_written (known (J.account journal.old) pass.old no_claims) (known (J.account journal.new) pass.new no_claims) }
         ensures open { OnOk result (MeetsNoEnd (J.account journal.old) (J.account journal.new)) }

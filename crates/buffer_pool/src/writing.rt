@@ -1,9 +1,11 @@
 //! A page on its way to the data device.
-ghost use Rattle.std.specs.Prelude.{◌≡◌, ◌≤◌, false, IfOk, IfErr, IsTrue, OnErr, OnOk};
+ghost use Rattle.std.specs.Prelude.{◌≡◌, ◌≤◌, false, true, Some, IfOk, IfErr, IsTrue, OnErr, OnOk};
 ghost use Rattle.media.specs.Cause.{Rose};
 ghost use Rattle.page_ops.specs.Causes.{FailsToReserve, MeetsNoEnd};
 ghost use Rattle.page_ops.specs.Claims.{no_claims};
 ghost use Rattle.page_ops.specs.Seeing.{Upholds, is_none, known};
+ghost use Rattle.page_image.specs.Image.{image_bytes};
+ghost use Rattle.page_repair.specs.Images.{SameOthers};
 ghost use Rattle.page_repair.specs.Supplies.{IsHead};
 ghost use Rattle.wal_record.specs.Rules.{is_number, is_page};
 ghost use Rattle.buffer_pool.specs.Writes.{EntersWritten, IsWrittenAs, is_written, no_faults, written_group};
@@ -30,6 +32,8 @@ pub(crate) fn write_page<N: Life, J: Entering<N>, I: Images<N>, R: Wait>(
     ensures written { IsWrittenAs result held.old held.new }
     ensures enters { EntersWritten N.opens N.entries N.session_entries held.old.page held.old.lsn result (known (J.account journal.old) pass.old no_claims) (known (J.account journal.new) pass.new no_claims) }
     ensures entered { Upholds N.opens N.entries N.session_entries is_written (known (J.account journal.old) pass.old no_claims) (known (J.account journal.new) pass.new no_claims) }
+    ensures image { I.tells → IfOk result (λ done. done ≡ true → I.newest images.new held.old.page ≡ Some (image_bytes held.old.page held.old.lsn held.old.state)) }
+    ensures images { I.tells → SameOthers I.newest held.old.page images.old images.new }
     ensures failed { IfOk result (λ done. done ≡ false → Rose (I.faults images.old) (I.faults images.new)) }
     ensures open { OnOk result (MeetsNoEnd (J.account journal.old) (J.account journal.new)) }
     ensures refused { IfErr result (FailsToReserve N.opens N.log_faults N.made no_faults no_faults (J.account journal.old) (J.account journal.new) pass.new.log) }
@@ -58,6 +62,8 @@ fn put_image<N: Life, J: Entering<N>, I: Images<N>, R: Wait>(
     ensures same { held.new ≡ held.old }
     ensures named { OnOk result (IsHead N.opens pass.new.log held.old.page held.old.lsn) }
     ensures entered { Upholds N.opens N.entries N.session_entries is_none (known (J.account journal.old) pass.old no_claims) (known (J.account journal.new) pass.new no_claims) }
+    ensures image { I.tells → IfOk result (λ done. done ≡ true → I.newest images.new held.old.page ≡ Some (image_bytes held.old.page held.old.lsn held.old.state)) }
+    ensures images { I.tells → SameOthers I.newest held.old.page images.old images.new }
     ensures failed { IfOk result (λ done. done ≡ false → Rose (I.faults images.old) (I.faults images.new)) }
     ensures open { OnOk result (MeetsNoEnd (J.account journal.old) (J.account journal.new)) }
     ensures refused { IfErr result (FailsToReserve N.opens N.log_faults N.made no_faults no_faults (J.account journal.old) (J.account journal.new) pass.new.log) }

@@ -157,6 +157,15 @@ module _ (opens : List Record → Type 0) (first now later : List Entry) (segmen
       let f = all.failed in
       record { missing = here ∷ all.missing; failed = omega (arith, f, rose); back = with_new all.missing (here ∷ all.missing) upto within all.back (one_more all.missing here) (inr (the_one all.missing here)) }
 
+-- the page behind these is one of the segment's
+pub lost_next : (segment lost done : ℕ) → min (segment * 16) (2 ^ 32 - 1) ≤ done → done < min lost (min (min (segment * 16) (2 ^ 32 - 1) + 16) (2 ^ 32 - 1)) → IsLost segment lost (done + 1)
+lost_next segment lost done low high = record { positive = omega arith; inside = omega (arith, low, high); upto = omega (arith, high) }
+
+-- a write of one of its pages leaves the others as they are
+pub spared : (segment lost here : ℕ) (start newest newest' : ℕ → Option (List ℕ)) → IsLost segment lost here → ((p : ℕ) → p ≢ here → newest' p ≡ newest p)
+    → ((p : ℕ) → (IsLost segment lost p → ⊥) → newest p ≡ start p) → (p : ℕ) → (IsLost segment lost p → ⊥) → newest' p ≡ start p
+spared segment lost here start newest newest' lost_here others so_far p apart = others p (λ e. apart (subst (IsLost segment lost) (sym e) lost_here)) ∙ so_far p apart
+
 -- no page of the segment stands behind its last one
 pub lost_upto : (segment lost page last : ℕ) → IsLost segment lost page → lost < 2 ^ 32 → min lost (min (min (segment * 16) (2 ^ 32 - 1) + 16) (2 ^ 32 - 1)) ≤ last → page ≤ last
 lost_upto segment lost page last l few most = let w = lost_within segment lost page l in let a = w.0 in let b = w.1 in let c = l.upto in omega (arith, few, most, a, b, c)

@@ -48,6 +48,10 @@ pub record IsLost (segment lost page : ℕ) : Type 0 where
   pub inside : segment_of page ≡ segment
   pub upto : page ≤ lost
 
+-- what was written last of each page that isn't one of these is as before
+abbrev pub SpareOthers : {I : Type 0} → (ℕ → Type 0) → (I → ℕ → Option (List ℕ)) → I → I → Type 0
+SpareOthers {I} which newest old new = (page : ℕ) → (which page → ⊥) → newest new page ≡ newest old page
+
 -- so many device calls more have failed, as far as the count goes
 abbrev pub RoseBy : ℕ → ℕ → ℕ → Type 0
 RoseBy n before now = min (before + n) (2 ^ 64 - 1) ≤ now

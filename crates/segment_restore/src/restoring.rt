@@ -9,7 +9,7 @@ ghost use Rattle.page_repair.specs.Supplies.{is_restored};
 ghost use Rattle.wal_record.specs.Upkeep.{segment_of};
 ghost use Rattle.wal_record.specs.declared.record.Record.{Record};
 ghost use Rattle.segment_restore.specs.Faults.{no_faults, of_vault};
-ghost use Rattle.segment_restore.specs.Restored.{AreBack, IsBack, IsLost, IsRestored, WasUnrestored, restored_group};
+ghost use Rattle.segment_restore.specs.Restored.{AreBack, IsBack, IsLost, IsRestored, SpareOthers, WasUnrestored, restored_group};
 
 use crate::bases::Bases;
 use crate::writing::restore_page;
@@ -81,6 +81,7 @@ pub fn restore<N: Life, J: Entering<N>, I: Images<N>, B: Bases<N, J>, R: Wait>(
     pass: &mut Pass<Entry, N>,
 ) -> Result<(), Fault>
     ensures written { I.tells → OnOk result (AreBack N.opens pass.old.log pass.new.log (IsLost segment lost) (I.newest images.new) (I.faults images.old) (I.faults images.new)) }
+    ensures spared { I.tells → SpareOthers (IsLost segment lost) I.newest images.old images.new }
     ensures faults { B.vault_faults bases.old ≤ B.vault_faults bases.new }
     ensures images { I.faults images.old ≤ I.faults images.new }
     ensures entered { Upholds N.opens N.entries N.session_entries is_none (known (J.account journal.old) pass.old no_claims) (known (J.account journal.new) pass.new no_claims) }
