@@ -61,6 +61,7 @@
 mod checkpointing;
 mod device;
 mod ends;
+mod entering;
 mod filling;
 mod in_way;
 mod journal;
