@@ -13,7 +13,9 @@ use Rattle.wal_record.specs.Chains.{pages}
 use Rattle.wal_record.specs.Checkpoints.{analysis_of, page_head}
 use Rattle.wal_record.specs.History.{life_log}
 use Rattle.wal_record.specs.Upkeep.{segments}
+use Rattle.wal_record.specs.declared.record.Checkpoint.{Checkpoint}
 use Rattle.wal_record.specs.declared.record.Record.{Record}
+use Rattle.wal_record.specs.declared.record.Record.TheVariants as kinds
 use Rattle.wal_record.specs.declared.entry.Entry.{Entry}
 use Rattle.wal_record.specs.declared.entry.Entry.TheVariants.{Rec}
 use Rattle.log_laws.specs.Right.{IsRight}
@@ -27,7 +29,7 @@ use Rattle.command_laws.specs.Names.{Active, active_of, is_active, without}
 use Rattle.maintenance.specs.Steps.{AreAllOver}
 use Rattle.rollback.specs.Owners.{IsLoserOf}
 use Rattle.own_life.specs.Helps.{AddsSteps, Helps}
-use Rattle.store_life.specs.Turns.{EndsBy, HasCheckpoint, IsCheckpointed}
+use Rattle.store_life.specs.Turns.{EndsBy, HasMark, IsCheckpointed}
 use Rattle.own_life.specs.State.{BeginsAs, BreaksOff, Fails, FailsToFlush, GoesOn, IsCommitted, LifeState}
 use Rattle.script.specs.declared.command.Command.{Command}
 use Rattle.script.specs.declared.command.Command.TheVariants as commands
@@ -171,7 +173,7 @@ module _ {D : Type 0} (L : Ghosts D) (opens : List Record → Type 0) (x y : Lif
     pub checkpoints_line : (lsn : ℕ) → IsCheckpointed (Ok lsn) x.history y.history → GoesOn x y → (out : List ℕ) → out ≡ upkeep_line upkeeps.Checkpoint → Did L opens x y commands.Checkpoint out
     checkpoints_line lsn (k, added) goes out text = λ v s h. c.did_checkpoint (seen L v) opens x s h none lsn k y added right goes active out text
 
-    pub checkpoint_cut : (lsn : ℕ) → HasCheckpoint lsn x.history y.history → (v : View L.tells) (s : Stage) → Within (seen L v) opens x s → IsCut (seen L v) y x s commands.Checkpoint
+    pub checkpoint_cut : (lsn : ℕ) → HasMark Checkpoint kinds.Checkpoint lsn x.history y.history → (v : View L.tells) (s : Stage) → Within (seen L v) opens x s → IsCut (seen L v) y x s commands.Checkpoint
     checkpoint_cut lsn (k, added) v s h = record { entries = _; added = added; lawful = c.may_look (seen L v) opens x s h; off = c.checkpoint_cut (seen L v) opens x s h none lsn k }
 
     pub checkpoint_fails : (fault : Fault) → fault ≡ faults.LogFault → IsCheckpointed (Err fault) x.history y.history → FailsToFlush opens x y fault → x.calls.refused < y.calls.refused → (out : List ℕ) → out ≡ failed_line (head commands.Checkpoint) Log → Did L opens x y commands.Checkpoint out
