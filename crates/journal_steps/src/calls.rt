@@ -66,7 +66,7 @@ impl<N: Life> Hands<N> {
 }
 
 /// A new session begins a transaction. It is kept, also where it has none.
-fn begin_one<N: Life, J: Journaling<N>, R: Wait>(
+pub(crate) fn begin_one<N: Life, J: Journaling<N>, R: Wait>(
     rt: &R,
     alloc: Global,
     journal: &mut J,
@@ -110,7 +110,7 @@ pub(crate) fn begin_all<N: Life, J: Journaling<N>, R: Wait>(
 }
 
 /// Locks a range for the session's transaction.
-fn lock_by<N: Life, J: Journaling<N>, R: Wait>(
+pub(crate) fn lock_by<N: Life, J: Journaling<N>, R: Wait>(
     rt: &R,
     alloc: Global,
     journal: &mut J,

@@ -148,6 +148,28 @@ pub(crate) struct Change<'a> {
 }
 
 /// Writes a key for a transaction.
+fn put_one<N: Life, J: Journaling<N>, R: Wait>(
+    rt: &R,
+    alloc: Global,
+    journal: &mut J,
+    hands: &mut Hands<N>,
+    tx: TxId,
+    write: Change<'_>,
+    pass: &mut Pass<Entry, N>,
+) -> Result<Came<N>, Fault>
+    requires untold { (opening : List Record) → N.opens opening → ⊥ }
+    requires change { IsTrue (is_change write.old.now write.new.now) }
+{
+    let (Some(page), Some(s)) = (hands.page.take(), hands.take(tx)) else {
+        return Err(Fault::NotActive);
+    };
+    if !is_in_range(&page) || s.tx() == 0 || HIGHEST < s.tx() {
+        return Err(Fault::NotActive);
+    }
+    Ok(put_by(rt, alloc, journal, page, s, write, pass))
+}
+
+/// Writes a key for a transaction. What became of it as text.
 pub(crate) fn put<N: Life, J: Journaling<N>, R: Wait>(
     rt: &R,
     alloc: Global,
@@ -160,14 +182,33 @@ pub(crate) fn put<N: Life, J: Journaling<N>, R: Wait>(
     requires untold { (opening : List Record) → N.opens opening → ⊥ }
     requires change { IsTrue (is_change write.old.now write.new.now) }
 {
-    let (Some(page), Some(s)) = (hands.page.take(), hands.take(tx)) else {
-        return Err(Fault::NotActive);
-    };
-    if !is_in_range(&page) || s.tx() == 0 || HIGHEST < s.tx() {
-        return Err(Fault::NotActive);
-    }
-    let came = put_by(rt, alloc, journal, page, s, write, pass);
+    let came = put_one(rt, alloc, journal, hands, tx, write, pass)?;
     come_back(alloc, hands, came)
+}
+
+/// Writes a key for a transaction. The LSN of its record, where it was entered and no other one came first.
+pub(crate) fn put_lsn<N: Life, J: Journaling<N>, R: Wait>(
+    rt: &R,
+    alloc: Global,
+    journal: &mut J,
+    hands: &mut Hands<N>,
+    tx: TxId,
+    write: Change<'_>,
+    pass: &mut Pass<Entry, N>,
+) -> Result<Option<Lsn>, Fault>
+    requires untold { (opening : List Record) → N.opens opening → ⊥ }
+    requires change { IsTrue (is_change write.old.now write.new.now) }
+{
+    let Came {
+        entered,
+        lsn,
+        rights,
+    } = put_one(rt, alloc, journal, hands, tx, write, pass)?;
+    hands.take_back(rights)?;
+    match entered? {
+        Entered::At(_) => Ok(Some(lsn)),
+        _ => Ok(None),
+    }
 }
 
 /// Says that a key wasn't there, by the session's transaction.

@@ -10,6 +10,8 @@ mod calls;
 mod ended;
 mod entering;
 mod groups;
+mod refused;
 mod steps;
 
+pub use refused::{Made, put_and_commit};
 pub use steps::{Line, Step, play};
