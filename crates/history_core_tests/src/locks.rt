@@ -1,65 +1,25 @@
-//! Two transactions, without records.
-use crate::audit::{Damage, audits, changed, swapped};
-use crate::entries::{acked, began, get, key, lock, value};
-use std::test::Fail;
-use store_model::{KeyRange, Mode, Reply, Request, Value};
-use wal_record::Entry;
+//! Locks without records.
+use crate::audit::History;
 
-fn began_by(session: u32, tx: u64) -> Entry {
-    Entry::Began { session, tx }
-}
-
-fn refused(tx: u64, byte: u8, holder: u64) -> Entry {
-    Entry::Refused {
-        tx,
-        range: KeyRange::point(&key(byte)),
-        mode: Mode::Exclusive,
-        holder,
-    }
-}
-
-fn got_by(session: u32, tx: u64, byte: u8, value: Option<Value>) -> Entry {
-    Entry::Said {
-        session,
-        tx,
-        request: Request::Get(key(byte)),
-        reply: Reply::Found(value),
-    }
-}
-
-/// Transactions 1 and 2 read x, and 2 is refused to write it.
-fn two_readers() -> [Entry; 6] {
-    [
-        began(1),
-        lock(1, b'x', Mode::Shared),
-        get(1, b'x', None),
-        began_by(1, 2),
-        refused(2, b'x', 1),
-        lock(2, b'x', Mode::Shared),
-    ]
-}
-
-fn reader_damages() -> [(Damage, usize); 10] {
-    [
-        // the number was given, and no lock
-        changed(1, began_by(1, 1)),
-        changed(1, get(1, b'x', None)),
-        // no such value, and another session's answer
-        changed(2, get(1, b'x', value(1))),
-        changed(2, got_by(1, 1, b'x', None)),
-        changed(3, lock(2, b'y', Mode::Shared)),
-        changed(4, lock(2, b'x', Mode::Exclusive)),
-        changed(4, refused(2, b'x', 2)),
-        changed(5, refused(1, b'y', 2)),
-        // no commit was entered
-        changed(5, acked(1)),
-        swapped(3),
-    ]
-}
-
-#[test]
-fn two_readers_are_audited(rt: HostRuntime) -> Result<(), Fail> {
-    let holds = audits(rt.alloc(), &[], &two_readers(), &reader_damages())?;
-    assert!(rt; holds);
-    Ok(())
-}
+/// Transactions 1 and 2 read x, and 2 is refused to write it. Changed are numbers that were given, answers without a lock,
+/// with another value and to another session, and a commit that was none.
+pub const TWO_READERS: History<'static> = History {
+    opening: "",
+    entries: "\
+began session=0 tx=1 | 0 | 0
+lock tx=1 mode=shared key=x | 1 | 1
+get session=0 tx=1 key=x found none | told | apart
+began session=1 tx=2 | 3 | 3
+refused tx=2 mode=exclusive key=x holder=1 | told | apart
+lock tx=2 mode=shared key=x | last",
+    changes: "\
+began session=1 tx=1 | 1 | 1
+get session=0 tx=1 key=x found none | 1 | 1
+get session=0 tx=1 key=x found=1 | 2 | 2
+get session=1 tx=1 key=x found none | 2 | 2
+lock tx=2 mode=shared key=y | 3 | 3
+lock tx=2 mode=exclusive key=x | 4 | 4
+refused tx=2 mode=exclusive key=x holder=2 | 4 | 4
+refused tx=1 mode=exclusive key=y holder=2 | 5 | 5
+acked session=0 tx=1 | 5 | 5",
+};

@@ -2,113 +2,49 @@
 //!
 //! A row of a key of one byte and a value of 256 has 261 bytes, and an empty leaf 6. So page 1 has room for fifteen such rows
 //! (3,921 of 4,051 bytes), and is split behind the eighth.
-use crate::audit::{Damage, audits, changed, dropped, swapped};
-use crate::entries::{acked, at, began, commit, format, key, lock, put, value, write};
-use std::alloc::Global;
-use std::test::Fail;
-use store_model::{Bound, Key, List, Memory, Mode, Reply, Request, Value};
-use wal_record::{Entry, LeafRow, PageState, Record, Rows, Split};
+use crate::audit::History;
 
-fn long() -> Option<Value> {
-    Value::new(&[b'.'; 256])
-}
+/// Transaction 1 gave the keys a to o long values, and committed.
+const FULL_LEAF: &str = "\
+record 1 Format limit=64
+record 2 Write tx=1 prev=0 page=1 page_prev=1 key=a old none new=V
+record 3 Write tx=1 prev=2 page=1 page_prev=2 key=b old none new=V
+record 4 Write tx=1 prev=3 page=1 page_prev=3 key=c old none new=V
+record 5 Write tx=1 prev=4 page=1 page_prev=4 key=d old none new=V
+record 6 Write tx=1 prev=5 page=1 page_prev=5 key=e old none new=V
+record 7 Write tx=1 prev=6 page=1 page_prev=6 key=f old none new=V
+record 8 Write tx=1 prev=7 page=1 page_prev=7 key=g old none new=V
+record 9 Write tx=1 prev=8 page=1 page_prev=8 key=h old none new=V
+record 10 Write tx=1 prev=9 page=1 page_prev=9 key=i old none new=V
+record 11 Write tx=1 prev=10 page=1 page_prev=10 key=j old none new=V
+record 12 Write tx=1 prev=11 page=1 page_prev=11 key=k old none new=V
+record 13 Write tx=1 prev=12 page=1 page_prev=12 key=l old none new=V
+record 14 Write tx=1 prev=13 page=1 page_prev=13 key=m old none new=V
+record 15 Write tx=1 prev=14 page=1 page_prev=14 key=n old none new=V
+record 16 Write tx=1 prev=15 page=1 page_prev=15 key=o old none new=V
+record 17 Commit tx=1 prev=16";
 
-/// Transaction 1 gave the keys a to o long values, by the records 2 to 16, and committed.
-fn full_leaf(alloc: Global) -> Result<Vec<Record>, Memory> {
-    let mut log = Vec::new(alloc);
-    log.push(format(64))?;
-    for place in 0..15u8 {
-        let last = u64::from(place) + 1;
-        let prev = if last == 1 { 0 } else { last };
-        log.push(write((1, prev), (1, last), b'a' + place, None, long()))?;
-    }
-    log.push(commit(1, 16))?;
-    Ok(log)
-}
-
-/// The leaf of the keys from this one to o.
-fn upper_leaf(alloc: Global, first: u8) -> Result<PageState, Memory> {
-    let mut rows = List::new(alloc);
-    for byte in first..=b'o' {
-        rows.push(LeafRow {
-            key: key(byte),
-            tombstone: false,
-            value: long().unwrap_or(Value::empty()),
-        })?;
-    }
-    Ok(PageState {
-        level: 0,
-        low: Bound::of_key(&key(first)),
-        high: Bound::top(),
-        foster: None,
-        rows: Rows::Leaf(rows),
-    })
-}
-
-/// The keys from this one on go from page 1 to this page.
-fn split(alloc: Global, child: u32, first: u8) -> Result<Record, Memory> {
-    Ok(Record::Split(Split {
-        page: 1,
-        page_prev: 16,
-        child,
-        child_state: upper_leaf(alloc, first)?,
-    }))
-}
-
-fn long_put(key: Key) -> Entry {
-    Entry::Said {
-        session: 0,
-        tx: 2,
-        request: Request::Put(key, long().unwrap_or(Value::empty())),
-        reply: Reply::Was(None),
-    }
-}
-
-/// Transaction 2 puts a long value for p, for which page 1 is split.
-fn a_split(alloc: Global) -> Result<[Entry; 7], Memory> {
-    let split = split(alloc, 2, b'i')?;
-    Ok([
-        began(2),
-        lock(2, b'p', Mode::Exclusive),
-        at(18, split),
-        at(19, write((2, 0), (2, 18), b'p', None, long())),
-        long_put(key(b'p')),
-        at(20, commit(2, 19)),
-        acked(2),
-    ])
-}
-
-fn split_damages(alloc: Global) -> Result<[(Damage, usize); 14], Memory> {
-    let lower = split(alloc, 2, b'h')?;
-    let upper = split(alloc, 2, b'j')?;
-    let above = split(alloc, 3, b'i')?;
-    Ok([
-        dropped(2),
-        dropped(3),
-        (Damage::Swapped(1), 2),
-        swapped(2),
-        swapped(3),
-        // without the split the value doesn't fit
-        changed(2, at(18, write((2, 0), (1, 16), b'p', None, long()))),
-        // at another key, and to a page that isn't the next one
-        changed(2, at(18, lower)),
-        changed(2, at(18, upper)),
-        changed(2, at(18, above)),
-        // a write that would have fitted, one on the page that has the lower keys, and no write
-        changed(3, at(19, write((2, 0), (2, 18), b'p', None, value(5)))),
-        changed(3, at(19, write((2, 0), (1, 18), b'p', None, long()))),
-        changed(3, at(19, commit(2, 0))),
-        changed(3, lock(2, b'q', Mode::Exclusive)),
-        changed(4, put(2, b'p', 5, None)),
-    ])
-}
-
-#[test]
-fn a_split_is_audited(rt: HostRuntime) -> Result<(), Fail> {
-    let opening = full_leaf(rt.alloc())?;
-    let history = a_split(rt.alloc())?;
-    let damages = split_damages(rt.alloc())?;
-    let holds = audits(rt.alloc(), &opening, &history, &damages)?;
-    assert!(rt; holds);
-    Ok(())
-}
+/// Transaction 2 puts a long value for p, for which page 1 is split at i. Changed are: no split, for which the value doesn't
+/// fit; splits at other keys, and to a page that isn't the next one; and in place of the write one that would have fitted,
+/// one on the page that has the lower keys, and none.
+pub const A_SPLIT: History<'static> = History {
+    opening: FULL_LEAF,
+    entries: "\
+began session=0 tx=2 | 0 | 0
+lock tx=2 mode=exclusive key=p | 2 | 2
+record 18 Split page=1 page_prev=16 child=2 key=i | 2 | 2
+record 19 Write tx=2 prev=0 page=2 page_prev=18 key=p old none new=V | 3 | 3
+put session=0 tx=2 key=p new=V was none | 4 | 4
+record 20 Commit tx=2 prev=19 | 5 | 5
+acked session=0 tx=2 | last",
+    changes: "\
+record 18 Write tx=2 prev=0 page=1 page_prev=16 key=p old none new=V | 2 | 2
+record 18 Split page=1 page_prev=16 child=2 key=h | 2 | 2
+record 18 Split page=1 page_prev=16 child=2 key=j | 2 | 2
+record 18 Split page=1 page_prev=16 child=3 key=i | 2 | 2
+record 19 Write tx=2 prev=0 page=2 page_prev=18 key=p old none new=5 | 3 | 3
+record 19 Write tx=2 prev=0 page=1 page_prev=18 key=p old none new=V | 3 | 3
+record 19 Commit tx=2 prev=0 | 3 | 3
+lock tx=2 mode=exclusive key=q | 3 | 3
+put session=0 tx=2 key=p new=5 was none | 4 | 4",
+};
