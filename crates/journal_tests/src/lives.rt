@@ -4,7 +4,7 @@ ghost use Rattle.page_ops.specs.Names.{life_names};
 ghost use Rattle.wal_record.specs.Rules.{is_limit};
 ghost use Rattle.wal_record.specs.declared.record.Record.{Record};
 
-use journal_steps::{Line, play};
+use journal_steps::{Line, Made, play, put_and_commit};
 use listed_log::ListedLog;
 use log_blocks::open_log;
 use log_index::Listing;
@@ -50,12 +50,15 @@ fn with_format<L: Disk + Drop>(alloc: Global, disk: L, limit: u32) -> Option<L>
 pub(crate) struct Asked<'a> {
     pub(crate) lines: &'a [Line<'a>],
     pub(crate) calls: Option<u64>,
+    /// Whether a put and its commit are asked in place of the lines.
+    pub(crate) put: bool,
 }
 
-/// The first line that told otherwise, and the log disk.
+/// The first line that told otherwise, what became of a put and its commit, and the log disk.
 #[derive(Drop)]
 pub(crate) struct Lived<L> {
     pub(crate) other: Result<String, Fault>,
+    pub(crate) put: Option<Made>,
     pub(crate) disk: L,
 }
 
@@ -89,9 +92,15 @@ fn one_life<L: Disk + Drop, N: Life, R: Wait>(
         ..
     } = start(alloc, &ground, tokens, log, next_page, next_tx, losers);
     journal.fuse(asked.calls);
-    let other = play(rt, alloc, &mut journal, page, asked.lines, &mut pass);
+    let (other, put) = if asked.put {
+        let made = put_and_commit(rt, alloc, &mut journal, page, &mut pass);
+        (Ok(String::new(alloc)), Some(made))
+    } else {
+        let other = play(rt, alloc, &mut journal, page, asked.lines, &mut pass);
+        (other, None)
+    };
     let disk = journal.into_device(&mut pass);
-    Ok(Lived { other, disk })
+    Ok(Lived { other, put, disk })
 }
 
 /// A disk in memory with a log of one record, a Format with this limit.

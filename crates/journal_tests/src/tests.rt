@@ -3,7 +3,7 @@ use crate::lives::{Asked, formatted, live};
 use crate::locks::{A_SCAN, AN_END, BEGINS, LEAST_HOLDER};
 use crate::loser_lives::{LOSERS, LOSERS_LEFT, LOSERS_UNDONE, TWO_RESTORES};
 use crate::writes::{FAILED_COMMIT, FULL, THREE_WRITES, UNDONE_IN_PART};
-use journal_steps::Line;
+use journal_steps::{Line, Made};
 use std::alloc::Global;
 use std::sync::Wait;
 use std::test::Fail;
@@ -18,7 +18,14 @@ fn told<R: Wait>(
     lines: &[Line<'_>],
 ) -> Result<String, Fault> {
     match formatted(alloc, limit) {
-        Some(disk) => live(rt, alloc, disk, Asked { lines, calls })?.other,
+        Some(disk) => {
+            let asked = Asked {
+                lines,
+                calls,
+                put: false,
+            };
+            live(rt, alloc, disk, asked)?.other
+        }
         None => Err(Fault::NotFormatted),
     }
 }
@@ -47,7 +54,11 @@ fn a_life_ends_at_any_call_of_a_commit(rt: HostRuntime) -> Result<(), Fail> {
 
 /// A life whose log disk lets all calls pass.
 fn wholly<'a>(lines: &'a [Line<'a>]) -> Asked<'a> {
-    Asked { lines, calls: None }
+    Asked {
+        lines,
+        calls: None,
+        put: false,
+    }
 }
 
 /// What three lives on one log told otherwise.
@@ -66,4 +77,31 @@ fn three_lives<R: Wait>(rt: &R, alloc: Global) -> Result<String, Fault> {
 fn losers_are_undone_over_two_lives(rt: HostRuntime) -> Result<(), Fail> {
     assert_eq!(rt; three_lives(&rt, rt.alloc())?.as_str(), "");
     Ok(())
+}
+
+/// What becomes of a put and its commit on a new log.
+fn put_made<R: Wait>(rt: &R, alloc: Global) -> Result<Option<Made>, Fault> {
+    let Some(disk) = formatted(alloc, 8) else {
+        return Err(Fault::NotFormatted);
+    };
+    let asked = Asked {
+        lines: &[],
+        calls: None,
+        put: true,
+    };
+    Ok(live(rt, alloc, disk, asked)?.put)
+}
+
+/// A begin, a lock or a group that lacks memory has entered nothing, and is entered where it is made once more; a commit lacks
+/// none. bench/refused_memory has each allocation refused in turn, and then all from one on.
+#[test]
+fn a_put_that_lacks_memory_is_as_before(rt: HostRuntime) -> Result<(), Fail> {
+    match put_made(&rt, rt.alloc()) {
+        Ok(Some(Made::Once)) => Ok(()),
+        Ok(Some(Made::Again)) => Err(Fail::new("refused, and as before")),
+        Ok(Some(Made::Lacked)) => Err(Fail::new("refused twice")),
+        Ok(Some(Made::Uncommitted)) => Err(Fail::new("a commit was refused")),
+        Ok(Some(Made::Other)) => Err(Fail::new("not as before")),
+        _ => Err(Fail::new("no fixture")),
+    }
 }
