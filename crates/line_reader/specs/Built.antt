@@ -5,8 +5,8 @@ use Rattle.script.specs.Word.{word, behind, same_text}
 -- a word about the store, and one about a transaction
 abbrev pub is_store_word : List ℕ → Bool
 is_store_word text =
-    same_text text (codes "format") || same_text text (codes "open") || same_text text (codes "checkpoint") || same_text text (codes "stat")
-    || same_text text (codes "close") || same_text text (codes "stop") || same_text text (codes "damage") || same_text text (codes "help")
+    same_text text (codes "format") || same_text text (codes "open") || same_text text (codes "checkpoint") || same_text text (codes "lose")
+    || same_text text (codes "stat") || same_text text (codes "close") || same_text text (codes "stop") || same_text text (codes "damage") || same_text text (codes "help")
 
 abbrev pub is_transaction_word : List ℕ → Bool
 is_transaction_word text =

@@ -33,6 +33,7 @@ fn is_store_word(word: &[u8]) -> bool
     word == b"format".as_slice()
         || word == b"open".as_slice()
         || word == b"checkpoint".as_slice()
+        || word == b"lose".as_slice()
         || word == b"stat".as_slice()
         || word == b"close".as_slice()
         || word == b"stop".as_slice()

@@ -1,2 +1,4 @@
 mod Checkpoints
+mod Losses
+mod Marks
 pub mod Steps

@@ -1,2 +1,4 @@
 pub mod Checkpoints
+pub mod Losses
+pub mod Marks
 pub mod Steps

@@ -5,7 +5,8 @@ ghost use Rattle.page_ops.specs.Claims.{no_claims};
 ghost use Rattle.page_ops.specs.Seeing.{known};
 ghost use Rattle.wal_record.specs.History.{life_log};
 ghost use Rattle.wal_record.specs.declared.record.Record.{Record};
-ghost use Rattle.maintenance.specs.Checkpoints.{FailsToCheckpoint, TakesCheckpoint, checkpoint_group};
+ghost use Rattle.maintenance.specs.Checkpoints.{TakesCheckpoint, checkpoint_group};
+ghost use Rattle.maintenance.specs.Marks.{FailsToMark};
 
 use front::Pass;
 use page_ops::{Entered, Entering, Group, Life, Rights};
@@ -78,7 +79,7 @@ pub fn checkpoint<N: Life, J: Entering<N>, R: Wait>(
 ) -> Result<Lsn, Fault>
     ensures entered { TakesCheckpoint N.opens N.entries N.session_entries result (known (J.account journal.old) pass.old no_claims) (known (J.account journal.new) pass.new no_claims) }
     ensures durable { IfOk result (λ lsn. (opening : List Record) → N.opens opening → lsn ≤ pass.new.durable) }
-    ensures refused { IfErr result FailsToCheckpoint }
+    ensures refused { IfErr result FailsToMark }
     ensures ends { Ends N.opens N.log_faults N.made (J.account journal.old) (J.account journal.new) pass.new.log result }
 {
     let lsn = enter_checkpoint(rt, alloc, journal, pass)?;

@@ -11,7 +11,7 @@ use Rattle.page_ops.specs.Names.{LedgerName}
 use Rattle.page_ops.specs.Seeing.{Account, Calls, Keeps}
 use Rattle.buffer_pool.specs.Writes.{no_faults}
 use Rattle.engine.specs.Answers.{FailsToAsk}
-use Rattle.maintenance.specs.Checkpoints.{FailsToCheckpoint}
+use Rattle.maintenance.specs.Marks.{FailsToMark}
 use Rattle.journal.specs.Stops.{IsDurableUpto}
 use Rattle.life_history.specs.Kept.{HasCause}
 use Rattle.own_journal.specs.Told.{told}
@@ -158,13 +158,13 @@ module _ {opens : List Record → Type 0} {log_faults : LedgerName} {old new : L
     look_refused (Ok x) may e = tt
     look_refused (Err f) may e = look_fault f may e
 
-    flush_fault : (f : Fault) → FailsToCheckpoint f → EndsBy opens log_faults made (told a c) (told b d) h f → FailsToFlush opens old new f
+    flush_fault : (f : Fault) → FailsToMark f → EndsBy opens log_faults made (told a c) (told b d) h f → FailsToFlush opens old new f
     flush_fault faults.Memory may e = goes (still e)
     flush_fault faults.LogFault may e = breaks e.1 e.2
     flush_fault (faults.Ended at) may e = absurd (never made h at e)
     flush_fault _ may e = absurd may
 
-    pub flush_refused : {T : Type 0} (r : Result T Fault) → IfErr r FailsToCheckpoint → Ends opens log_faults made (told a c) (told b d) h r → IfErr r (FailsToFlush opens old new)
+    pub flush_refused : {T : Type 0} (r : Result T Fault) → IfErr r FailsToMark → Ends opens log_faults made (told a c) (told b d) h r → IfErr r (FailsToFlush opens old new)
     flush_refused (Ok x) may e = tt
     flush_refused (Err f) may e = flush_fault f may e
 

@@ -11,6 +11,10 @@ use Rattle.wal_record.specs.declared.entry.Entry.TheVariants.{Rec}
 abbrev pub Lacks : Table → ℕ → Type 0
 Lacks t page = is_dirty (frame_of t page) ≡ true
 
+-- the device has an image of no page
+abbrev pub HasNone : {D : Type 0} → (D → ℕ → Option (List ℕ)) → D → Type 0
+HasNone newest device = (page : ℕ) → newest device page ≡ None
+
 -- the page awaits redo by this plan
 abbrev pub AwaitsRedo : List Bool → ℕ → Type 0
 AwaitsRedo plan page = awaits plan page ≡ true

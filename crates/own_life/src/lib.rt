@@ -2,10 +2,11 @@
 //!
 //! [`open_life`] makes of a log that was read, of a data device and of what names a life, an [`OwnLife`] and its pages
 //! ([`StorePages`]): the journal and the pool of a store (`plain_store`), and its named transactions (`store_life`). Pages come from
-//! the data device, and by repair from the log where this lacks them, or gives them damaged or too old. They are lent to each call
+//! the data device, and by repair from the log where this lacks them, or gives them damaged or too old; behind a loss of the
+//! device a segment is restored whole from the log before the first of its pages is given. They are lent to each call
 //! that wants them, in a type of the caller's own that is a [`LifePages`]. Each command of the life is a call: [`OwnLife::begin`],
-//! [`OwnLife::ask`], [`OwnLife::commit`], [`OwnLife::abort`], [`OwnLife::checkpoint`], [`OwnLife::help`], [`OwnLife::survey`] and
-//! [`OwnLife::close`]. They are for a life that goes on; whether it has ended, and with which LSN, [`OwnLife::ended`] tells at any moment.
+//! [`OwnLife::ask`], [`OwnLife::commit`], [`OwnLife::abort`], [`OwnLife::checkpoint`], [`OwnLife::lose`], [`OwnLife::help`],
+//! [`OwnLife::survey`] and [`OwnLife::close`]. They are for a life that goes on; whether it has ended, and with which LSN, [`OwnLife::ended`] tells at any moment.
 //! [`OwnLife::into_devices`] stops it.
 //!
 //! The model (`specs/State`) is the history, how much of the log is known to be durable, the active names, the LSN with which the

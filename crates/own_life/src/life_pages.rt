@@ -17,7 +17,7 @@ ghost use Rattle.page_repair.specs.Images.{AreWritten};
 ghost use Rattle.store_life.specs.SoFar.{HasNames, Runs, actives, left_by};
 ghost use Rattle.store_life.specs.Steps.{AddsUpkeep, StepsBack};
 ghost use Rattle.store_life.specs.Turns.{Asks, EndsBy, IsTold};
-ghost use Rattle.own_life.specs.Pages.{IsNextRedone, IsNextWritten, OneLess, WritesUpto};
+ghost use Rattle.own_life.specs.Pages.{HasNone, IsNextRedone, IsNextWritten, OneLess, WritesUpto};
 
 use engine::Answered;
 use front::Pass;
@@ -161,6 +161,15 @@ pub trait LifePages<N: Life, D: PageDevice> {
         ensures keeps { Keeps (J.account journal.old) (J.account journal.new) }
         ensures open { OnOk result (MeetsNoEnd (J.account journal.old) (J.account journal.new)) }
         ensures refused { IfErr result (FailsToReserve N.opens N.log_faults N.made no_faults no_faults (J.account journal.old) (J.account journal.new) life.new.pass.log) };
+
+    /// The data device is lost, and an empty one takes its place; where it fails, the old images may stay, and no answer tells of
+    /// that. Each page that was in memory is dropped.
+    fn lose<R: Wait>(&mut self, rt: &R)
+        requires idle { idle self.old }
+        ensures idle { idle self.new }
+        ensures clean { (page : ℕ) → dirty self.new page → ⊥ }
+        ensures awaits { (page : ℕ) → awaits self.new page → awaits self.old page }
+        ensures empty { D.tells → HasNone D.newest (device self.new) ⊎ Rose (D.faults (device self.old)) (D.faults (device self.new)) };
 
     /// Reads of the page from the data device fail verification until its next write. No answer tells whether the device did so.
     fn damage(&mut self, page: PageNo)

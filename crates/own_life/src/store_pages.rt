@@ -17,7 +17,7 @@ ghost use Rattle.page_repair.specs.Images.{AreWritten};
 ghost use Rattle.store_life.specs.SoFar.{HasNames, Runs, actives, left_by};
 ghost use Rattle.store_life.specs.Steps.{AddsUpkeep, StepsBack};
 ghost use Rattle.store_life.specs.Turns.{Asks, EndsBy, IsTold};
-ghost use Rattle.own_life.specs.Pages.{AwaitsRedo, IsNextRedone, IsNextWritten, Lacks, OneLess, WritesUpto};
+ghost use Rattle.own_life.specs.Pages.{AwaitsRedo, HasNone, IsNextRedone, IsNextWritten, Lacks, OneLess, WritesUpto};
 
 use crate::supply::LogAlone;
 use buffer_pool::PlainPool;
@@ -193,6 +193,18 @@ impl<'a, D: PageDevice, N: Life> StorePages<'a, D, N> {
             Ok(()) => Ok(Some(page)),
             Err(fault) => Err(fault),
         }
+    }
+
+    /// The data device is lost, and an empty one takes its place; where it fails, the old images may stay, and no answer tells of
+    /// that. Each page that was in memory is dropped.
+    pub fn lose<R: Wait>(&mut self, rt: &R)
+        requires idle { (self.old.pool.out ≡ 0) × (self.old.pool.reserves ≡ false) }
+        ensures idle { (self.new.pool.out ≡ 0) × (self.new.pool.reserves ≡ false) }
+        ensures clean { (page : ℕ) → Lacks self.new.pool.frames page → ⊥ }
+        ensures plan { self.new.pool.plan ≡ self.old.pool.plan }
+        ensures empty { D.tells → HasNone D.newest self.new.pool.images ⊎ Rose (D.faults self.old.pool.images) (D.faults self.new.pool.images) }
+    {
+        let _ = self.pool.lose(rt);
     }
 
     /// Reads of the page from the data device fail verification until its next write. No answer tells whether the device did so.

@@ -84,6 +84,10 @@ impl<'a, D: PageDevice, N: Life> LifePages<N, D> for RunPages<'a, D, N> {
         self.pages.write_next(rt, alloc, journal, life, after)
     }
 
+    fn lose<R: Wait>(&mut self, rt: &R) {
+        self.pages.lose(rt)
+    }
+
     fn damage(&mut self, page: PageNo) {
         self.pages.damage(page)
     }

@@ -108,7 +108,6 @@ const UNBUILT: [&str; 10] = [
     "recycle",
     "backup",
     "archive",
-    "lose",
     "merge",
     "parallel 1 0",
 ];

@@ -1,4 +1,4 @@
--- Calls that see the history and enter nothing, or a Checkpoint, where nobody else enters anything.
+-- Calls that see the history and enter nothing, or a record alone, where nobody else enters anything.
 use Rattle.std.proofs.Common.{◌≡◌, ℕ, ◌<◌, ◌≤◌, List, [], ◌∷◌, ◌++◌, Result, Ok, Err, sym, ap, subst, ◌∙◌, append-nil, arith, inl, inr}
 use Rattle.std.specs.Prelude.{◌⊎◌, IfErr, OnErr, OnOk, is_some}
 use mathlib.Core.List.{IsPrefix}
@@ -20,9 +20,9 @@ use Rattle.page_ops.specs.Seeing.{Account, Enters, Keeps, Looks, known}
 use Rattle.page_ops.proofs.Gaining.{gains_of}
 use Rattle.command_laws.specs.Alone.{IsAlone}
 use Rattle.command_laws.proofs.Alone.{entered, still_alone}
-use Rattle.maintenance.specs.Checkpoints.{GainsCheckpoint, TakesCheckpoint}
+use Rattle.maintenance.specs.Marks.{GainsMark, TakesMark}
 use Rattle.engine.specs.Sittings.{Sitting, known_by}
-use Rattle.store_life.specs.Turns.{EndsBy, HasCheckpoint, IsCheckpointed, UndoesBy}
+use Rattle.store_life.specs.Turns.{EndsBy, HasMark, IsMarked, UndoesBy}
 use Rattle.store_life.proofs.Aborted.{ends_by}
 
 module _ (opens : List Record → Type 0) (ledger sessions : LedgerName) (a a' : Account) (t t' : PassSeen Entry) (alone : IsAlone opens ledger a t.log) where
@@ -33,7 +33,7 @@ module _ (opens : List Record → Type 0) (ledger sessions : LedgerName) (a a' :
     pub looked_alone : IsAlone opens ledger a' t'.log
     looked_alone = still_alone opens ledger sessions t.log [] (known a t no_claims) (known a' t' no_claims) alone (prefix_self t.log) (gains_of opens ledger sessions [] (known a t no_claims) (known a' t' no_claims) looks)
 
-  -- ---- checkpoints
+  -- ---- checkpoints, and losses of the data device
 
   module _ (es : List Entry) (g : Gains opens ledger sessions es (known a t no_claims) (known a' t' no_claims)) where
     gained_log : t'.log ≡ t.log ++ es
@@ -45,50 +45,51 @@ module _ (opens : List Record → Type 0) (ledger sessions : LedgerName) (a a' :
     gained_durable : t.durable ≤ t'.durable
     gained_durable = g.durable
 
-  has : (lsn : ℕ) → GainsCheckpoint opens ledger sessions lsn (known a t no_claims) (known a' t' no_claims) → HasCheckpoint lsn t.log t'.log
-  has lsn g = (g.0, gained_log (Rec lsn (kinds.Checkpoint g.0) ∷ []) g.1)
-
   none : Gains opens ledger sessions [] (known a t no_claims) (known a' t' no_claims) → t'.log ≡ t.log
   none g = gained_log [] g ∙ append-nil t.log
 
-  pub checkpointed : (result : Result ℕ Fault) → TakesCheckpoint opens ledger sessions result (known a t no_claims) (known a' t' no_claims) → IsCheckpointed result t.log t'.log
-  checkpointed (Ok lsn) g = has lsn g
-  checkpointed (Err faults.Memory) g = none g
-  checkpointed (Err faults.LogFault) g = (g.0, has g.0 g.1)
-  checkpointed (Err _) g = elim g [
-    | inl n ↦ inl (none n)
-    | inr c ↦ inr (c.0, has c.0 c.1)
-  ]
+  module _ (A : Type 0) (mark : A → Record) where
+    has : (lsn : ℕ) → GainsMark A mark opens ledger sessions lsn (known a t no_claims) (known a' t' no_claims) → HasMark A mark lsn t.log t'.log
+    has lsn g = (g.0, gained_log (Rec lsn (mark g.0) ∷ []) g.1)
 
-  alone_by : (lsn : ℕ) → GainsCheckpoint opens ledger sessions lsn (known a t no_claims) (known a' t' no_claims) → IsAlone opens ledger a' t'.log
-  alone_by lsn g = gained_alone (Rec lsn (kinds.Checkpoint g.0) ∷ []) g.1
+    pub marked : (result : Result ℕ Fault) → TakesMark A mark opens ledger sessions result (known a t no_claims) (known a' t' no_claims) → IsMarked A mark result t.log t'.log
+    marked (Ok lsn) g = has lsn g
+    marked (Err faults.Memory) g = none g
+    marked (Err faults.LogFault) g = (g.0, has g.0 g.1)
+    marked (Err _) g = elim g [
+      | inl n ↦ inl (none n)
+      | inr c ↦ inr (c.0, has c.0 c.1)
+    ]
 
-  pub checkpointed_alone : (result : Result ℕ Fault) → TakesCheckpoint opens ledger sessions result (known a t no_claims) (known a' t' no_claims) → IsAlone opens ledger a' t'.log
-  checkpointed_alone (Ok lsn) g = alone_by lsn g
-  checkpointed_alone (Err faults.Memory) g = gained_alone [] g
-  checkpointed_alone (Err faults.LogFault) g = alone_by g.0 g.1
-  checkpointed_alone (Err _) g = elim g [
-    | inl n ↦ gained_alone [] n
-    | inr c ↦ alone_by c.0 c.1
-  ]
+    alone_by : (lsn : ℕ) → GainsMark A mark opens ledger sessions lsn (known a t no_claims) (known a' t' no_claims) → IsAlone opens ledger a' t'.log
+    alone_by lsn g = gained_alone (Rec lsn (mark g.0) ∷ []) g.1
 
-  pub checkpointed_durable : (result : Result ℕ Fault) → TakesCheckpoint opens ledger sessions result (known a t no_claims) (known a' t' no_claims) → t.durable ≤ t'.durable
-  checkpointed_durable (Ok lsn) g = g.1.durable
-  checkpointed_durable (Err faults.Memory) g = g.durable
-  checkpointed_durable (Err faults.LogFault) g = g.1.1.durable
-  checkpointed_durable (Err _) g = elim g [
-    | inl n ↦ n.durable
-    | inr c ↦ c.1.1.durable
-  ]
+    pub marked_alone : (result : Result ℕ Fault) → TakesMark A mark opens ledger sessions result (known a t no_claims) (known a' t' no_claims) → IsAlone opens ledger a' t'.log
+    marked_alone (Ok lsn) g = alone_by lsn g
+    marked_alone (Err faults.Memory) g = gained_alone [] g
+    marked_alone (Err faults.LogFault) g = alone_by g.0 g.1
+    marked_alone (Err _) g = elim g [
+      | inl n ↦ gained_alone [] n
+      | inr c ↦ alone_by c.0 c.1
+    ]
 
-  pub checkpointed_keeps : (result : Result ℕ Fault) → TakesCheckpoint opens ledger sessions result (known a t no_claims) (known a' t' no_claims) → Keeps a a'
-  checkpointed_keeps (Ok lsn) g = g.1.keeps
-  checkpointed_keeps (Err faults.Memory) g = g.keeps
-  checkpointed_keeps (Err faults.LogFault) g = g.1.1.keeps
-  checkpointed_keeps (Err _) g = elim g [
-    | inl n ↦ n.keeps
-    | inr c ↦ c.1.1.keeps
-  ]
+    pub marked_durable : (result : Result ℕ Fault) → TakesMark A mark opens ledger sessions result (known a t no_claims) (known a' t' no_claims) → t.durable ≤ t'.durable
+    marked_durable (Ok lsn) g = g.1.durable
+    marked_durable (Err faults.Memory) g = g.durable
+    marked_durable (Err faults.LogFault) g = g.1.1.durable
+    marked_durable (Err _) g = elim g [
+      | inl n ↦ n.durable
+      | inr c ↦ c.1.1.durable
+    ]
+
+    pub marked_keeps : (result : Result ℕ Fault) → TakesMark A mark opens ledger sessions result (known a t no_claims) (known a' t' no_claims) → Keeps a a'
+    marked_keeps (Ok lsn) g = g.1.keeps
+    marked_keeps (Err faults.Memory) g = g.keeps
+    marked_keeps (Err faults.LogFault) g = g.1.1.keeps
+    marked_keeps (Err _) g = elim g [
+      | inl n ↦ n.keeps
+      | inr c ↦ c.1.1.keeps
+    ]
 
 -- ---- causes, where a look follows that met no end
 

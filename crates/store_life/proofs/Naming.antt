@@ -23,7 +23,7 @@ use Rattle.command_laws.proofs.Living.{BeginsNone, acknowledged, all_weaker, ami
 use Rattle.engine.specs.Requests.{lock_of}
 use Rattle.engine.specs.declared.answered.Answered.{Answered}
 use Rattle.store_life.specs.SoFar.{active_by, actives, left_by}
-use Rattle.store_life.specs.Turns.{AreOwn, Asks, EndsBy, IsAborted, IsCheckpointed, IsCommitted, IsDone, IsOfAbort, MayBeDone, WasInWay}
+use Rattle.store_life.specs.Turns.{AreOwn, Asks, EndsBy, IsAborted, IsMarked, IsCommitted, IsDone, IsOfAbort, MayBeDone, WasInWay}
 use Rattle.store_life.specs.declared.life.Named.{Named}
 
 one : (e : Entry) → BeginsNone e → All BeginsNone (e ∷ [])
@@ -113,16 +113,16 @@ module _ (opens : List Record → Type 0) (account : Account) (h : List Entry) (
   aborted_named (Ok pos) h' d = gone_named pos h' d
   aborted_named (Err fault) h' d = subst (λ (l : List Entry). AreNamed l active) (sym d.added) (still_named h d.entries active (all_weaker (IsOfAbort ⊥ a.tx) BeginsNone of_abort d.entries d.each) named)
 
--- ---- checkpoints
+-- ---- checkpoints, and losses of the data device
 
-checkpoint_named : (h h' : List Entry) (active : List Active) (lsn : ℕ) (r : Record) → h' ≡ h ++ Rec lsn r ∷ [] → AreNamed h active → AreNamed h' active
-checkpoint_named h h' active lsn r is named = subst (λ (l : List Entry). AreNamed l active) (sym is) (still_named h (Rec lsn r ∷ []) active (one (Rec lsn r) tt) named)
+mark_named : (h h' : List Entry) (active : List Active) (lsn : ℕ) (r : Record) → h' ≡ h ++ Rec lsn r ∷ [] → AreNamed h active → AreNamed h' active
+mark_named h h' active lsn r is named = subst (λ (l : List Entry). AreNamed l active) (sym is) (still_named h (Rec lsn r ∷ []) active (one (Rec lsn r) tt) named)
 
-pub checkpointed_named : (result : Result ℕ Fault) (h h' : List Entry) (active : List Active) → IsCheckpointed result h h' → AreNamed h active → AreNamed h' active
-checkpointed_named (Ok lsn) h h' active c named = checkpoint_named h h' active lsn (kinds.Checkpoint c.0) c.1 named
-checkpointed_named (Err faults.Memory) h h' active is named = subst (λ (l : List Entry). AreNamed l active) (sym is) named
-checkpointed_named (Err faults.LogFault) h h' active c named = checkpoint_named h h' active c.0 (kinds.Checkpoint c.1.0) c.1.1 named
-checkpointed_named (Err _) h h' active may named = elim may [
+pub marked_named : (A : Type 0) (mark : A → Record) (result : Result ℕ Fault) (h h' : List Entry) (active : List Active) → IsMarked A mark result h h' → AreNamed h active → AreNamed h' active
+marked_named A mark (Ok lsn) h h' active c named = mark_named h h' active lsn (mark c.0) c.1 named
+marked_named A mark (Err faults.Memory) h h' active is named = subst (λ (l : List Entry). AreNamed l active) (sym is) named
+marked_named A mark (Err faults.LogFault) h h' active c named = mark_named h h' active c.0 (mark c.1.0) c.1.1 named
+marked_named A mark (Err _) h h' active may named = elim may [
   | inl is ↦ subst (λ (l : List Entry). AreNamed l active) (sym is) named
-  | inr c ↦ checkpoint_named h h' active c.0 (kinds.Checkpoint c.1.0) c.1.1 named
+  | inr c ↦ mark_named h h' active c.0 (mark c.1.0) c.1.1 named
 ]

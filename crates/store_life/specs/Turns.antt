@@ -12,6 +12,7 @@ use Rattle.wal_record.specs.History.{life_log}
 use Rattle.wal_record.specs.Legal.{untold}
 use Rattle.wal_record.specs.Locks.{Held}
 use Rattle.wal_record.specs.declared.record.Checkpoint.{Checkpoint}
+use Rattle.wal_record.specs.declared.record.Lost.{Lost}
 use Rattle.wal_record.specs.declared.record.Record.{Record}
 use Rattle.wal_record.specs.declared.record.Record.TheVariants as kinds
 use Rattle.wal_record.specs.declared.entry.Entry.{Entry}
@@ -122,15 +123,21 @@ UndoesBy may_end opens tx (Err fault) h h' = IsUndone may_end tx h h'
 abbrev pub EndsBy : (List Record → Type 0) → ℕ → Result ℕ Fault → List Entry → List Entry → Type 0
 EndsBy = UndoesBy ⊥
 
--- ---- checkpoints
+-- ---- checkpoints, and losses of the data device
 
--- a Checkpoint with this LSN was added
-abbrev pub HasCheckpoint : ℕ → List Entry → List Entry → Type 0
-HasCheckpoint lsn h h' = (c : Checkpoint) × (h' ≡ h ++ Rec lsn (kinds.Checkpoint c) ∷ [])
+-- a record of this kind was added, with this LSN
+abbrev pub HasMark : (A : Type 0) → (A → Record) → ℕ → List Entry → List Entry → Type 0
+HasMark A mark lsn h h' = (a : A) × (h' ≡ h ++ Rec lsn (mark a) ∷ [])
 
--- That alone. Nothing for want of memory; where the log fails, a Checkpoint, and where the life has ended, maybe one.
+-- That alone. Nothing for want of memory; where the log fails, such a record, and where the life has ended, maybe one.
+abbrev pub IsMarked : (A : Type 0) → (A → Record) → Result ℕ Fault → List Entry → List Entry → Type 0
+IsMarked A mark (Ok lsn) h h' = HasMark A mark lsn h h'
+IsMarked A mark (Err faults.Memory) h h' = h' ≡ h
+IsMarked A mark (Err faults.LogFault) h h' = (lsn : ℕ) × HasMark A mark lsn h h'
+IsMarked A mark (Err fault) h h' = (h' ≡ h) ⊎ ((lsn : ℕ) × HasMark A mark lsn h h')
+
 abbrev pub IsCheckpointed : Result ℕ Fault → List Entry → List Entry → Type 0
-IsCheckpointed (Ok lsn) h h' = HasCheckpoint lsn h h'
-IsCheckpointed (Err faults.Memory) h h' = h' ≡ h
-IsCheckpointed (Err faults.LogFault) h h' = (lsn : ℕ) × HasCheckpoint lsn h h'
-IsCheckpointed (Err fault) h h' = (h' ≡ h) ⊎ ((lsn : ℕ) × HasCheckpoint lsn h h')
+IsCheckpointed = IsMarked Checkpoint kinds.Checkpoint
+
+abbrev pub IsLost : Result ℕ Fault → List Entry → List Entry → Type 0
+IsLost = IsMarked Lost kinds.Lost

@@ -2,16 +2,17 @@
 //!
 //! [`StoreLife`] has the active transactions of a life by name, each with its session, beside a journal and pages that are
 //! lent to each call. There is one call for each command: [`StoreLife::begin`], [`StoreLife::ask`], [`StoreLife::commit`],
-//! [`StoreLife::abort`], [`StoreLife::checkpoint`] and [`StoreLife::survey`]; and [`StoreLife::undo_next`] for one step of a help. Whoever calls them has all parts of the ledger of
-//! entries, so nobody else enters anything (`Runs` of `specs/SoFar`), and the history is known whole: each call says which
-//! entries it added (`specs/Turns`).
+//! [`StoreLife::abort`], [`StoreLife::checkpoint`], [`StoreLife::mark_lost`] and [`StoreLife::survey`];
+//! and [`StoreLife::undo_next`] for one step of a help. Whoever calls them has all parts of the ledger of entries, so nobody else
+//! enters anything (`Runs` of `specs/SoFar`), and the history is known whole: each call says which entries it added
+//! (`specs/Turns`).
 //!
 //! The model is the history so far, and the active names with their sessions and transactions in the order of their beginning.
 //! What is promised:
 //!
 //! 1. A call adds its command's own entries in their order, and beside them what may stand there, and nothing else. Behind a
-//!    refusal that isn't an answer there are none of its own but an abort's undos, and a Commit or a Checkpoint that met the
-//!    end of the life. A refused abort has entered no End. A step on the losers of the opening log adds one Undo or one End,
+//!    refusal that isn't an answer there are none of its own but an abort's undos, and a Commit, a Checkpoint or a Lost that met
+//!    the end of the life. A refused abort has entered no End. A step on the losers of the opening log adds one Undo or one End,
 //!    of the least that is left, and before it upkeep (`specs/Steps`).
 //! 2. The history is legal and the log of the life sound, for each log with which the life may have begun; so its committed
 //!    transactions are serial, and a stop leaves the first of them, at each moment ([`StoreLife::look`]).

@@ -6,7 +6,7 @@ ghost use Rattle.engine.specs.Applies.{GivesNone};
 ghost use Rattle.engine.specs.Requests.{IsRefusal, lock_of};
 ghost use Rattle.engine.specs.Writes.{LacksRoom};
 ghost use Rattle.log_laws.specs.Right.{IsRight};
-ghost use Rattle.maintenance.specs.Checkpoints.{FailsToCheckpoint};
+ghost use Rattle.maintenance.specs.Marks.{FailsToMark};
 ghost use Rattle.page_ops.specs.Causes.{Ends, FailsToBring, FailsToEnter, FailsToFlush, MeetsNoEnd, NoOther, OrTooMany};
 ghost use Rattle.page_ops.specs.Desks.{KeepsFaults};
 ghost use Rattle.page_ops.specs.Outcomes.{IsConflict, IsCrowd, IsSurvey};
@@ -16,14 +16,14 @@ ghost use Rattle.store_model.specs.declared.fault.Fault.TheVariants as faults;
 ghost use Rattle.wal_record.specs.declared.entry.Entry.{Entry};
 ghost use Rattle.wal_record.specs.declared.record.Record.{Record};
 ghost use Rattle.store_life.specs.SoFar.{BeginsAs, HasNames, Runs, actives, left_by};
-ghost use Rattle.store_life.specs.Turns.{Asks, EndsBy, IsCheckpointed, IsCommitted, IsTold};
+ghost use Rattle.store_life.specs.Turns.{Asks, EndsBy, IsCheckpointed, IsCommitted, IsLost, IsTold};
 
 use crate::asking::ask_session;
 use crate::beginning::begin_session;
 use crate::ending::{abort_session, commit_session};
 use engine::{Answered, Session};
 use front::Pass;
-use maintenance::checkpoint;
+use maintenance::{checkpoint, mark_lost};
 use operators::Operators;
 use page_ops::{Committed, Entering, Journaling, Life, Pages, Rights, Survey};
 use script::Name;
@@ -280,10 +280,31 @@ impl<N: Life> StoreLife<N> {
         ensures durable { self.old.pass.durable ≤ self.new.pass.durable }
         ensures flushed { IfOk result (λ lsn. (opening : List Record) → N.opens opening → lsn ≤ self.new.pass.durable) }
         ensures keeps { Keeps (J.account journal.old) (J.account journal.new) }
-        ensures refused { IfErr result FailsToCheckpoint }
+        ensures refused { IfErr result FailsToMark }
         ensures ends { Ends N.opens N.log_faults N.made (J.account journal.old) (J.account journal.new) self.new.pass.log result }
     {
         checkpoint(rt, alloc, journal, &mut self.pass)
+    }
+
+    /// Says in the log that the data device is lost, and makes the log durable up to that. Gives the LSN of the record.
+    pub fn mark_lost<J: Journaling<N>, R: Wait>(
+        &mut self,
+        rt: &R,
+        alloc: Global,
+        journal: &mut J,
+    ) -> Result<Lsn, Fault>
+        requires { Runs N.opens N.entries (J.account journal.old) self.old }
+        ensures runs { Runs N.opens N.entries (J.account journal.new) self.new }
+        ensures entered { IsLost result self.old.pass.log self.new.pass.log }
+        ensures names { self.new.named ≡ self.old.named }
+        ensures named { HasNames self.old → HasNames self.new }
+        ensures durable { self.old.pass.durable ≤ self.new.pass.durable }
+        ensures flushed { IfOk result (λ lsn. (opening : List Record) → N.opens opening → lsn ≤ self.new.pass.durable) }
+        ensures keeps { Keeps (J.account journal.old) (J.account journal.new) }
+        ensures refused { IfErr result FailsToMark }
+        ensures ends { Ends N.opens N.log_faults N.made (J.account journal.old) (J.account journal.new) self.new.pass.log result }
+    {
+        mark_lost(rt, alloc, journal, &mut self.pass)
     }
 
     /// What the journal knows of the log and of the life. Nothing is entered.

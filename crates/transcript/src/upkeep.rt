@@ -13,6 +13,7 @@ use store_model::Lsn;
 #[derive(Clone, Copy)]
 pub enum Upkeep {
     Checkpoint,
+    Lose,
     /// `help N`, whatever the number.
     Help,
     Close,
@@ -42,12 +43,13 @@ fn upkeep_head(alloc: Global, word: Upkeep) -> Result<Vec<u8>, AllocError>
 {
     match word {
         Upkeep::Checkpoint => begun(alloc, b"checkpoint".as_slice()),
+        Upkeep::Lose => begun(alloc, b"lose".as_slice()),
         Upkeep::Help => begun(alloc, b"help".as_slice()),
         Upkeep::Close => begun(alloc, b"close".as_slice()),
     }
 }
 
-/// `checkpoint ok`, `help ok` or `close ok`.
+/// `checkpoint ok`, and so of each other word.
 pub fn upkeep_line(alloc: Global, word: Upkeep) -> Result<Vec<u8>, AllocError>
     ensures { IfOk result (λ out. out.items ≡ upkeep_line word) }
 {

@@ -49,6 +49,12 @@ fn words_answered_by_ok(rt: HostRuntime) -> Result<(), Fail> {
             "checkpoint ended 1\n",
         ),
         (
+            Upkeep::Lose,
+            "lose ok\n",
+            "lose log failed\n",
+            "lose ended 1\n",
+        ),
+        (
             Upkeep::Help,
             "help ok\n",
             "help log failed\n",

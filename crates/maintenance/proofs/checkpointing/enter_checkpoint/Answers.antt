@@ -1,5 +1,8 @@
 use Rattle.std.proofs.Common.{Ok, ◌∙◌}
-use Rattle.maintenance.proofs.Checkpoints.{entered_at, is_askable, is_group, placed_at}
+use Rattle.wal_record.specs.declared.record.Checkpoint.{Checkpoint}
+use Rattle.wal_record.specs.declared.record.Record.TheVariants as kinds
+use Rattle.maintenance.proofs.Checkpoints.{filled, is_askable, is_group}
+use Rattle.maintenance.proofs.Marks.{entered_at, placed_at}
 use Rattle.maintenance.proofs.checkpointing.enter_checkpoint.Goals as goal
 
 pub enter-entered-requires-clause-group : goal.enter-entered-requires-clause-group
@@ -10,8 +13,8 @@ enter-entered-requires-clause-askable g c = is_askable _ c.in-Ok.ensures g.N.Lif
 
 pub returns-in-At-clause-entered : goal.returns-in-At-clause-entered
 returns-in-At-clause-entered g c =
-    entered_at _ _ _ _ c.enter-entered.new.group c.in-Ok.ensures _ _ _ _ _ _ c.in-At.field-0 _ (c.in-Ok-entered.is ∙ (λ i. Ok (c.in-At.is i))) c.enter-entered.ensures.entered c.enter-entered.ensures.filled
+    entered_at Checkpoint kinds.Checkpoint _ filled _ _ _ _ c.enter-entered.new.group c.in-Ok.ensures _ _ _ _ _ _ c.in-At.field-0 _ (c.in-Ok-entered.is ∙ (λ i. Ok (c.in-At.is i))) c.enter-entered.ensures.entered c.enter-entered.ensures.filled
 
 pub returns-in-At-clause-placed : goal.returns-in-At-clause-placed
 returns-in-At-clause-placed g c =
-    placed_at _ _ _ _ c.enter-entered.new.group c.in-Ok.ensures _ _ _ _ _ _ c.in-At.field-0 _ (c.in-Ok-entered.is ∙ (λ i. Ok (c.in-At.is i))) c.enter-entered.ensures.entered c.enter-entered.ensures.filled
+    placed_at Checkpoint kinds.Checkpoint _ filled _ _ _ _ c.enter-entered.new.group c.in-Ok.ensures _ _ _ _ _ _ c.in-At.field-0 _ (c.in-Ok-entered.is ∙ (λ i. Ok (c.in-At.is i))) c.enter-entered.ensures.entered c.enter-entered.ensures.filled
