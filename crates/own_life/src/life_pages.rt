@@ -1,5 +1,5 @@
 //! What a life asks of its pages.
-ghost use Rattle.std.specs.Prelude.{◌≡◌, ◌≤◌, ◌⊎◌, ℕ, Some, IfErr, IfOk, OnOk, true};
+ghost use Rattle.std.specs.Prelude.{◌≡◌, ◌≤◌, ◌⊎◌, ℕ, Some, IfErr, IfNone, IfOk, OnOk, true};
 ghost use mathlib.Core.List.{IsPrefix};
 ghost use Rattle.buffer_pool.specs.Writes.{no_faults};
 ghost use Rattle.command_laws.specs.Names.{Active, active_of, is_active};
@@ -17,7 +17,7 @@ ghost use Rattle.page_repair.specs.Images.{AreWritten};
 ghost use Rattle.store_life.specs.SoFar.{HasNames, Runs, actives, left_by};
 ghost use Rattle.store_life.specs.Steps.{AddsUpkeep, StepsBack};
 ghost use Rattle.store_life.specs.Turns.{Asks, EndsBy, IsTold};
-ghost use Rattle.own_life.specs.Pages.{HasNone, IsNextRedone, IsNextWritten, OneLess, WritesUpto};
+ghost use Rattle.own_life.specs.Pages.{AreRestored, HasNone, IsNextRedone, IsNextWritten, OneLess, WritesUpto};
 
 use engine::Answered;
 use front::Pass;
@@ -107,6 +107,28 @@ pub trait LifePages<N: Life, D: PageDevice> {
         ensures idle { idle self.new }
         ensures runs { Runs N.opens N.entries (J.account journal.new) life.new }
         ensures steps { StepsBack N.opens result life.old.pass.log life.new.pass.log }
+        ensures names { life.new.named ≡ life.old.named }
+        ensures named { HasNames life.old → HasNames life.new }
+        ensures durable { life.old.pass.durable ≤ life.new.pass.durable }
+        ensures keeps { Keeps (J.account journal.old) (J.account journal.new) }
+        ensures open { OnOk result (MeetsNoEnd (J.account journal.old) (J.account journal.new)) }
+        ensures refused { IfErr result (FailsToBring N.opens N.log_faults N.made no_faults no_faults (J.account journal.old) (J.account journal.new) life.new.pass.log) };
+
+    /// Restores the least segment that is unrestored, by bringing its first page, and gives its number; none where each segment is
+    /// restored.
+    fn restore_next<J: Journaling<N>, R: Wait>(
+        &mut self,
+        rt: &R,
+        alloc: Global,
+        journal: &mut J,
+        life: &mut StoreLife<N>,
+    ) -> Result<Option<u32>, Fault>
+        requires idle { idle self.old }
+        requires runs { Runs N.opens N.entries (J.account journal.old) life.old }
+        ensures idle { idle self.new }
+        ensures runs { Runs N.opens N.entries (J.account journal.new) life.new }
+        ensures restored { IfOk result (λ segment. IfNone segment (AreRestored N.opens life.new.pass.log)) }
+        ensures upkeep { AddsUpkeep life.old.pass.log life.new.pass.log }
         ensures names { life.new.named ≡ life.old.named }
         ensures named { HasNames life.old → HasNames life.new }
         ensures durable { life.old.pass.durable ≤ life.new.pass.durable }

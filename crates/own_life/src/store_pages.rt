@@ -1,5 +1,5 @@
 //! The pages of a life over its data device.
-ghost use Rattle.std.specs.Prelude.{◌≡◌, ◌≤◌, ◌⊎◌, ℕ, Some, IfErr, IfOk, OnOk, false, true};
+ghost use Rattle.std.specs.Prelude.{◌≡◌, ◌≤◌, ◌⊎◌, ℕ, Some, IfErr, IfNone, IfOk, OnOk, false, true};
 ghost use mathlib.Core.List.{IsPrefix};
 ghost use Rattle.buffer_pool.specs.Writes.{no_faults};
 ghost use Rattle.command_laws.specs.Names.{Active, active_of, is_active};
@@ -17,7 +17,7 @@ ghost use Rattle.page_repair.specs.Images.{AreWritten};
 ghost use Rattle.store_life.specs.SoFar.{HasNames, Runs, actives, left_by};
 ghost use Rattle.store_life.specs.Steps.{AddsUpkeep, StepsBack};
 ghost use Rattle.store_life.specs.Turns.{Asks, EndsBy, IsTold};
-ghost use Rattle.own_life.specs.Pages.{AwaitsRedo, HasNone, IsNextRedone, IsNextWritten, Lacks, OneLess, WritesUpto};
+ghost use Rattle.own_life.specs.Pages.{AreRestored, AwaitsRedo, HasNone, IsNextRedone, IsNextWritten, Lacks, OneLess, WritesUpto};
 
 use crate::supply::LogAlone;
 use buffer_pool::PlainPool;
@@ -31,7 +31,7 @@ use script::Name;
 use std::alloc::Global;
 use std::sync::Wait;
 use store_life::StoreLife;
-use store_model::{Fault, PageNo, Pos, Request};
+use store_model::{Fault, PageNo, Pos, Request, SEGMENT_PAGES};
 use wal_record::Entry;
 
 /// The pages of a life over a data device: a page that this lacks, or gives damaged or too old, is rebuilt from the log. Whoever
@@ -120,6 +120,46 @@ impl<'a, D: PageDevice, N: Life> StorePages<'a, D, N> {
         ensures refused { IfErr result (FailsToBring N.opens N.log_faults N.made no_faults no_faults (J.account journal.old) (J.account journal.new) life.new.pass.log) }
     {
         life.undo_next(rt, alloc, &mut self.pool, journal)
+    }
+
+    /// Restores the least segment that is unrestored, by bringing its first page, and gives its number; none where each segment is
+    /// restored.
+    pub fn restore_next<J: Journaling<N>, R: Wait>(
+        &mut self,
+        rt: &R,
+        alloc: Global,
+        journal: &mut J,
+        life: &mut StoreLife<N>,
+    ) -> Result<Option<u32>, Fault>
+        requires idle { (self.old.pool.out ≡ 0) × (self.old.pool.reserves ≡ false) }
+        requires runs { Runs N.opens N.entries (J.account journal.old) life.old }
+        ensures idle { (self.new.pool.out ≡ 0) × (self.new.pool.reserves ≡ false) }
+        ensures runs { Runs N.opens N.entries (J.account journal.new) life.new }
+        ensures restored { IfOk result (λ segment. IfNone segment (AreRestored N.opens life.new.pass.log)) }
+        ensures upkeep { AddsUpkeep life.old.pass.log life.new.pass.log }
+        ensures names { life.new.named ≡ life.old.named }
+        ensures named { HasNames life.old → HasNames life.new }
+        ensures durable { life.old.pass.durable ≤ life.new.pass.durable }
+        ensures keeps { Keeps (J.account journal.old) (J.account journal.new) }
+        ensures open { OnOk result (MeetsNoEnd (J.account journal.old) (J.account journal.new)) }
+        ensures refused { IfErr result (FailsToBring N.opens N.log_faults N.made no_faults no_faults (J.account journal.old) (J.account journal.new) life.new.pass.log) }
+    {
+        let work = match journal.work(rt, &mut life.pass) {
+            Ok(work) => work,
+            Err(fault) => return Err(fault),
+        };
+        let Some(segment) = work.segment else {
+            return Ok(None);
+        };
+        let page = segment.saturating_mul(SEGMENT_PAGES).saturating_add(1);
+        // Its first page is there, in every log that is told.
+        if page > journal.pages(rt, &mut life.pass) {
+            return Err(Fault::Memory);
+        }
+        match self.pool.bring(rt, alloc, journal, page, &mut life.pass) {
+            Ok(()) => Ok(Some(segment)),
+            Err(fault) => Err(fault),
+        }
     }
 
     /// Brings the least page that awaits redo, and gives its number; none where no page awaits it.

@@ -100,7 +100,7 @@ const UNLAWFUL: [(&str, u64); 27] = [
 ];
 
 /// Lines that ask for what isn't built.
-const UNBUILT: [&str; 10] = [
+const UNBUILT: [&str; 9] = [
     "beg",
     "fuse",
     "fuse vault 1",
