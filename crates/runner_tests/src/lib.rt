@@ -13,6 +13,8 @@ mod devices;
 #[cfg(test)]
 mod helping;
 #[cfg(test)]
+mod losses;
+#[cfg(test)]
 mod random;
 #[cfg(test)]
 mod refusals;

@@ -69,11 +69,12 @@ fn a_key_has_at_most_64_bytes_and_a_value_256(rt: HostRuntime) -> Result<(), Fai
 }
 
 /// Scripts with the line with which no script goes on.
-const UNLAWFUL: [(&str, u64); 27] = [
+const UNLAWFUL: [(&str, u64); 28] = [
     ("format\nopen\nbeg", 3),
     ("begin A\n", 1),
     ("stat\n", 1),
     ("checkpoint\n", 1),
+    ("format\nlose\n", 2),
     ("renew log 1\n", 1),
     ("format 7\n", 1),
     ("format 16385\n", 1),
