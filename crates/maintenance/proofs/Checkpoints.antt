@@ -32,7 +32,8 @@ use Rattle.page_ops.specs.declared.outcome.Entered.{Entered}
 use Rattle.page_ops.specs.declared.outcome.Entered.TheVariants as entereds
 use Rattle.page_ops.proofs.Gaining.{gains_of, gains_then}
 use Rattle.page_ops.proofs.Staying.{longer_log}
-use Rattle.maintenance.specs.Checkpoints.{GainsCheckpoint, TakesCheckpoint, checkpoint_group}
+use Rattle.maintenance.specs.Checkpoints.{checkpoint_group}
+use Rattle.maintenance.proofs.Marks.{StaysOfKind}
 
 no_unfinished : AllAlong KeepsUnfinished []
 unfolding AllAlong
@@ -68,6 +69,6 @@ module _ (g : Group) (is : g ≡ checkpoint_group) where
   is_timely opening seen = subst (λ (z : Group). Each (WasTimely opening seen) z.recs) (sym is) ((seen, prefix_self seen, tt), tt)
 
 pub filled : StaysOfKind Checkpoint kinds.Checkpoint (kinds.Checkpoint no_checkpoint)
-filled made new [] f = absurd f
-filled made new (x ∷ []) f = (f.0.0.checkpoint, ap (λ (y : Record). y ∷ []) f.0.2)
-filled made new (x ∷ y ∷ ys) f = absurd f.1
+filled new [] f = absurd f
+filled new (x ∷ []) f = (f.0.0.checkpoint, ap (λ (y : Record). y ∷ []) f.0.2)
+filled new (x ∷ y ∷ ys) f = absurd f.1

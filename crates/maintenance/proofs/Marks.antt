@@ -12,7 +12,7 @@ use Rattle.wal_record.specs.Legal.{IsLegal}
 use Rattle.wal_record.proofs.Pushes.{legal_front, log_more}
 use Rattle.page_ops.specs.Causes.{FailsToFlush}
 use Rattle.page_ops.specs.Claims.{Claims, no_claims}
-use Rattle.page_ops.specs.Groups.{AreFilled, AreFilledFrom}
+use Rattle.page_ops.specs.Groups.{AreFilled}
 use Rattle.page_ops.specs.Names.{LedgerName}
 use Rattle.page_ops.specs.Outcomes.{EntersGroup, IsFilledIn, OnEntered, answered}
 use Rattle.page_ops.specs.Gains.{Gains}
@@ -35,7 +35,7 @@ alone r = record { recs = r ∷ []; said = None; room = false; lsn = 0 }
 
 -- what the journal makes of it is of the same kind
 abbrev pub StaysOfKind : (A : Type 0) → (A → Record) → Record → Type 0
-StaysOfKind A mark r = (made : Option ℕ) (new : ℕ) (xs : List Record) → AreFilledFrom made new (r ∷ []) xs → (a : A) × (xs ≡ mark a ∷ [])
+StaysOfKind A mark r = (new : ℕ) (xs : List Record) → AreFilled new (r ∷ []) xs → (a : A) × (xs ≡ mark a ∷ [])
 
 module _ (A : Type 0) (mark : A → Record) (r : Record) (stays : StaysOfKind A mark r) (opens : List Record → Type 0) (ledger sessions : LedgerName) (g now : Group) (is : g ≡ alone r) (a b : Account) (p q : PassSeen Entry) (x y : Claims) where
   of_group : (result : Result Entered Fault) → EntersGroup opens ledger sessions g now result (known a p x) (known b q y) → Enters opens ledger sessions (known a p x) (answered now.lsn now.recs None result) (known b q y)
@@ -46,7 +46,7 @@ module _ (A : Type 0) (mark : A → Record) (r : Record) (stays : StaysOfKind A 
     filling = subst (λ (o : Result Entered Fault). OnEntered o (IsFilledIn g now x y)) at f
 
     the_record : (k : A) × (now.recs ≡ mark k ∷ [])
-    the_record = stays None filling.child now.recs (subst (λ (z : Group). AreFilled filling.child z.recs now.recs) is filling.recs)
+    the_record = stays filling.child now.recs (subst (λ (z : Group). AreFilled filling.child z.recs now.recs) is filling.recs)
 
     whole : Enters opens ledger sessions (known a p x) (entries.Rec now.lsn (mark the_record.0) ∷ []) (known b q y)
     whole =
