@@ -29,7 +29,7 @@ ghost use Rattle.journal.specs.Groups.{EndsLoser, EntersFilled, EntersNow, Group
 use crate::checkpointing::{can_spell, is_checkpoint_alone};
 use crate::ends::check_open;
 use crate::filling::{append_all, child_of, end_of};
-use crate::journal::Journal;
+use crate::journal::{Journal, MOST};
 use crate::late::first_late;
 use crate::restored::{note_group, prepare_group};
 use crate::taken::Taken;

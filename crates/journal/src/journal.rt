@@ -55,16 +55,16 @@ pub(crate) const MOST: u64 = 1 << 62;
 #[derive(Drop)]
 pub struct Journal<'a, L: Disk, N: Life> {
     pub(crate) log: ListedLog<L>,
-    locks: RangeLocks,
+    pub(crate) locks: RangeLocks,
     pub(crate) history: History<'a, N>,
     pub(crate) mark: Mark<Entry, N>,
     // Up to which LSN passes were told that the log is durable.
     pub(crate) marked: Lsn,
     pub(crate) faults: Book<LogFaults<N>>,
     // The right to the page that the next group makes which makes one, where it was opened already.
-    made: Option<PageRight<N>>,
+    pub(crate) made: Option<PageRight<N>>,
     // Where the last Restored of each segment stands.
-    restored: BTreeMap<u32, Pos>,
+    pub(crate) restored: BTreeMap<u32, Pos>,
     // What the life has done of each loser of its opening log.
     pub(crate) losers: Losers,
 }
