@@ -61,8 +61,8 @@
 mod checkpointing;
 mod device;
 mod ends;
-mod entering;
 mod filling;
+mod group_entering;
 mod in_way;
 mod journal;
 mod late;

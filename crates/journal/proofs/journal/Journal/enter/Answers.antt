@@ -13,7 +13,7 @@ use Rattle.journal.proofs.Losing.{losers_same}
 use Rattle.journal.proofs.Restoring.{restored_same}
 use Rattle.journal.proofs.Stopping.{still_safe}
 use Rattle.journal.proofs.Calls.{calls_is, ended_is, history_is}
-use Rattle.journal.proofs.entering.Journal.enter.Goals as goal
+use Rattle.journal.proofs.journal.Journal.enter.Goals as goal
 
 pub returns-in_err-check_open-clause-ends : goal.returns-in_err-check_open-clause-ends
 returns-in_err-check_open-clause-ends g c =

@@ -10,7 +10,7 @@ use Rattle.journal.proofs.Overs.{over_consistent, over_records}
 use Rattle.journal.proofs.Restoring.{restored_entry}
 use Rattle.journal.proofs.Stopping.{group_safe, still_safe}
 use Rattle.journal.proofs.Calls.{durable_same, history_is}
-use Rattle.journal.proofs.entering.Journal.end_loser.Goals as goal
+use Rattle.journal.proofs.journal.Journal.end_loser.Goals as goal
 
 pub enter_loser_end-requires-clause-consistent : goal.enter_loser_end-requires-clause-consistent
 enter_loser_end-requires-clause-consistent g c =

@@ -8,7 +8,7 @@ use Rattle.wal_record.specs.declared.record.Record.{Record}
 use Rattle.journal.proofs.Lateness.{known_tells}
 use Rattle.journal.proofs.Restoring.{none_map, some_map}
 use Rattle.journal.proofs.Calls.{history_is}
-use Rattle.journal.proofs.entering.Journal.late.Goals as goal
+use Rattle.journal.proofs.journal.Journal.late.Goals as goal
 
 pub returns-clause-none : goal.returns-clause-none
 returns-clause-none g c =

@@ -10,7 +10,7 @@ use Rattle.wal_record.specs.declared.record.Record.TheVariants as kinds
 use Rattle.journal.specs.Groups.{EntersFilled, GroupFollows}
 use Rattle.journal.proofs.Checkpoints.{checkpoint_entered, checkpoint_follows}
 use Rattle.journal.proofs.Calls.{history_is}
-use Rattle.journal.proofs.entering.Journal.enter_checkpoint.Goals as goal
+use Rattle.journal.proofs.journal.Journal.enter_checkpoint.Goals as goal
 
 pub enter_filled-requires-clause-follows : goal.enter_filled-requires-clause-follows
 enter_filled-requires-clause-follows g c lsn next =

@@ -11,7 +11,7 @@ use Rattle.journal.specs.Groups.{GroupFollows, EntersFilled, IsNewRight}
 use Rattle.journal.proofs.Entering.{enters_now}
 use Rattle.journal.proofs.Grouping.{filled_follows, known_at, few_pages, spelled_asked, child_numbered, new_right_is}
 use Rattle.journal.proofs.Calls.{history_is}
-use Rattle.journal.proofs.entering.Journal.fill_in.Goals as goal
+use Rattle.journal.proofs.journal.Journal.fill_in.Goals as goal
 
 pub enter_filled-requires-clause-spelled : goal.enter_filled-requires-clause-spelled
 enter_filled-requires-clause-spelled g c = subst (λ (l : List Record). Each AreInRange l → All HasSpelling l × (length (bytes_of l) ≤ 4194304)) (sym c.as_slice-recs.ensures)

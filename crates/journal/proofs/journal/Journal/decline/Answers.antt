@@ -14,7 +14,7 @@ use Rattle.journal.proofs.Losing.{losers_entry}
 use Rattle.journal.proofs.Restoring.{restored_entry}
 use Rattle.journal.proofs.Stopping.{entry_safe}
 use Rattle.journal.proofs.Calls.{history_is}
-use Rattle.journal.proofs.entering.Journal.decline.Goals as goal
+use Rattle.journal.proofs.journal.Journal.decline.Goals as goal
 
 pub enter_declined-requires-clause-consistent : goal.enter_declined-requires-clause-consistent
 enter_declined-requires-clause-consistent g c =

@@ -2,7 +2,7 @@ use Rattle.std.proofs.Common.{List, sym, subst}
 use Rattle.page_ops.specs.Asking.{HasNumbers, MayFollow}
 use Rattle.wal_record.specs.declared.entry.Entry.{Entry}
 use Rattle.journal.proofs.Calls.{history_is}
-use Rattle.journal.proofs.entering.Journal.write.Goals as goal
+use Rattle.journal.proofs.journal.Journal.write.Goals as goal
 
 pub fill_in-entered-requires-clause-follows : goal.fill_in-entered-requires-clause-follows
 fill_in-entered-requires-clause-follows g c opening stands =

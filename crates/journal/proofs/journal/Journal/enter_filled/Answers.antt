@@ -19,7 +19,7 @@ use Rattle.journal.proofs.Losing.{losers_group}
 use Rattle.journal.proofs.Restoring.{restored_kept, restored_same}
 use Rattle.journal.proofs.Stopping.{group_safe, still_safe}
 use Rattle.journal.proofs.Calls.{durable_same, history_is}
-use Rattle.journal.proofs.entering.Journal.enter_filled.Goals as goal
+use Rattle.journal.proofs.journal.Journal.enter_filled.Goals as goal
 
 pub enter_group-requires-clause-fresh : goal.enter_group-requires-clause-fresh
 enter_group-requires-clause-fresh g c =
