@@ -12,16 +12,23 @@ use Rattle.own_life.proofs.store_pages.StorePages.restore_next.Goals as goal
 pub bring-requires-clause-made : goal.bring-requires-clause-made
 bring-requires-clause-made g c =
     let all = c.if-page-pages.false in
-    made_upto g.N.Life.opens c.pages.new.pass.log c.pages.ensures.seen.now.consistent c.page c.pages.result (omega arith) (omega (arith, all)) c.pages.ensures.count
+    let some = c.saturating_add-page.ensures in
+    made_upto g.N.Life.opens c.pages.new.pass.log c.pages.ensures.seen.now.consistent c.saturating_add-page.result c.pages.result (omega (arith, some)) (omega (arith, all)) c.pages.ensures.count
 
-pub returns-in-Ok-clause-upkeep : goal.returns-in-Ok-clause-upkeep
-returns-in-Ok-clause-upkeep g c = restored_upkeep g.N.Life.opens g.N.Life.entries g.N.Life.session_entries (g.J.Entering.account c.args.journal.now) (g.J.Entering.account c.work.new.self) (g.J.Entering.account c.pages.new.self) (g.J.Entering.account c.bring.new.journal) c.args.life.now.pass c.work.new.pass c.pages.new.pass c.bring.new.pass c.requires.runs.alone c.work.ensures.seen c.pages.ensures.seen c.bring.ensures.entered
+pub returns-in-Ok-bring-clause-upkeep : goal.returns-in-Ok-bring-clause-upkeep
+returns-in-Ok-bring-clause-upkeep g c = restored_upkeep g.N.Life.opens g.N.Life.entries g.N.Life.session_entries (g.J.Entering.account c.args.journal.now) (g.J.Entering.account c.work.new.self) (g.J.Entering.account c.pages.new.self) (g.J.Entering.account c.bring.new.journal) c.args.life.now.pass c.work.new.pass c.pages.new.pass c.bring.new.pass c.requires.runs.alone c.work.ensures.seen c.pages.ensures.seen c.bring.ensures.entered
 
-pub returns-in-Ok-clause-named : goal.returns-in-Ok-clause-named
-returns-in-Ok-clause-named g c = λ named. upkeep_named c.args.life.now.pass.log c.bring.new.pass.log (actives c.args.life.now.named.items) (restored_upkeep g.N.Life.opens g.N.Life.entries g.N.Life.session_entries (g.J.Entering.account c.args.journal.now) (g.J.Entering.account c.work.new.self) (g.J.Entering.account c.pages.new.self) (g.J.Entering.account c.bring.new.journal) c.args.life.now.pass c.work.new.pass c.pages.new.pass c.bring.new.pass c.requires.runs.alone c.work.ensures.seen c.pages.ensures.seen c.bring.ensures.entered) named
+pub returns-in-Ok-bring-clause-named : goal.returns-in-Ok-bring-clause-named
+returns-in-Ok-bring-clause-named g c = λ named. upkeep_named c.args.life.now.pass.log c.bring.new.pass.log (actives c.args.life.now.named.items) (restored_upkeep g.N.Life.opens g.N.Life.entries g.N.Life.session_entries (g.J.Entering.account c.args.journal.now) (g.J.Entering.account c.work.new.self) (g.J.Entering.account c.pages.new.self) (g.J.Entering.account c.bring.new.journal) c.args.life.now.pass c.work.new.pass c.pages.new.pass c.bring.new.pass c.requires.runs.alone c.work.ensures.seen c.pages.ensures.seen c.bring.ensures.entered) named
 
-pub returns-in-Err-clause-upkeep : goal.returns-in-Err-clause-upkeep
-returns-in-Err-clause-upkeep g c = restored_upkeep g.N.Life.opens g.N.Life.entries g.N.Life.session_entries (g.J.Entering.account c.args.journal.now) (g.J.Entering.account c.work.new.self) (g.J.Entering.account c.pages.new.self) (g.J.Entering.account c.bring.new.journal) c.args.life.now.pass c.work.new.pass c.pages.new.pass c.bring.new.pass c.requires.runs.alone c.work.ensures.seen c.pages.ensures.seen c.bring.ensures.entered
+pub returns-in-Err-bring-clause-upkeep : goal.returns-in-Err-bring-clause-upkeep
+returns-in-Err-bring-clause-upkeep g c = restored_upkeep g.N.Life.opens g.N.Life.entries g.N.Life.session_entries (g.J.Entering.account c.args.journal.now) (g.J.Entering.account c.work.new.self) (g.J.Entering.account c.pages.new.self) (g.J.Entering.account c.bring.new.journal) c.args.life.now.pass c.work.new.pass c.pages.new.pass c.bring.new.pass c.requires.runs.alone c.work.ensures.seen c.pages.ensures.seen c.bring.ensures.entered
 
-pub returns-in-Err-clause-named : goal.returns-in-Err-clause-named
-returns-in-Err-clause-named g c = λ named. upkeep_named c.args.life.now.pass.log c.bring.new.pass.log (actives c.args.life.now.named.items) (restored_upkeep g.N.Life.opens g.N.Life.entries g.N.Life.session_entries (g.J.Entering.account c.args.journal.now) (g.J.Entering.account c.work.new.self) (g.J.Entering.account c.pages.new.self) (g.J.Entering.account c.bring.new.journal) c.args.life.now.pass c.work.new.pass c.pages.new.pass c.bring.new.pass c.requires.runs.alone c.work.ensures.seen c.pages.ensures.seen c.bring.ensures.entered) named
+pub returns-in-Err-bring-clause-named : goal.returns-in-Err-bring-clause-named
+returns-in-Err-bring-clause-named g c = λ named. upkeep_named c.args.life.now.pass.log c.bring.new.pass.log (actives c.args.life.now.named.items) (restored_upkeep g.N.Life.opens g.N.Life.entries g.N.Life.session_entries (g.J.Entering.account c.args.journal.now) (g.J.Entering.account c.work.new.self) (g.J.Entering.account c.pages.new.self) (g.J.Entering.account c.bring.new.journal) c.args.life.now.pass c.work.new.pass c.pages.new.pass c.bring.new.pass c.requires.runs.alone c.work.ensures.seen c.pages.ensures.seen c.bring.ensures.entered) named
+
+pub returns-in-Err-bring-clause-refused : goal.returns-in-Err-bring-clause-refused
+returns-in-Err-bring-clause-refused g c =
+    let none = done_meets_none g.N.Life.opens g.N.Life.log_faults g.N.Life.made (g.J.Entering.account c.args.journal.now) (g.J.Entering.account c.work.new.self) c.work.new.pass.log c.in-Ok.work c.in-Ok.ensures.ends in
+    bring_then g.N.Life.opens g.N.Life.log_faults g.N.Life.made (g.J.Entering.account c.args.journal.now) (g.J.Entering.account c.work.new.self) (g.J.Entering.account c.bring.new.journal) c.bring.new.pass.log none c.work.ensures.seen.keeps no_faults no_faults no_faults c.in-Err-bring.fault (faults_self no_faults)
+    (bring_then g.N.Life.opens g.N.Life.log_faults g.N.Life.made (g.J.Entering.account c.work.new.self) (g.J.Entering.account c.pages.new.self) (g.J.Entering.account c.bring.new.journal) c.bring.new.pass.log c.pages.ensures.calm.end c.pages.ensures.seen.keeps no_faults no_faults no_faults c.in-Err-bring.fault (faults_self no_faults) c.in-Err-bring.ensures.refused)
