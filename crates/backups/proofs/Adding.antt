@@ -41,7 +41,7 @@ use Rattle.page_ops.proofs.Staying.{longer_log}
 use Rattle.named_objects.proofs.MadeObjects.{calm_sessions}
 use Rattle.named_objects.specs.Drafts.{FailsToName, NamesOne}
 use Rattle.named_objects.specs.declared.naming.Naming.TheVariants as namings
-use Rattle.backups.specs.Backups.{AddsTo, BacksUp, BeginsToBackUp, FailsToBackUp, HasPage, IsDurable, IsTold, SomeOf, is_of_backup}
+use Rattle.backups.specs.Backups.{AddsTo, BacksUp, BeginsToBackUp, FailsToBackUp, HasPage, IsAbove, IsDurable, IsTold, SomeOf, is_of_backup}
 use Rattle.backups.specs.Copies.{AreDrawn, AreMade, Drawn, WasCurrent, told_of}
 use Rattle.backups.specs.Going.{HasBackedUp, HasBackedUpOr}
 use Rattle.backups.proofs.Lists.{all_both, all_more, each_both, each_more, each_of_all, low_or_high, some_left, some_more, some_right}
@@ -62,6 +62,11 @@ durable_later : (before now : ℕ) → before ≤ now → (e : Entry) → IsDura
 durable_later before now up (Rec lsn (kinds.BackupDone b)) h = omega (arith, up, h)
 durable_later before now up (Rec lsn r) h = tt
 durable_later before now up e h = tt
+
+of_above : (backup last : ℕ) → last < backup → (e : Entry) → is_of_backup backup e ≡ true → IsAbove last e
+of_above backup last lt (Rec lsn (kinds.BackupDone b)) h = let same : b.backup ≡ backup = grind (arith, nat_tests) in omega (arith, lt, same)
+of_above backup last lt (Rec lsn r) h = tt
+of_above backup last lt e h = tt
 
 told_less : (page least less : ℕ) → less ≤ least → (xs : List PageLsn) → IsTold page least xs → IsTold page less xs
 told_less page least less low [] t = absurd t
@@ -272,7 +277,15 @@ module _ (opens : List Record → Type 0) (entries sessions : LedgerName) (a b c
   calm = calm_sessions opens entries sessions b c q r second ∙ calm_sessions opens entries sessions a b p q first
 
   pub nothing_begun : BeginsToBackUp opens entries sessions (known a p no_claims) (known c r no_claims)
-  nothing_begun = (0, [], adds_none opens entries sessions 0 (known a p no_claims) (known c r no_claims) both calm)
+  nothing_begun = record { backup = 0; own = []; adds = adds_none opens entries sessions 0 (known a p no_claims) (known c r no_claims) both calm; above = λ opening stands. tt }
+
+  number_above : (backup : ℕ) → ((opening : List Record) → opens opening → backup ≡ last_backup (life_log opening r.log) + 1) → (opening : List Record) → opens opening → last_backup (life_log opening p.log) < backup
+  number_above backup number opening stands =
+      let rises = last_rises (life_log opening p.log) (log_of both.gained) in
+      let longer : life_log opening r.log ≡ life_log opening p.log ++ log_of both.gained = ap (life_log opening) both.is ∙ longer_log opening p.log both.gained in
+      let l = ap last_backup longer in
+      let n = number opening stands in
+      omega (arith, rises, l, n)
 
   module _ (third : Looks opens entries sessions c r d s) where
     abbrev before : (backup : ℕ) → AddsTo opens entries sessions backup [] (known a p no_claims) (known d s no_claims)
@@ -280,20 +293,22 @@ module _ (opens : List Record → Type 0) (entries sessions : LedgerName) (a b c
         adds_none opens entries sessions backup (known a p no_claims) (known d s no_claims)
         (gains_then opens entries sessions [] [] (known a p no_claims) (known c r no_claims) (known d s no_claims) both (gains_of opens entries sessions [] (known c r no_claims) (known d s no_claims) third)) (calm_sessions opens entries sessions c d r s third ∙ calm)
 
-    pub begun : (backup : ℕ) (e : Known) → (own : List Entry) × AddsTo opens entries sessions backup own (known d s no_claims) e → BeginsToBackUp opens entries sessions (known a p no_claims) e
-    begun backup e x = (backup, x.0, adds_then opens entries sessions backup [] x.0 (known a p no_claims) (known d s no_claims) e (before backup) x.1)
+    pub begun : (backup : ℕ) (e : Known) → ((opening : List Record) → opens opening → backup ≡ last_backup (life_log opening r.log) + 1) → (own : List Entry) × AddsTo opens entries sessions backup own (known d s no_claims) e
+        → BeginsToBackUp opens entries sessions (known a p no_claims) e
+    begun backup e number x = record {
+      backup = backup;
+      own = x.0;
+      adds = adds_then opens entries sessions backup [] x.0 (known a p no_claims) (known d s no_claims) e (before backup) x.1;
+      above = λ opening stands.
+          each_of_all (is_of_backup backup) (IsAbove (last_backup (life_log opening p.log))) (of_above backup (last_backup (life_log opening p.log)) (number_above backup number opening stands)) x.0 x.1.kinds;
+    }
 
     pub backed_up : (backup most : ℕ) (e : Known) → ((opening : List Record) → opens opening → backup ≡ last_backup (life_log opening r.log) + 1) → ((opening : List Record) → opens opening → most ≡ pages (life_log opening s.log))
         → HasBackedUp opens entries sessions s.log backup 0 most (known d s no_claims) e → BacksUp opens entries sessions backup (known a p no_claims) e
     backed_up backup most e number count x = record {
       own = x.own;
       adds = adds_then opens entries sessions backup [] x.own (known a p no_claims) (known d s no_claims) e (before backup) x.adds;
-      above = λ opening stands.
-          let rises = last_rises (life_log opening p.log) (log_of both.gained) in
-          let longer : life_log opening r.log ≡ life_log opening p.log ++ log_of both.gained = ap (life_log opening) both.is ∙ longer_log opening p.log both.gained in
-          let l = ap last_backup longer in
-          let n = number opening stands in
-          omega (arith, rises, l, n);
+      above = number_above backup number;
       pages = λ opening page stands made.
           let begins : IsPrefix p.log s.log = prefix_trans p.log r.log s.log (both.gained, sym both.is) third.now.begins in
           let still : is_some (image (life_log opening s.log) page) ≡ true = made_since (λ (l : List Record). l ≡ opening) p.log s.log page begins (λ other same. subst (λ (l : List Record). is_some (image (life_log l p.log) page) ≡ true) (sym same) made) opening refl in

@@ -42,6 +42,11 @@ abbrev pub IsDurable : ℕ → Entry → Type 0
 IsDurable durable (Rec lsn (kinds.BackupDone b)) = lsn ≤ durable
 IsDurable durable e = Unit {0}
 
+-- where the entry says that a segment is backed up, it is so by a backup above that number
+abbrev pub IsAbove : ℕ → Entry → Type 0
+IsAbove last (Rec lsn (kinds.BackupDone b)) = last < b.backup
+IsAbove last e = Unit {0}
+
 -- one of the entries is so
 abbrev pub SomeOf : (Entry → Type 0) → List Entry → Type 0
 SomeOf P [] = ⊥
@@ -62,9 +67,12 @@ pub record BacksUp (opens : List Record → Type 0) (entries sessions : LedgerNa
   pub pages : (opening : List Record) (page : ℕ) → opens opening → IsTrue (is_some (image (life_log opening old.log) page)) → SomeOf (HasPage backup page (head (life_log opening old.log) page)) own
   pub durable : (opening : List Record) → opens opening → Each (IsDurable new.durable) own
 
--- some segments of a backup may be done
-abbrev pub BeginsToBackUp : (List Record → Type 0) → LedgerName → LedgerName → Known → Known → Type 0
-BeginsToBackUp opens entries sessions old new = (backup : ℕ) × (own : List Entry) × AddsTo opens entries sessions backup own old new
+-- Some segments of a backup may be done. Each entry that says so names a new backup.
+pub record BeginsToBackUp (opens : List Record → Type 0) (entries sessions : LedgerName) (old new : Known) : Type 0 where
+  pub backup : ℕ
+  pub own : List Entry
+  pub adds : AddsTo opens entries sessions backup own old new
+  pub above : (opening : List Record) → opens opening → Each (IsAbove (last_backup (life_log opening old.log))) own
 
 abbrev pub BacksUpOr : (List Record → Type 0) → LedgerName → LedgerName → Result ℕ Fault → Known → Known → Type 0
 BacksUpOr opens entries sessions (Ok backup) old new = BacksUp opens entries sessions backup old new

@@ -9,8 +9,8 @@
 //! What is promised: where it is done, each page that had an image as the call began is told by one of these records, at an LSN
 //! not below its head then, under a number that no backup had before; and the log is durable up to each of them (`entered`).
 //! The call enters nothing else but what the upkeep of pages enters. What stands in the objects is the objects' own promise
-//! (`named_objects`). After a refusal the segments that are done stay named; no page is in hand and no frame more is reserved.
-//! Each refusal has its cause (`refused`, `open`).
+//! (`named_objects`). After a refusal the segments that are done stay named, under a number that no backup had before, too; no
+//! page is in hand and no frame more is reserved. Each refusal has its cause (`refused`, `open`).
 #![tactic(auto)]
 
 mod backing_up;

@@ -43,7 +43,7 @@ returns-in_err-back_up_all-clause-entered g c =
     rw p.1
     (begun g.N.Life.opens g.N.Life.entries g.N.Life.session_entries (g.J.Entering.account c.args.journal.now) (g.J.Entering.account c.last_named-since.new.journal) (g.J.Entering.account c.next_backup.new.journal) (g.J.Entering.account c.pages-most.new.self)
     c.args.pass.now c.last_named-since.new.pass c.next_backup.new.pass c.pages-most.new.pass c.last_named-since.ensures.seen c.next_backup.ensures.seen c.pages-most.ensures.seen
-    c.in_ok-backup.backup (known (g.J.Entering.account c.back_up_all.new.journal) c.back_up_all.new.pass no_claims) c.in_err-back_up_all.ensures.entered)
+    c.in_ok-backup.backup (known (g.J.Entering.account c.back_up_all.new.journal) c.back_up_all.new.pass no_claims) c.in_ok-backup.ensures.next c.in_err-back_up_all.ensures.entered)
 
 pub returns-in_err-back_up_all-clause-refused : goal.returns-in_err-back_up_all-clause-refused
 returns-in_err-back_up_all-clause-refused g c =
