@@ -55,7 +55,7 @@ one_chunk : (page : ℕ) (items : List Numbered) → length (chunk page items) �
 one_chunk page [] = omega arith
 one_chunk page (x ∷ xs) = omega arith
 
-chunk_bytes : (page : ℕ) (items : List Numbered) → chunks_bytes (chunk page items) ≡ items_bytes items
+pub chunk_bytes : (page : ℕ) (items : List Numbered) → chunks_bytes (chunk page items) ≡ items_bytes items
 chunk_bytes page [] = refl
 chunk_bytes page (x ∷ xs) = append-nil _
 

@@ -6,3 +6,4 @@ pub mod Judging
 pub mod Loops
 pub mod Made
 pub mod Merged
+pub mod Sizes

@@ -18,6 +18,16 @@ use Rattle.log_archive.specs.declared.directory.Outline.{Outline}
 use Rattle.log_archive.specs.declared.item.Numbered.{Numbered}
 use Rattle.log_archive.specs.declared.layout.TheConstants.{PAGES_AT}
 
+-- The bytes are the object of a run of the page records of this range of LSNs: the records of each log by which they were
+-- answered.
+pub record SpellsRun (answers : List Record → Type 0) (run first last : ℕ) (bytes : List ℕ) : Type 0 where
+  pub records : List Record
+  pub count : first + length records ≡ last + 1
+  pub spelled : All HasSpelling records
+  pub told : (log : List Record) → answers log → records ≡ part first (last + 1) log
+  pub is : bytes ≡ run_bytes run first last (chunks_of (numbered first records))
+  pub short : length bytes < 2 ^ 32
+
 -- The run's object has the page records of this range of LSNs, and is synced: the records of each log by which they were
 -- answered.
 pub record StoresRun (answers : List Record → Type 0) (run first last : ℕ) (old new : ObjectName → Stored) : Type 0 where

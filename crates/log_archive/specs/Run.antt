@@ -6,7 +6,7 @@ use Rattle.store_model.specs.declared.object.ObjectKind.TheVariants as names_of
 use Rattle.wal_record.specs.Chains.{names}
 use Rattle.wal_record.specs.Rules.{HasSpelling, is_number, is_page}
 use Rattle.wal_record.specs.Spelling.{number_bytes, spelling}
-use Rattle.log_archive.specs.Items.{Chunk}
+use Rattle.log_archive.specs.Items.{Chunk, chunks_of}
 use Rattle.log_archive.specs.declared.item.Numbered.{Numbered}
 use Rattle.log_archive.specs.declared.directory.Entry.{Entry}
 use Rattle.log_archive.specs.declared.layout.TheConstants.{MARK, DIRECTORY_AT, ENTRY_BYTES}
@@ -20,6 +20,10 @@ items_bytes items = flat_map item_bytes items
 
 abbrev pub chunks_bytes : List Chunk → List ℕ
 chunks_bytes chunks = flat_map (λ (c : Chunk). items_bytes c.items) chunks
+
+-- how many bytes the items of a run have, those of each page together
+abbrev pub items_size : List Numbered → ℕ
+items_size items = length (chunks_bytes (chunks_of items))
 
 -- a page, how many items it has, and where the first of them begins
 abbrev pub entry_bytes : Entry → List ℕ

@@ -1,11 +1,11 @@
 -- The items of each page as they are gathered, spelled one behind the other.
-use Rattle.std.specs.Prelude.{◌≡◌, ℕ, suc, ◌+◌, ◌≤◌, List, [], ◌∷◌, ◌++◌, length, get_or, Option, Some, None, Bool, false, ◌==◌, if◌then◌else◌}
+use Rattle.std.specs.Prelude.{◌≡◌, ℕ, suc, ◌+◌, ◌≤◌, List, [], ◌∷◌, ◌++◌, length, get_or, Option, Some, None, Bool, true, false, ◌<◌, ◌==◌, if◌then◌else◌}
 use Rattle.std.specs.List.{All}
 use Rattle.store_model.specs.declared.limits.TheConstants.{MOST_PAGES}
 use Rattle.wal_record.specs.Rules.{HasSpelling}
 use Rattle.wal_record.specs.declared.record.Record.{Record}
 use Rattle.log_archive.specs.Items.{numbered, on_page, part}
-use Rattle.log_archive.specs.Run.{items_bytes}
+use Rattle.log_archive.specs.Run.{items_bytes, items_size}
 use Rattle.log_archive.specs.declared.item.Numbered.{Numbered}
 
 -- how many items a page has, and their bytes
@@ -44,11 +44,33 @@ is_that page (Some n) = page == n
 abbrev pub and_item : (ℕ → List Numbered) → Option ℕ → Numbered → ℕ → List Numbered
 and_item f page x p = if is_that p page then f p ++ x ∷ [] else f p
 
+-- what an item of so many bytes has on the shelf of a page, where there is one
+abbrev pub on_shelf : Option ℕ → ℕ → ℕ
+on_shelf None size = 0
+on_shelf (Some page) size = size
+
+-- ---- a run that is gathered
+
+-- how many bytes its items have, and the shelves of its pages
+pub record Gathering : Type 0 where
+  pub size : ℕ
+  pub shelves : List Shelved
+
+-- these items were gathered
+pub record HasItems (g : Gathering) (items : List Numbered) : Type 0 where
+  pub size : g.size ≡ items_size items
+  pub holds : Holds g.shelves (λ page. on_page page items)
+
+-- The item was added, where the items then have at most so many bytes. Else nothing was.
+abbrev pub AddsWithin : ℕ → List Numbered → Numbered → Gathering → Gathering → Bool → Type 0
+AddsWithin most items x old new true = HasItems new (items ++ x ∷ []) × (items_size (items ++ x ∷ []) ≤ most)
+AddsWithin most items x old new false = (new ≡ old) × (most < items_size (items ++ x ∷ []))
+
 -- Records were read, the first of which has this LSN, up to the LSN before `next`: those of each log by which they were
--- answered. The shelves hold them.
-pub record Gathered (answers : List Record → Type 0) (first next : ℕ) (shelves : List Shelved) : Type 0 where
+-- answered. Their items were gathered.
+pub record Gathered (answers : List Record → Type 0) (first next : ℕ) (g : Gathering) : Type 0 where
   pub records : List Record
   pub count : first + length records ≡ next
   pub spelled : All HasSpelling records
   pub told : (log : List Record) → answers log → records ≡ part first next log
-  pub holds : Holds shelves (λ page. on_page page (numbered first records))
+  pub items : HasItems g (numbered first records)

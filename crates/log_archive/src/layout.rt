@@ -17,3 +17,6 @@ pub const OFFSET_IN: usize = 8;
 
 /// The most bytes of the items of one run: more than an archive or a merge makes.
 pub const MOST_BYTES: usize = 1 << 26;
+
+/// The most bytes of the items of a run that an archive makes.
+pub const RUN_BYTES: usize = 1 << 24;

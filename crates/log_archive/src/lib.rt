@@ -28,12 +28,15 @@ mod object;
 mod outline;
 mod reads;
 mod records;
+mod run_items;
 mod shelf;
 
 pub use directory::{Entry, Head, Outline};
 pub use item::Numbered;
 pub use laws::{merging_law, runs_law};
-pub use making::make_run;
+pub use layout::RUN_BYTES;
+pub use making::{make_run, run_bytes};
 pub use merging::merge_runs;
 pub use reads::Reads;
 pub use records::{items_of, records_of};
+pub use run_items::RunItems;

@@ -4,15 +4,14 @@ ghost use Rattle.media.specs.Counted.{Blames};
 ghost use Rattle.wal_record.specs.Rules.{is_number};
 ghost use Rattle.wal_record.specs.declared.record.Record.{Record};
 ghost use Rattle.vault_objects.specs.Causes.{IsVaultFault};
-ghost use Rattle.log_archive.specs.Answers.{FailsToMake, MayMake, StoresRun};
+ghost use Rattle.log_archive.specs.Answers.{FailsToMake, SpellsRun, MayMake, StoresRun};
 ghost use Rattle.log_archive.specs.Reads.{FailsToRead, IsUnknown};
 ghost use Rattle.log_archive.specs.Shelves.{Gathered};
 
 use crate::layout::MOST_BYTES;
 use crate::name::run_name;
-use crate::object::object_of;
 use crate::reads::Reads;
-use crate::shelf::{Shelf, add_record};
+use crate::run_items::RunItems;
 use media::Vault;
 use std::alloc::Global;
 use std::sync::Wait;
@@ -44,38 +43,57 @@ pub fn make_run<W: Wait, R: Reads, V: Vault>(
     ensures later { V.faults vault.old ≤ V.faults vault.new }
     ensures fuse { Blames V.passes V.refused V.own vault.old vault.new (IsErrAnd result IsVaultFault) }
 {
-    let shelves = gather(rt, alloc, log, first, last)?;
-    let bytes = object_of(alloc, run, first, last, &shelves)?;
+    let bytes = run_bytes(rt, alloc, log, run, first, last)?;
     store_object(vault, run_name(run), &bytes)
 }
 
-/// The records with the LSNs from first to last, on the shelves of their pages.
+/// The bytes of the run of the records with the LSNs from first to last, for whoever puts them into a vault itself. Each
+/// record is read once. A run whose items have more than 64 MiB wants memory.
+pub fn run_bytes<W: Wait, R: Reads>(
+    rt: &W,
+    alloc: Global,
+    log: &mut R,
+    run: u64,
+    first: Lsn,
+    last: Lsn,
+) -> Result<Vec<u8>, Fault>
+    requires numbers { IsTrue (is_number first) × IsTrue (is_number last) }
+    requires order { first ≤ last }
+    requires there { (l : List Record) → R.answers log.old l → last ≤ length l }
+    ensures bytes { IfOk result (λ bytes. SpellsRun (R.answers log.old) run first last bytes.items) }
+    ensures answers { (l : List Record) → R.answers log.old l ↔ R.answers log.new l }
+    ensures log_later { (R.log_faults log.old ≤ R.log_faults log.new) × (R.vault_faults log.old ≤ R.vault_faults log.new) }
+    ensures ended { IfSome (R.ended log.old) (λ at. R.ended log.new ≡ Some at) }
+    ensures refused { IfErr result (FailsToRead (IsUnknown (R.answers log.old)) (R.log_faults log.old) (R.log_faults log.new) (R.ended log.new)) }
+{
+    let items = gather(rt, alloc, log, first, last)?;
+    let bytes = items.bytes(alloc, run, first, last)?;
+    Ok(bytes)
+}
+
+/// The items of the records with the LSNs from first to last.
 fn gather<W: Wait, R: Reads>(
     rt: &W,
     alloc: Global,
     log: &mut R,
     first: Lsn,
     last: Lsn,
-) -> Result<Vec<Shelf>, Fault>
+) -> Result<RunItems, Fault>
     requires numbers { IsTrue (is_number first) × IsTrue (is_number last) }
     requires order { first ≤ last }
     requires there { (l : List Record) → R.answers log.old l → last ≤ length l }
-    ensures gathered { IfOk result (λ shelves. Gathered (R.answers log.old) first (last + 1) shelves.items) }
-    ensures few { IfOk result (λ shelves. length shelves.items ≤ 16384) }
+    ensures gathered { IfOk result (Gathered (R.answers log.old) first (last + 1)) }
     ensures answers { (l : List Record) → R.answers log.old l ↔ R.answers log.new l }
     ensures log_later { (R.log_faults log.old ≤ R.log_faults log.new) × (R.vault_faults log.old ≤ R.vault_faults log.new) }
     ensures ended { IfSome (R.ended log.old) (λ at. R.ended log.new ≡ Some at) }
     ensures refused { IfErr result (FailsToRead (IsUnknown (R.answers log.old)) (R.log_faults log.old) (R.log_faults log.new) (R.ended log.new)) }
 {
-    let mut shelves = Vec::new(alloc);
-    let mut size = 0usize;
+    let mut items = RunItems::new(alloc);
     for lsn in first..last + 1 {
         let rec = log.read(rt, alloc, lsn)?;
-        let more = add_record(alloc, &mut shelves, lsn, &rec)?;
-        size = size.saturating_add(more);
-        if size > MOST_BYTES {
+        if !items.add(alloc, lsn, &rec, MOST_BYTES)? {
             return Err(Fault::Memory);
         }
     }
-    Ok(shelves)
+    Ok(items)
 }

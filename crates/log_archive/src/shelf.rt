@@ -1,11 +1,11 @@
 //! The items of each page, as they are gathered.
-ghost use Rattle.std.specs.Prelude.{◌≡◌, ◌≤◌, ◌+◌, ◌||◌, ℕ, Some, List, [], ◌∷◌, ◌++◌, true, false, length, OnOk, IfOk, IfSome, IsTrue};
+ghost use Rattle.std.specs.Prelude.{◌≡◌, ◌≤◌, ◌+◌, ◌-◌, ◌^◌, ◌||◌, min, ℕ, Some, List, [], ◌∷◌, ◌++◌, true, false, length, OnOk, IfOk, IfSome, IsTrue};
 ghost use Rattle.store_model.specs.declared.limits.TheConstants.{MOST_PAGES};
 ghost use Rattle.wal_record.specs.Chains.{names};
 ghost use Rattle.wal_record.specs.Rules.{HasSpelling, is_page};
 ghost use Rattle.log_archive.specs.Items.{on_page};
-ghost use Rattle.log_archive.specs.Run.{item_bytes, items_bytes};
-ghost use Rattle.log_archive.specs.Shelves.{Holds, and_item, is_that, nothing, shelf_at, with_more};
+ghost use Rattle.log_archive.specs.Run.{item_bytes, items_bytes, items_size};
+ghost use Rattle.log_archive.specs.Shelves.{Holds, and_item, is_that, nothing, on_shelf, shelf_at, with_more};
 ghost use Rattle.log_archive.specs.declared.item.Numbered.{Numbered};
 
 use crate::layout::MOST_BYTES;
@@ -101,7 +101,7 @@ pub fn add(
 }
 
 /// The bytes of an item.
-fn item_of(alloc: Global, lsn: Lsn, rec: &Record) -> Result<Vec<u8>, Memory>
+pub fn item_of(alloc: Global, lsn: Lsn, rec: &Record) -> Result<Vec<u8>, Memory>
     requires { HasSpelling rec.now }
     ensures { IfOk result (λ bytes. bytes.items ≡ item_bytes (record { lsn = lsn; rec = rec.now })) }
 {
@@ -168,20 +168,38 @@ fn add_one(
     }
 }
 
-/// A record on the shelves of the pages that it names. What is held then is spelled in so many bytes more.
+/// An item on the shelves of the pages that its record names.
 pub fn add_record(
     alloc: Global,
     shelves: &mut Vec<Shelf>,
-    lsn: Lsn,
     rec: &Record,
-) -> Result<usize, Memory>
+    bytes: &[u8],
+) -> Result<(), Memory>
     requires { HasSpelling rec.now }
     ensures few { length shelves.old.items ≤ 16384 → length shelves.new.items ≤ 16384 }
-    ensures more { OnOk result ((items : List Numbered) → Holds shelves.old.items (λ page. on_page page items) → Holds shelves.new.items (λ page. on_page page (items ++ record { lsn = lsn; rec = rec.now } ∷ []))) }
+    ensures more { OnOk result ((items : List Numbered) (x : Numbered) → x.rec ≡ rec.now → bytes.now ≡ item_bytes x → Holds shelves.old.items (λ page. on_page page items) → Holds shelves.new.items (λ page. on_page page (items ++ x ∷ []))) }
 {
-    let bytes = item_of(alloc, lsn, rec)?;
     let (page, other) = pages_of(rec);
-    add_one(alloc, shelves, page, &bytes)?;
-    add_one(alloc, shelves, other, &bytes)?;
-    Ok(bytes.len())
+    add_one(alloc, shelves, page, bytes)?;
+    add_one(alloc, shelves, other, bytes)?;
+    Ok(())
+}
+
+/// So many bytes of items, with those of an item on the shelf of this page, where there is one.
+fn with_shelf(size: usize, more: usize, page: Option<PageNo>) -> usize
+    ensures { result ≡ min (size + on_shelf page more) (2 ^ 64 - 1) }
+{
+    match page {
+        None => size,
+        Some(_) => size.saturating_add(more),
+    }
+}
+
+/// So many bytes of items, with those of an item on the shelf of each page that its record names.
+pub fn size_with(size: usize, rec: &Record, more: usize) -> usize
+    requires { HasSpelling rec.now }
+    ensures { (items : List Numbered) (x : Numbered) → x.rec ≡ rec.now → more ≡ length (item_bytes x) → size ≡ items_size items → result ≡ min (items_size (items ++ x ∷ [])) (2 ^ 64 - 1) }
+{
+    let (page, other) = pages_of(rec);
+    with_shelf(with_shelf(size, more, page), more, other)
 }
