@@ -82,7 +82,7 @@ copies_later log more (t ∷ ts) (c ∷ cs) h a = let both = both_true (names_at
 some_number : (n : ℕ) → is_number n ≡ true → 1 ≤ n
 some_number n number = grind (arith, nat_tests)
 
-part_later : (log more : List Record) (first last : ℕ) → 1 ≤ first → first ≤ last → last ≤ length log → part first (last + 1) (log ++ more) ≡ part first (last + 1) log
+pub part_later : (log more : List Record) (first last : ℕ) → 1 ≤ first → first ≤ last → last ≤ length log → part first (last + 1) (log ++ more) ≡ part first (last + 1) log
 part_later log more first last some order within =
     let long = length-drop (first - 1) log in
     ap (take (last + 1 - first)) (drop-append-le (first - 1) log more (omega (arith, some, order, within))) ∙ take-append-le (last + 1 - first) (drop (first - 1) log) more (omega (arith, long, some, order, within))
