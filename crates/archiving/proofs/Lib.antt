@@ -1,0 +1,5 @@
+mod Standing
+mod Reading
+mod Suiting
+mod Turning
+mod Adding
