@@ -1,0 +1,22 @@
+use Rattle.vault_upkeep_tests.proofs.backing.backed_up.Given as goal
+
+abbrev pub ghosts-back_up_life-N-Life : goal.ghosts-back_up_life-N-Life
+ghosts-back_up_life-N-Life g a =
+    record {
+      opens = λ _. ⊥;
+      entries = a.unnamed.entries;
+      session_entries = a.unnamed.session_entries;
+      log_faults = a.unnamed.log_faults;
+      vault_faults = a.unnamed.vault_faults;
+      data_faults = a.unnamed.data_faults;
+      made = a.unnamed.made;
+      log_faults_before = 0;
+      vault_faults_before = 0;
+      data_faults_before = 0;
+    }
+
+abbrev pub ghosts-back_up_life-N-CountName : goal.ghosts-back_up_life-N-CountName
+ghosts-back_up_life-N-CountName g a = record { count = a.unnamed.count }
+
+abbrev pub ghosts-back_up_life-N-BookNames : goal.ghosts-back_up_life-N-BookNames
+ghosts-back_up_life-N-BookNames g a = record { pages = a.unnamed.pages; sessions = a.unnamed.sessions; maint = a.unnamed.maint }
