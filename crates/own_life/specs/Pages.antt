@@ -22,6 +22,10 @@ HasNone newest device = (page : ℕ) → newest device page ≡ None
 abbrev pub AreRestored : (List Record → Type 0) → List Entry → Type 0
 AreRestored opens h = (opening : List Record) → opens opening → unrestored (life_log opening h) ≡ []
 
+-- some log is known with which the life may have begun, behind which no segment is unrestored
+abbrev pub IsKnownRestored : (List Record → Type 0) → List Entry → Type 0
+IsKnownRestored opens h = (opening : List Record) × opens opening × (unrestored (life_log opening h) ≡ [])
+
 -- the page awaits redo by this plan
 abbrev pub AwaitsRedo : List Bool → ℕ → Type 0
 AwaitsRedo plan page = awaits plan page ≡ true

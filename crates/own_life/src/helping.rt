@@ -4,7 +4,7 @@ ghost use Rattle.maintenance.specs.Steps.{AreAllOver};
 ghost use Rattle.rollback.specs.Owners.{IsLoserOf};
 ghost use Rattle.store_life.specs.Steps.{AddsUpkeep, StepsBack};
 ghost use Rattle.own_life.specs.Helps.{AddsSteps, Helps, Undoes, UndoesSome};
-ghost use Rattle.own_life.specs.Pages.{AllBut, AreRestored, IsNextRedone, WritesUpto};
+ghost use Rattle.own_life.specs.Pages.{AllBut, AreRestored, WritesUpto};
 ghost use Rattle.own_life.specs.State.{Fails, GoesOn};
 
 use crate::life::{OwnLife, unvaulted};
@@ -43,11 +43,9 @@ impl<'a, L: Disk, N: Life> OwnLife<'a, L, N> {
         ensures refused { IfErr result (Fails N.opens self.old self.new) }
     {
         let undone = self.undo_losers(rt, alloc, pages, steps)?;
-        let restored = self.restore_segments(rt, alloc, pages, steps - undone)?;
-        let brought = undone + restored;
-        let redone = self.redo_pages(rt, alloc, pages, steps - brought)?;
-        let written = self.write_pages(rt, alloc, pages, steps - brought - redone)?;
-        Ok(brought + redone + written)
+        let brought = self.bring_pages(rt, alloc, pages, steps - undone)?;
+        let written = self.write_pages(rt, alloc, pages, steps - undone - brought)?;
+        Ok(undone + brought + written)
     }
 
     /// Undoes losers, the least first, in so many steps at most.
@@ -77,8 +75,8 @@ impl<'a, L: Disk, N: Life> OwnLife<'a, L, N> {
         Ok(steps)
     }
 
-    /// Restores so many segments at most, the least first.
-    fn restore_segments<D: PageDevice, P: LifePages<N, D>, R: Wait>(
+    /// Brings so many pages ahead of need at most: those of segments that are unrestored, and then those that await redo.
+    fn bring_pages<D: PageDevice, P: LifePages<N, D>, R: Wait>(
         &mut self,
         rt: &R,
         alloc: Global,
@@ -90,32 +88,6 @@ impl<'a, L: Disk, N: Life> OwnLife<'a, L, N> {
         ensures idle { P.idle pages.new }
         ensures few { IfOk result (λ taken. taken ≤ steps) }
         ensures restored { IfOk result (λ taken. taken < steps → AreRestored N.opens self.new.history) }
-        ensures upkeep { AddsUpkeep self.old.history self.new.history }
-        ensures names { self.new.active ≡ self.old.active }
-        ensures goes { OnOk result (GoesOn self.old self.new) }
-        ensures refused { IfErr result (Fails N.opens self.old self.new) }
-    {
-        for taken in 0..steps {
-            if self.restore_next(rt, alloc, pages)?.is_none() {
-                return Ok(taken);
-            }
-        }
-        Ok(steps)
-    }
-
-    /// Brings so many pages that await redo at most, the least first.
-    fn redo_pages<D: PageDevice, P: LifePages<N, D>, R: Wait>(
-        &mut self,
-        rt: &R,
-        alloc: Global,
-        pages: &mut P,
-        steps: u32,
-    ) -> Result<u32, Fault>
-        requires open { self.old.ended ≡ None }
-        requires idle { P.idle pages.old }
-        ensures idle { P.idle pages.new }
-        ensures few { IfOk result (λ taken. taken ≤ steps) }
-        ensures come { OnOk result (AllBut steps (P.awaits pages.old) (P.awaits pages.new)) }
         ensures redone { IfOk result (λ taken. taken < steps → (page : ℕ) → P.awaits pages.new page → ⊥) }
         ensures upkeep { AddsUpkeep self.old.history self.new.history }
         ensures names { self.new.active ≡ self.old.active }
@@ -123,7 +95,7 @@ impl<'a, L: Disk, N: Life> OwnLife<'a, L, N> {
         ensures refused { IfErr result (Fails N.opens self.old self.new) }
     {
         for taken in 0..steps {
-            if self.redo_next(rt, alloc, pages)?.is_none() {
+            if self.bring_next(rt, alloc, pages)?.is_none() {
                 return Ok(taken);
             }
         }
@@ -179,30 +151,8 @@ impl<'a, L: Disk, N: Life> OwnLife<'a, L, N> {
         unvaulted(undone)
     }
 
-    /// Restores the least segment that is unrestored, and gives its number; none where each is restored.
-    fn restore_next<D: PageDevice, P: LifePages<N, D>, R: Wait>(
-        &mut self,
-        rt: &R,
-        alloc: Global,
-        pages: &mut P,
-    ) -> Result<Option<u32>, Fault>
-        requires open { self.old.ended ≡ None }
-        requires idle { P.idle pages.old }
-        ensures idle { P.idle pages.new }
-        ensures restored { IfOk result (λ segment. IfNone segment (AreRestored N.opens self.new.history)) }
-        ensures upkeep { AddsUpkeep self.old.history self.new.history }
-        ensures names { self.new.active ≡ self.old.active }
-        ensures goes { OnOk result (GoesOn self.old self.new) }
-        ensures refused { IfErr result (Fails N.opens self.old self.new) }
-    {
-        let OwnLife { journal, life } = self;
-        let restored = pages.restore_next(rt, alloc, journal, life);
-        see_whole(journal, life);
-        unvaulted(restored)
-    }
-
-    /// Brings the least page that awaits redo, and gives its number; none where no page awaits it.
-    fn redo_next<D: PageDevice, P: LifePages<N, D>, R: Wait>(
+    /// Brings the next page ahead of need, and gives its number; none where no segment is unrestored and no page awaits redo.
+    fn bring_next<D: PageDevice, P: LifePages<N, D>, R: Wait>(
         &mut self,
         rt: &R,
         alloc: Global,
@@ -211,16 +161,16 @@ impl<'a, L: Disk, N: Life> OwnLife<'a, L, N> {
         requires open { self.old.ended ≡ None }
         requires idle { P.idle pages.old }
         ensures idle { P.idle pages.new }
-        ensures next { IfOk result (IsNextRedone (P.awaits pages.old) (P.awaits pages.new)) }
-        ensures fewer { (page : ℕ) → P.awaits pages.new page → P.awaits pages.old page }
+        ensures restored { IfOk result (λ page. IfNone page (AreRestored N.opens self.new.history)) }
+        ensures redone { IfOk result (λ page. IfNone page ((q : ℕ) → P.awaits pages.new q → ⊥)) }
         ensures upkeep { AddsUpkeep self.old.history self.new.history }
         ensures names { self.new.active ≡ self.old.active }
         ensures goes { OnOk result (GoesOn self.old self.new) }
         ensures refused { IfErr result (Fails N.opens self.old self.new) }
     {
         let OwnLife { journal, life } = self;
-        let redone = pages.redo_next(rt, alloc, journal, life);
+        let brought = pages.bring_next(rt, alloc, journal, life);
         see_whole(journal, life);
-        unvaulted(redone)
+        unvaulted(brought)
     }
 }

@@ -17,7 +17,7 @@ ghost use Rattle.page_repair.specs.Images.{AreWritten};
 ghost use Rattle.store_life.specs.SoFar.{HasNames, Runs, actives, left_by};
 ghost use Rattle.store_life.specs.Steps.{AddsUpkeep, StepsBack};
 ghost use Rattle.store_life.specs.Turns.{Asks, EndsBy, IsTold};
-ghost use Rattle.own_life.specs.Pages.{AreRestored, HasNone, IsNextRedone, IsNextWritten, OneLess, WritesUpto};
+ghost use Rattle.own_life.specs.Pages.{AreRestored, HasNone, IsKnownRestored, IsNextRedone, IsNextWritten, OneLess, WritesUpto};
 
 use engine::Answered;
 use front::Pass;
@@ -114,30 +114,9 @@ pub trait LifePages<N: Life, D: PageDevice> {
         ensures open { OnOk result (MeetsNoEnd (J.account journal.old) (J.account journal.new)) }
         ensures refused { IfErr result (FailsToBring N.opens N.log_faults N.made no_faults no_faults (J.account journal.old) (J.account journal.new) life.new.pass.log) };
 
-    /// Restores the least segment that is unrestored, by bringing its first page, and gives its number; none where each segment is
-    /// restored.
-    fn restore_next<J: Journaling<N>, R: Wait>(
-        &mut self,
-        rt: &R,
-        alloc: Global,
-        journal: &mut J,
-        life: &mut StoreLife<N>,
-    ) -> Result<Option<u32>, Fault>
-        requires idle { idle self.old }
-        requires runs { Runs N.opens N.entries (J.account journal.old) life.old }
-        ensures idle { idle self.new }
-        ensures runs { Runs N.opens N.entries (J.account journal.new) life.new }
-        ensures restored { IfOk result (λ segment. IfNone segment (AreRestored N.opens life.new.pass.log)) }
-        ensures upkeep { AddsUpkeep life.old.pass.log life.new.pass.log }
-        ensures names { life.new.named ≡ life.old.named }
-        ensures named { HasNames life.old → HasNames life.new }
-        ensures durable { life.old.pass.durable ≤ life.new.pass.durable }
-        ensures keeps { Keeps (J.account journal.old) (J.account journal.new) }
-        ensures open { OnOk result (MeetsNoEnd (J.account journal.old) (J.account journal.new)) }
-        ensures refused { IfErr result (FailsToBring N.opens N.log_faults N.made no_faults no_faults (J.account journal.old) (J.account journal.new) life.new.pass.log) };
-
-    /// Brings the least page that awaits redo, and gives its number; none where no page awaits it.
-    fn redo_next<J: Journaling<N>, R: Wait>(
+    /// Brings the next page ahead of need, and gives its number: the first page of the least segment that is unrestored, which is
+    /// then restored; or the least page that awaits redo. None where no segment is unrestored and no page awaits redo.
+    fn bring_next<J: Journaling<N>, R: Wait>(
         &mut self,
         rt: &R,
         alloc: Global,
@@ -148,7 +127,9 @@ pub trait LifePages<N: Life, D: PageDevice> {
         requires runs { Runs N.opens N.entries (J.account journal.old) life.old }
         ensures idle { idle self.new }
         ensures runs { Runs N.opens N.entries (J.account journal.new) life.new }
-        ensures next { IfOk result (IsNextRedone (awaits self.old) (awaits self.new)) }
+        ensures restored { IfOk result (λ page. IfNone page (AreRestored N.opens life.new.pass.log)) }
+        ensures redone { IfOk result (λ page. IfNone page ((q : ℕ) → awaits self.new q → ⊥)) }
+        ensures next { IfOk result (λ page. IsKnownRestored N.opens life.old.pass.log → IsNextRedone (awaits self.old) (awaits self.new) page) }
         ensures fewer { (page : ℕ) → awaits self.new page → awaits self.old page }
         ensures upkeep { AddsUpkeep life.old.pass.log life.new.pass.log }
         ensures names { life.new.named ≡ life.old.named }

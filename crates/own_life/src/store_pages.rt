@@ -17,7 +17,7 @@ ghost use Rattle.page_repair.specs.Images.{AreWritten};
 ghost use Rattle.store_life.specs.SoFar.{HasNames, Runs, actives, left_by};
 ghost use Rattle.store_life.specs.Steps.{AddsUpkeep, StepsBack};
 ghost use Rattle.store_life.specs.Turns.{Asks, EndsBy, IsTold};
-ghost use Rattle.own_life.specs.Pages.{AreRestored, AwaitsRedo, HasNone, IsNextRedone, IsNextWritten, Lacks, OneLess, WritesUpto};
+ghost use Rattle.own_life.specs.Pages.{AreRestored, AwaitsRedo, HasNone, IsKnownRestored, IsNextRedone, IsNextWritten, Lacks, OneLess, WritesUpto};
 
 use crate::supply::LogAlone;
 use buffer_pool::PlainPool;
@@ -122,20 +122,23 @@ impl<'a, D: PageDevice, N: Life> StorePages<'a, D, N> {
         life.undo_next(rt, alloc, &mut self.pool, journal)
     }
 
-    /// Restores the least segment that is unrestored, by bringing its first page, and gives its number; none where each segment is
-    /// restored.
-    pub fn restore_next<J: Journaling<N>, R: Wait>(
+    /// Brings the next page ahead of need, and gives its number: the first page of the least segment that is unrestored, which is
+    /// then restored; or the least page that awaits redo. None where no segment is unrestored and no page awaits redo.
+    pub fn bring_next<J: Journaling<N>, R: Wait>(
         &mut self,
         rt: &R,
         alloc: Global,
         journal: &mut J,
         life: &mut StoreLife<N>,
-    ) -> Result<Option<u32>, Fault>
+    ) -> Result<Option<PageNo>, Fault>
         requires idle { (self.old.pool.out ≡ 0) × (self.old.pool.reserves ≡ false) }
         requires runs { Runs N.opens N.entries (J.account journal.old) life.old }
         ensures idle { (self.new.pool.out ≡ 0) × (self.new.pool.reserves ≡ false) }
         ensures runs { Runs N.opens N.entries (J.account journal.new) life.new }
-        ensures restored { IfOk result (λ segment. IfNone segment (AreRestored N.opens life.new.pass.log)) }
+        ensures restored { IfOk result (λ page. IfNone page (AreRestored N.opens life.new.pass.log)) }
+        ensures redone { IfOk result (λ page. IfNone page ((q : ℕ) → AwaitsRedo self.new.pool.plan q → ⊥)) }
+        ensures next { IfOk result (λ page. IsKnownRestored N.opens life.old.pass.log → IsNextRedone (AwaitsRedo self.old.pool.plan) (AwaitsRedo self.new.pool.plan) page) }
+        ensures fewer { (page : ℕ) → AwaitsRedo self.new.pool.plan page → AwaitsRedo self.old.pool.plan page }
         ensures upkeep { AddsUpkeep life.old.pass.log life.new.pass.log }
         ensures names { life.new.named ≡ life.old.named }
         ensures named { HasNames life.old → HasNames life.new }
@@ -148,46 +151,14 @@ impl<'a, D: PageDevice, N: Life> StorePages<'a, D, N> {
             Ok(work) => work,
             Err(fault) => return Err(fault),
         };
-        let Some(segment) = work.segment else {
+        let next = match work.segment {
+            Some(segment) => Some(segment.saturating_mul(SEGMENT_PAGES).saturating_add(1)),
+            None => self.pool.next_redo(0),
+        };
+        let Some(page) = next else {
             return Ok(None);
         };
-        let page = segment.saturating_mul(SEGMENT_PAGES).saturating_add(1);
-        // Its first page is there, in every log that is told.
-        if page > journal.pages(rt, &mut life.pass) {
-            return Err(Fault::Memory);
-        }
-        match self.pool.bring(rt, alloc, journal, page, &mut life.pass) {
-            Ok(()) => Ok(Some(segment)),
-            Err(fault) => Err(fault),
-        }
-    }
-
-    /// Brings the least page that awaits redo, and gives its number; none where no page awaits it.
-    pub fn redo_next<J: Journaling<N>, R: Wait>(
-        &mut self,
-        rt: &R,
-        alloc: Global,
-        journal: &mut J,
-        life: &mut StoreLife<N>,
-    ) -> Result<Option<PageNo>, Fault>
-        requires idle { (self.old.pool.out ≡ 0) × (self.old.pool.reserves ≡ false) }
-        requires runs { Runs N.opens N.entries (J.account journal.old) life.old }
-        ensures idle { (self.new.pool.out ≡ 0) × (self.new.pool.reserves ≡ false) }
-        ensures runs { Runs N.opens N.entries (J.account journal.new) life.new }
-        ensures next { IfOk result (IsNextRedone (AwaitsRedo self.old.pool.plan) (AwaitsRedo self.new.pool.plan)) }
-        ensures fewer { (page : ℕ) → AwaitsRedo self.new.pool.plan page → AwaitsRedo self.old.pool.plan page }
-        ensures upkeep { AddsUpkeep life.old.pass.log life.new.pass.log }
-        ensures names { life.new.named ≡ life.old.named }
-        ensures named { HasNames life.old → HasNames life.new }
-        ensures durable { life.old.pass.durable ≤ life.new.pass.durable }
-        ensures keeps { Keeps (J.account journal.old) (J.account journal.new) }
-        ensures open { OnOk result (MeetsNoEnd (J.account journal.old) (J.account journal.new)) }
-        ensures refused { IfErr result (FailsToBring N.opens N.log_faults N.made no_faults no_faults (J.account journal.old) (J.account journal.new) life.new.pass.log) }
-    {
-        let Some(page) = self.pool.next_redo(0) else {
-            return Ok(None);
-        };
-        // What awaits redo is there, in every log that is told.
+        // What is unrestored or awaits redo is there, in every log that is told.
         if page > journal.pages(rt, &mut life.pass) {
             return Err(Fault::Memory);
         }

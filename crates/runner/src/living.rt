@@ -1,5 +1,5 @@
 //! A life, line after line.
-ghost use Rattle.std.specs.Prelude.{◌≡◌, ◌<◌, ◌≤◌, ◌↔◌, ℕ, List, [], Option, false};
+ghost use Rattle.std.specs.Prelude.{◌≡◌, ◌<◌, ◌≤◌, ◌↔◌, ℕ, List, [], Option};
 ghost use Rattle.page_ops.specs.Names.{life_names};
 ghost use Rattle.wal_record.specs.declared.record.Record.{Record};
 ghost use Rattle.life_commands.specs.LogDisk.{View, IsWhole, seen};
@@ -21,7 +21,7 @@ use life_commands::Status;
 use line_reader::Input;
 use media::{Disk, PageDevice, Sink, Source, Vault, write_all};
 use operators::Operators;
-use own_life::{LifePages, LifeRefused, OwnLife, StorePages, open_life};
+use own_life::{LifePages, LifeRefused, OwnLife, open_life};
 use page_ops::{Ground, Life, Tokens, Unnamed};
 use std::alloc::Global;
 use std::marker::Brand;
@@ -122,7 +122,10 @@ fn run_on<'a, N: Life, S: Source, K: Sink, V: Vault, L: Disk, D: PageDevice, R: 
     ensures cause { LivedCause L.Disk (L.own opened.log.log.device) (S.faults source.old) (S.faults source.new) (K.faults sink.old) (K.faults sink.new) result }
 {
     match open_life(alloc, operators, ground, tokens, opened.into_log(), pages) {
-        Ok((life, pages)) => run_pages(rt, alloc, input, source, sink, vault, life, pages),
+        Ok((life, pages)) => {
+            let pages = RunPages { pages };
+            run_life(rt, alloc, input, source, sink, vault, life, pages)
+        }
         Err(refused) => {
             let LifeRefused { log, device } = refused;
             Lived::Ends {
@@ -132,29 +135,6 @@ fn run_on<'a, N: Life, S: Source, K: Sink, V: Vault, L: Disk, D: PageDevice, R: 
             }
         }
     }
-}
-
-/// The same in a life, with its pages.
-fn run_pages<'a, N: Life, S: Source, K: Sink, V: Vault, L: Disk, D: PageDevice, R: Wait>(
-    rt: &R,
-    alloc: Global,
-    input: &mut Input,
-    source: &mut S,
-    sink: &mut K,
-    vault: &mut V,
-    life: OwnLife<'a, L, N>,
-    pages: StorePages<'a, D, N>,
-) -> Lived<L, D>
-    requires idle { (pages.pool.out ≡ 0) × (pages.pool.reserves ≡ false) }
-    requires told { (opening : List Record) → N.opens opening → D.tells }
-    ensures turns { (v : View L.tells) (start : Start) (first : V) (left told : Option (List ℕ)) (turns : List Turn)
-        → Between (IsWhole v) start (Beside V.Vault first vault.old (Within (seen L.Disk v) N.opens life.entry)) left told input.old turns (S.left source.old) (K.told sink.old)
-        → LivedTo L.tells (seen L.Disk v) D.PageDevice V.Vault start first vault.new left told input.new (S.left source.new) (K.told sink.new) result }
-    ensures later { (S.faults source.old ≤ S.faults source.new) × (K.faults sink.old ≤ K.faults sink.new) }
-    ensures cause { LivedCause L.Disk life.entry.calls.own (S.faults source.old) (S.faults source.new) (K.faults sink.old) (K.faults sink.new) result }
-{
-    let pages = RunPages { pages };
-    run_life(rt, alloc, input, source, sink, vault, life, pages)
 }
 
 /// A life, from its opening to its stop, its close or the end of the run.

@@ -17,12 +17,12 @@ open_life-requires-clause-told g c = λ opening may. ((c.requires.opens opening)
 pub open_life-requires-clause-images : goal.open_life-requires-clause-images
 open_life-requires-clause-images g c = λ _. are_earlier g.N.Life.opens g.D.PageDevice.told c.args.pages (λ opening may. ((c.requires.opens opening).0 may).images)
 
-pub run_pages-requires-clause-told : goal.run_pages-requires-clause-told
-run_pages-requires-clause-told g c = λ opening may. ((c.requires.opens opening).0 may).told
+pub run_life-requires-clause-told : goal.run_life-requires-clause-told
+run_life-requires-clause-told g c = λ opening may. ((c.requires.opens opening).0 may).told
 
 pub returns-in-Ok-clause-turns : goal.returns-in-Ok-clause-turns
 returns-in-Ok-clause-turns g c = λ v start first left told turns b.
-    c.run_pages.ensures.turns v start first left told turns
+    c.run_life.ensures.turns v start first left told turns
     (between_as (Within (seen g.L.Disk v) g.N.Life.opens c.in-Ok.life) (within_begun g.L.Disk g.D.PageDevice v g.N.Life.opens c.args.opened c.args.pages c.into_log.result.log c.in-Ok.life (stage start turns) (λ opening begins. (c.requires.opens opening).1 begins) c.into_log.ensures.is.0 c.in-Ok.ensures.begins b.holds.here) b)
 
 pub returns-in-Err-clause-turns : goal.returns-in-Err-clause-turns

@@ -7,7 +7,7 @@ use Rattle.rollback.proofs.Composing.{faults_self}
 use Rattle.page_ops.proofs.Composing.{bring_then, done_meets_none}
 use Rattle.own_life.proofs.Redone.{made_upto}
 use Rattle.own_life.proofs.Restored.{none_unrestored, restored_upkeep}
-use Rattle.own_life.proofs.store_pages.StorePages.restore_next.Goals as goal
+use Rattle.own_life.proofs.store_pages.StorePages.bring_next.Goals as goal
 
 pub bring-requires-clause-made : goal.bring-requires-clause-made
 bring-requires-clause-made g c =
