@@ -1,4 +1,4 @@
-use Rattle.std.proofs.Common.{arith, sym, ◌∙◌}
+use Rattle.std.proofs.Common.{◌<◌, arith, sym, ◌∙◌}
 use Rattle.buffer_pool.specs.Writes.{no_faults}
 use Rattle.store_life.specs.SoFar.{actives}
 use Rattle.store_life.proofs.Looked.{looked_alone, looked_same}
@@ -8,12 +8,16 @@ use Rattle.page_ops.proofs.Composing.{bring_then, done_meets_none}
 use Rattle.own_life.proofs.Redone.{made_upto}
 use Rattle.own_life.proofs.Restored.{none_unrestored, restored_upkeep}
 use Rattle.own_life.proofs.store_pages.StorePages.bring_next.Goals as goal
+use Rattle.own_life.proofs.store_pages.StorePages.bring_next.Goals.{in-Some, in-None}
 
 pub bring-requires-clause-made : goal.bring-requires-clause-made
 bring-requires-clause-made g c =
     let all = c.if-page-pages.false in
-    let some = c.saturating_add-page.ensures in
-    made_upto g.N.Life.opens c.pages.new.pass.log c.pages.ensures.seen.now.consistent c.saturating_add-page.result c.pages.result (omega (arith, some)) (omega (arith, all)) c.pages.ensures.count
+    let some : 0 < c.in-Some-next.page = elim c.match-work-2.branch [
+      | in-Some w ↦ (let e = w.saturating_add.ensures in let is = w.next-is in let page = c.in-Some-next.is in grind (arith, e, is, page))
+      | in-None w ↦ (let e = w.next_redo-next.ensures in let is = w.next-is in let page = c.in-Some-next.is in grind (arith, e, is, page))
+    ] in
+    made_upto g.N.Life.opens c.pages.new.pass.log c.pages.ensures.seen.now.consistent c.in-Some-next.page c.pages.result some (omega (arith, all)) c.pages.ensures.count
 
 pub returns-in-Ok-bring-clause-upkeep : goal.returns-in-Ok-bring-clause-upkeep
 returns-in-Ok-bring-clause-upkeep g c = restored_upkeep g.N.Life.opens g.N.Life.entries g.N.Life.session_entries (g.J.Entering.account c.args.journal.now) (g.J.Entering.account c.work.new.self) (g.J.Entering.account c.pages.new.self) (g.J.Entering.account c.bring.new.journal) c.args.life.now.pass c.work.new.pass c.pages.new.pass c.bring.new.pass c.requires.runs.alone c.work.ensures.seen c.pages.ensures.seen c.bring.ensures.entered
