@@ -1,4 +1,4 @@
-use Rattle.std.proofs.Common.{Option, Some, None, ap, refl, ◌∙◌}
+use Rattle.std.proofs.Common.{ℕ, ap, refl, ◌∙◌}
 use Rattle.std.specs.Prelude.{not, IfNone}
 use Rattle.own_life.specs.Pages.{AreRestored}
 use Rattle.own_life.proofs.Helped.{upkeep_none, upkeep_then}
