@@ -12,6 +12,7 @@ use Rattle.store_model.specs.declared.request.Request.{Request}
 use Rattle.wal_record.specs.Checkpoints.{commits}
 use Rattle.wal_record.specs.History.{life_log}
 use Rattle.wal_record.specs.declared.record.Checkpoint.{Checkpoint}
+use Rattle.wal_record.specs.declared.record.Lost.{Lost}
 use Rattle.wal_record.specs.declared.record.Record.{Record}
 use Rattle.wal_record.specs.declared.record.Record.TheVariants as kinds
 use Rattle.wal_record.specs.declared.entry.Entry.{Entry}
@@ -64,6 +65,7 @@ failed_is s (commands.Ask name request) es at kind calls = refl
 failed_is s (commands.Commit name) es at kind calls = refl
 failed_is s (commands.Abort name) es at kind calls = refl
 failed_is s commands.Checkpoint es at kind calls = refl
+failed_is s commands.Lose es at kind calls = refl
 failed_is s (commands.Help steps) es at kind calls = refl
 failed_is s commands.Close es at kind calls = refl
 failed_is s (commands.Begin name) es at kind calls = absurd calls
@@ -434,6 +436,29 @@ module _ {D : Type 0} (L : Ghosts D) (opens : List Record → Type 0) (x : LifeS
           is = refl;
           fits = record { goes = h.goes; lawful = may_look; row = (goes_on none, checkpoint_enters, tt) };
           holds = next y taken grew right (stage_step s t) refl refl (h.active ∙ sym active) (goes_on none ∙ sym goes.ended) refl refl (armed_next L.fuses ⊥ x.calls y.calls s.armed.log goes.calls h.fused);
+          lines = text;
+        }
+
+  -- ---- losses of the data device
+
+  module _ (none : x.ended ≡ None) (lsn : ℕ) (k : Lost) where
+    abbrev lost : List Entry
+    lost = Rec lsn (kinds.Lost k) ∷ []
+
+    loss_enters : MayEnter L.tells s commands.Lose lost
+    loss_enters = enters_own L.tells s commands.Lose lost tt (lsn, k, refl)
+
+    pub loss_cut : IsCutOff L.tells s commands.Lose lost
+    loss_cut = record { goes = goes_on none; rest = []; enters = loss_enters; part = tt }
+
+    pub did_loss : (y : LifeState) → y.history ≡ x.history ++ lost → ((opening : List Record) → opens opening → IsRight opening y.history) → GoesOn x y → y.active ≡ x.active → (out : List ℕ) → out ≡ upkeep_line upkeeps.Lose → Adds L.tells (In y) s commands.Lose out
+    did_loss y grew right goes active out text =
+        let t : Turn = turn commands.Lose lost Done in
+        record {
+          turn = t;
+          is = refl;
+          fits = record { goes = h.goes; lawful = may_look; row = (goes_on none, loss_enters, tt) };
+          holds = next y lost grew right (stage_step s t) refl refl (h.active ∙ sym active) (goes_on none ∙ sym goes.ended) refl refl (armed_next L.fuses ⊥ x.calls y.calls s.armed.log goes.calls h.fused);
           lines = text;
         }
 

@@ -14,6 +14,7 @@ use Rattle.wal_record.specs.Checkpoints.{analysis_of, page_head}
 use Rattle.wal_record.specs.History.{life_log}
 use Rattle.wal_record.specs.Upkeep.{segments}
 use Rattle.wal_record.specs.declared.record.Checkpoint.{Checkpoint}
+use Rattle.wal_record.specs.declared.record.Lost.{Lost}
 use Rattle.wal_record.specs.declared.record.Record.{Record}
 use Rattle.wal_record.specs.declared.record.Record.TheVariants as kinds
 use Rattle.wal_record.specs.declared.entry.Entry.{Entry}
@@ -29,7 +30,7 @@ use Rattle.command_laws.specs.Names.{Active, active_of, is_active, without}
 use Rattle.maintenance.specs.Steps.{AreAllOver}
 use Rattle.rollback.specs.Owners.{IsLoserOf}
 use Rattle.own_life.specs.Helps.{AddsSteps, Helps}
-use Rattle.store_life.specs.Turns.{EndsBy, HasMark, IsCheckpointed}
+use Rattle.store_life.specs.Turns.{EndsBy, HasMark, IsCheckpointed, IsLost}
 use Rattle.own_life.specs.State.{BeginsAs, BreaksOff, Fails, FailsToFlush, GoesOn, IsCommitted, LifeState}
 use Rattle.script.specs.declared.command.Command.{Command}
 use Rattle.script.specs.declared.command.Command.TheVariants as commands
@@ -187,6 +188,26 @@ module _ {D : Type 0} (L : Ghosts D) (opens : List Record → Type 0) (x y : Lif
     checkpoint_ends before now faults.LogFault entered p status says line = ends_run L opens x y active right commands.Checkpoint tt refl (checkpoint_cut entered.0 entered.1) before now faults.LogFault p status says line
     checkpoint_ends before now _ entered p status says line = absurd p
 
+  -- ---- losses of the data device
+
+  module _ (right : (opening : List Record) → opens opening → IsRight opening y.history) where
+    pub loses_line : (lsn : ℕ) → IsLost (Ok lsn) x.history y.history → GoesOn x y → (out : List ℕ) → out ≡ upkeep_line upkeeps.Lose → Did L opens x y commands.Lose out
+    loses_line lsn (k, added) goes out text = λ v s h. c.did_loss (seen L v) opens x s h none lsn k y added right goes active out text
+
+    pub loss_cut : (lsn : ℕ) → HasMark Lost kinds.Lost lsn x.history y.history → (v : View L.tells) (s : Stage) → Within (seen L v) opens x s → IsCut (seen L v) y x s commands.Lose
+    loss_cut lsn (k, added) v s h = record { entries = _; added = added; lawful = c.may_look (seen L v) opens x s h; off = c.loss_cut (seen L v) opens x s h none lsn k }
+
+    pub loss_fails : (fault : Fault) → fault ≡ faults.LogFault → IsLost (Err fault) x.history y.history → FailsToFlush opens x y fault → x.calls.refused < y.calls.refused → (out : List ℕ) → out ≡ failed_line (head commands.Lose) Log → Did L opens x y commands.Lose out
+    loss_fails fault is entered p more out text =
+        let e = subst (λ (f : Fault). IsLost (Err f) x.history y.history) is entered in
+        let b = subst (λ (f : Fault). FailsToFlush opens x y f) is p in
+        fails_line L opens x y active right commands.Lose tt refl (loss_cut e.0 e.1) tt b more out text
+
+    pub loss_ends : (before now : ℕ) (fault : Fault) → IsLost (Err fault) x.history y.history → FailsToFlush opens x y fault → (status : Status) → FailsAs before now fault status → (line : ℕ) → Refused L opens x y commands.Lose line status
+    loss_ends before now faults.Memory same p status says line = subst (λ (z : Status). Refused L opens x y commands.Lose line z) (sym says) (lacks_memory L opens x y same commands.Lose line)
+    loss_ends before now faults.LogFault entered p status says line = ends_run L opens x y active right commands.Lose tt refl (loss_cut entered.0 entered.1) before now faults.LogFault p status says line
+    loss_ends before now _ entered p status says line = absurd p
+
   -- ---- help
 
   module _ (steps : ℕ) (helps : Helps (IsLoserOf opens) steps x.history y.history) where
@@ -283,23 +304,24 @@ module _ {D : Type 0} (L : Ghosts D) (opens : List Record → Type 0) (x : LifeS
 -- ---- what is no command of a life
 
 pub other_lawful : (s : Stage) → no_life s.life ≡ false → (c : Command) → (c ≡ commands.Nothing → ⊥) → ((x : List ℕ) → c ≡ commands.Begin x → ⊥) → ((x : List ℕ) (r : Request) → c ≡ commands.Ask x r → ⊥) → ((x : List ℕ) → c ≡ commands.Commit x → ⊥)
-    → ((x : List ℕ) → c ≡ commands.Abort x → ⊥) → (c ≡ commands.Checkpoint → ⊥) → ((n : ℕ) → c ≡ commands.Help n → ⊥) → (c ≡ commands.Stat → ⊥) → ((p : ℕ) → c ≡ commands.Damage p → ⊥) → ((d : Device) (n : ℕ) → c ≡ commands.Fuse d n → ⊥) → ((d : Device) → c ≡ commands.Renew d → ⊥) → IsNoStop c → IsNoClose c → is_lawful s c ≡ false
-other_lawful s living commands.Nothing nothing begins asks commit abort checkpoint help stat damage fuse renew stop close = absurd (nothing refl)
-other_lawful s living (commands.Format limit) nothing begins asks commit abort checkpoint help stat damage fuse renew stop close = rw (living) refl
-other_lawful s living commands.Open nothing begins asks commit abort checkpoint help stat damage fuse renew stop close = living
-other_lawful s living (commands.Begin x) nothing begins asks commit abort checkpoint help stat damage fuse renew stop close = absurd (begins x refl)
-other_lawful s living (commands.Ask x r) nothing begins asks commit abort checkpoint help stat damage fuse renew stop close = absurd (asks x r refl)
-other_lawful s living (commands.Commit x) nothing begins asks commit abort checkpoint help stat damage fuse renew stop close = absurd (commit x refl)
-other_lawful s living (commands.Abort x) nothing begins asks commit abort checkpoint help stat damage fuse renew stop close = absurd (abort x refl)
-other_lawful s living commands.Checkpoint nothing begins asks commit abort checkpoint help stat damage fuse renew stop close = absurd (checkpoint refl)
-other_lawful s living (commands.Help n) nothing begins asks commit abort checkpoint help stat damage fuse renew stop close = absurd (help n refl)
-other_lawful s living commands.Stat nothing begins asks commit abort checkpoint help stat damage fuse renew stop close = absurd (stat refl)
-other_lawful s living (commands.Damage p) nothing begins asks commit abort checkpoint help stat damage fuse renew stop close = absurd (damage p refl)
-other_lawful s living commands.Close nothing begins asks commit abort checkpoint help stat damage fuse renew stop close = absurd close
-other_lawful s living (commands.Stop keep) nothing begins asks commit abort checkpoint help stat damage fuse renew stop close = absurd stop
-other_lawful s living (commands.Fuse d n) nothing begins asks commit abort checkpoint help stat damage fuse renew stop close = absurd (fuse d n refl)
-other_lawful s living (commands.Renew d) nothing begins asks commit abort checkpoint help stat damage fuse renew stop close = absurd (renew d refl)
-other_lawful s living _ nothing begins asks commit abort checkpoint help stat damage fuse renew stop close = refl
+    → ((x : List ℕ) → c ≡ commands.Abort x → ⊥) → (c ≡ commands.Checkpoint → ⊥) → (c ≡ commands.Lose → ⊥) → ((n : ℕ) → c ≡ commands.Help n → ⊥) → (c ≡ commands.Stat → ⊥) → ((p : ℕ) → c ≡ commands.Damage p → ⊥) → ((d : Device) (n : ℕ) → c ≡ commands.Fuse d n → ⊥) → ((d : Device) → c ≡ commands.Renew d → ⊥) → IsNoStop c → IsNoClose c → is_lawful s c ≡ false
+other_lawful s living commands.Nothing nothing begins asks commit abort checkpoint lose help stat damage fuse renew stop close = absurd (nothing refl)
+other_lawful s living (commands.Format limit) nothing begins asks commit abort checkpoint lose help stat damage fuse renew stop close = rw (living) refl
+other_lawful s living commands.Open nothing begins asks commit abort checkpoint lose help stat damage fuse renew stop close = living
+other_lawful s living (commands.Begin x) nothing begins asks commit abort checkpoint lose help stat damage fuse renew stop close = absurd (begins x refl)
+other_lawful s living (commands.Ask x r) nothing begins asks commit abort checkpoint lose help stat damage fuse renew stop close = absurd (asks x r refl)
+other_lawful s living (commands.Commit x) nothing begins asks commit abort checkpoint lose help stat damage fuse renew stop close = absurd (commit x refl)
+other_lawful s living (commands.Abort x) nothing begins asks commit abort checkpoint lose help stat damage fuse renew stop close = absurd (abort x refl)
+other_lawful s living commands.Checkpoint nothing begins asks commit abort checkpoint lose help stat damage fuse renew stop close = absurd (checkpoint refl)
+other_lawful s living commands.Lose nothing begins asks commit abort checkpoint lose help stat damage fuse renew stop close = absurd (lose refl)
+other_lawful s living (commands.Help n) nothing begins asks commit abort checkpoint lose help stat damage fuse renew stop close = absurd (help n refl)
+other_lawful s living commands.Stat nothing begins asks commit abort checkpoint lose help stat damage fuse renew stop close = absurd (stat refl)
+other_lawful s living (commands.Damage p) nothing begins asks commit abort checkpoint lose help stat damage fuse renew stop close = absurd (damage p refl)
+other_lawful s living commands.Close nothing begins asks commit abort checkpoint lose help stat damage fuse renew stop close = absurd close
+other_lawful s living (commands.Stop keep) nothing begins asks commit abort checkpoint lose help stat damage fuse renew stop close = absurd stop
+other_lawful s living (commands.Fuse d n) nothing begins asks commit abort checkpoint lose help stat damage fuse renew stop close = absurd (fuse d n refl)
+other_lawful s living (commands.Renew d) nothing begins asks commit abort checkpoint lose help stat damage fuse renew stop close = absurd (renew d refl)
+other_lawful s living _ nothing begins asks commit abort checkpoint lose help stat damage fuse renew stop close = refl
 
 pub in_life : {D : Type 0} (L : Ghosts D) (opens : List Record → Type 0) (x : LifeState) (v : View L.tells) (s : Stage) → Within (seen L v) opens x s → no_life s.life ≡ false
 in_life L opens x v s h = c.living (seen L v) opens x s h

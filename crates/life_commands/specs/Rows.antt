@@ -8,6 +8,7 @@ use Rattle.wal_record.specs.Rules.{is_limit}
 use Rattle.wal_record.specs.Locks.{Held}
 use Rattle.wal_record.specs.OpenWrites.{is_loser}
 use Rattle.wal_record.specs.declared.record.Checkpoint.{Checkpoint}
+use Rattle.wal_record.specs.declared.record.Lost.{Lost}
 use Rattle.wal_record.specs.declared.record.Record.{Record}
 use Rattle.wal_record.specs.declared.record.Record.TheVariants as kinds
 use Rattle.wal_record.specs.declared.entry.Entry.{Entry}
@@ -50,7 +51,7 @@ is_lawful s commands.Backup = false
 is_lawful s commands.Archive = false
 is_lawful s commands.Merge = false
 is_lawful s commands.Recycle = false
-is_lawful s commands.Lose = false
+is_lawful s commands.Lose = not (no_life s.life)
 is_lawful s (commands.Help steps) = not (no_life s.life)
 is_lawful s commands.Stat = not (no_life s.life)
 is_lawful s commands.Close = if no_life s.life then false else no_name s.active
@@ -86,7 +87,7 @@ IsOfLife commands.Backup = ⊥
 IsOfLife commands.Archive = ⊥
 IsOfLife commands.Merge = ⊥
 IsOfLife commands.Recycle = ⊥
-IsOfLife commands.Lose = ⊥
+IsOfLife commands.Lose = Unit {0}
 IsOfLife (commands.Help steps) = Unit {0}
 IsOfLife commands.Stat = Unit {0}
 IsOfLife commands.Close = Unit {0}
@@ -124,7 +125,7 @@ IsOwn tells s commands.Backup own = ⊥
 IsOwn tells s commands.Archive own = ⊥
 IsOwn tells s commands.Merge own = ⊥
 IsOwn tells s commands.Recycle own = ⊥
-IsOwn tells s commands.Lose own = ⊥
+IsOwn tells s commands.Lose own = (lsn : ℕ) × (l : Lost) × (own ≡ Rec lsn (kinds.Lost l) ∷ [])
 IsOwn tells s (commands.Help steps) own = AreOfHelp (IsLoserIn tells s.life) steps own
 IsOwn tells s commands.Stat own = own ≡ []
 IsOwn tells s commands.Close own = All IsWrittenEntry own
@@ -201,7 +202,7 @@ MayBeDone tells s commands.Backup found = ⊥
 MayBeDone tells s commands.Archive found = ⊥
 MayBeDone tells s commands.Merge found = ⊥
 MayBeDone tells s commands.Recycle found = ⊥
-MayBeDone tells s commands.Lose found = ⊥
+MayBeDone tells s commands.Lose found = s.ended ≡ None
 MayBeDone tells s (commands.Help steps) found = s.ended ≡ None
 MayBeDone tells s commands.Stat found = s.ended ≡ None
 MayBeDone tells s commands.Close found = s.ended ≡ None
@@ -230,7 +231,7 @@ Calls commands.Backup device = ⊥
 Calls commands.Archive device = ⊥
 Calls commands.Merge device = ⊥
 Calls commands.Recycle device = ⊥
-Calls commands.Lose device = ⊥
+Calls commands.Lose device = device ≡ Log
 Calls (commands.Help steps) device = device ≡ Log
 Calls commands.Stat device = ⊥
 Calls commands.Close device = device ≡ Log
@@ -243,10 +244,11 @@ Calls (commands.Worker transactions) device = ⊥
 Calls (commands.Step request) device = ⊥
 Calls commands.End device = ⊥
 
--- Where nothing is left to enter, nothing was entered; but a Checkpoint is entered before it is made durable, a close makes the
--- log durable behind its last write of a page, and a help may fail behind any of its steps.
+-- Where nothing is left to enter, nothing was entered; but a Checkpoint and a Lost are entered before they are made durable, a
+-- close makes the log durable behind its last write of a page, and a help may fail behind any of its steps.
 abbrev pub IsLeftOut : Command → List Entry → List Entry → Type 0
 IsLeftOut commands.Checkpoint es rest = Unit {0}
+IsLeftOut commands.Lose es rest = Unit {0}
 IsLeftOut (commands.Help steps) es rest = Unit {0}
 IsLeftOut commands.Close es rest = Unit {0}
 IsLeftOut _ es rest = rest ≡ [] → es ≡ []

@@ -192,7 +192,7 @@ done_stage s commands.Backup es found kept = s
 done_stage s commands.Archive es found kept = s
 done_stage s commands.Merge es found kept = s
 done_stage s commands.Recycle es found kept = s
-done_stage s commands.Lose es found kept = s
+done_stage s commands.Lose es found kept = with_entries s es
 done_stage s (commands.Help steps) es found kept = with_entries s es
 done_stage s commands.Stat es found kept = s
 done_stage s commands.Close es found kept = closed (with_entries s es)
@@ -219,7 +219,7 @@ failed_stage s commands.Backup es at = s
 failed_stage s commands.Archive es at = s
 failed_stage s commands.Merge es at = s
 failed_stage s commands.Recycle es at = s
-failed_stage s commands.Lose es at = s
+failed_stage s commands.Lose es at = record (with_entries s es) { ended = at }
 failed_stage s (commands.Help steps) es at = record (with_entries s es) { ended = at }
 failed_stage s commands.Stat es at = s
 failed_stage s commands.Close es at = record (with_entries s es) { ended = at }

@@ -12,7 +12,7 @@ use crate::asking::ask_open;
 use crate::devices::{damage, fuse, renew};
 use crate::ending::{abort_open, commit_open};
 use crate::status::Status;
-use crate::upkeep::{checkpoint_open, help_open, stat_open};
+use crate::upkeep::{checkpoint_open, help_open, lose_open, stat_open};
 use media::{Disk, PageDevice};
 use own_life::{LifePages, OwnLife};
 use page_ops::Life;
@@ -47,6 +47,7 @@ pub fn step<'a, N: Life, L: Disk, D: PageDevice, P: LifePages<N, D>, R: Wait>(
         Command::Commit(name) => commit(rt, alloc, life, name, line),
         Command::Abort(name) => abort(rt, alloc, life, pages, name, line),
         Command::Checkpoint => checkpoint(rt, alloc, life),
+        Command::Lose => lose(rt, alloc, life, pages),
         Command::Help { steps } => help(rt, alloc, life, pages, *steps),
         Command::Stat => stat(rt, alloc, life),
         Command::Damage { page } => damage(alloc, pages, *page),
@@ -195,6 +196,25 @@ fn checkpoint<'a, N: Life, L: Disk, R: Wait>(
     match life.ended() {
         Some(at) => Ok(transcript::upkeep_ended(alloc, Upkeep::Checkpoint, at)?),
         None => checkpoint_open(rt, alloc, life),
+    }
+}
+
+fn lose<'a, N: Life, L: Disk, D: PageDevice, P: LifePages<N, D>, R: Wait>(
+    rt: &R,
+    alloc: Global,
+    life: &mut OwnLife<'a, L, N>,
+    pages: &mut P,
+) -> Result<Vec<u8>, Status>
+    requires idle { P.idle pages.old }
+    ensures idle { P.idle pages.new }
+    ensures ok { IfOk result (λ lines. Did L.Disk N.opens life.old life.new commands.Lose lines.items) }
+    ensures err { IfErr result (λ status. (line : ℕ) → Refused L.Disk N.opens life.old life.new commands.Lose line status) }
+    ensures cause { IfErr result (LifeCause life.old.calls.own life.new.calls.own) }
+    ensures later { life.old.calls.own ≤ life.new.calls.own }
+{
+    match life.ended() {
+        Some(at) => Ok(transcript::upkeep_ended(alloc, Upkeep::Lose, at)?),
+        None => lose_open(rt, alloc, life, pages),
     }
 }
 

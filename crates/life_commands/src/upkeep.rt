@@ -42,6 +42,35 @@ pub fn checkpoint_open<'a, N: Life, L: Disk, R: Wait>(
     }
 }
 
+/// The data device is lost.
+pub fn lose_open<'a, N: Life, L: Disk, D: PageDevice, P: LifePages<N, D>, R: Wait>(
+    rt: &R,
+    alloc: Global,
+    life: &mut OwnLife<'a, L, N>,
+    pages: &mut P,
+) -> Result<Vec<u8>, Status>
+    requires goes { life.old.ended ≡ None }
+    requires idle { P.idle pages.old }
+    ensures idle { P.idle pages.new }
+    ensures ok { IfOk result (λ lines. Did L.Disk N.opens life.old life.new commands.Lose lines.items) }
+    ensures err { IfErr result (λ status. (line : ℕ) → Refused L.Disk N.opens life.old life.new commands.Lose line status) }
+    ensures cause { IfErr result (LifeCause life.old.calls.own life.new.calls.own) }
+    ensures later { life.old.calls.own ≤ life.new.calls.own }
+{
+    let before = life.refused();
+    if before >= MOST {
+        return Err(Status::Memory);
+    }
+    let done = transcript::upkeep_line(alloc, Upkeep::Lose)?;
+    let failed = transcript::upkeep_failed(alloc, Upkeep::Lose, Device::Log)?;
+    let lost = life.lose(rt, alloc, pages);
+    life.look();
+    match lost {
+        Ok(_) => Ok(done),
+        Err(fault) => fail(fault, failed, before, life.refused()),
+    }
+}
+
 /// Help takes so many steps, or fewer where no step has work.
 pub fn help_open<'a, N: Life, L: Disk, D: PageDevice, P: LifePages<N, D>, R: Wait>(
     rt: &R,

@@ -2,11 +2,14 @@
 use Rattle.std.specs.Prelude.{ℕ, List, [], ◌∷◌, Option, Some, None, Bool, true, false, ◌==◌, ◌||◌, ◌&&◌, if◌then◌else◌, codes}
 use Rattle.script.specs.Word.{word, behind, same_text}
 
--- a word about the store, and one about a transaction
+-- a word about the store, one by which it is kept up or loses a part, and one about a transaction
 abbrev pub is_store_word : List ℕ → Bool
 is_store_word text =
-    same_text text (codes "format") || same_text text (codes "open") || same_text text (codes "checkpoint") || same_text text (codes "stat")
-    || same_text text (codes "close") || same_text text (codes "stop") || same_text text (codes "damage") || same_text text (codes "help")
+    same_text text (codes "format") || same_text text (codes "open") || same_text text (codes "stat") || same_text text (codes "close")
+    || same_text text (codes "stop") || same_text text (codes "damage")
+
+abbrev pub is_upkeep_word : List ℕ → Bool
+is_upkeep_word text = same_text text (codes "checkpoint") || same_text text (codes "lose") || same_text text (codes "help")
 
 abbrev pub is_transaction_word : List ℕ → Bool
 is_transaction_word text =
@@ -14,7 +17,7 @@ is_transaction_word text =
     || same_text text (codes "scan") || same_text text (codes "op") || same_text text (codes "commit") || same_text text (codes "abort")
 
 abbrev pub is_built_word : List ℕ → Bool
-is_built_word text = is_store_word text || is_transaction_word text
+is_built_word text = is_store_word text || is_upkeep_word text || is_transaction_word text
 
 -- a word to which the second one belongs: the device of a fuse
 abbrev pub has_fuse : List ℕ → Bool

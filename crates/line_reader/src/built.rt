@@ -1,7 +1,7 @@
 //! Which lines ask for what is built.
 ghost use Rattle.std.specs.Prelude.{◌≡◌, Option, List, ℕ};
 ghost use Rattle.std.specs.Option.{option_copied};
-ghost use Rattle.line_reader.specs.Built.{is_built, is_built_word, is_store_word, is_transaction_word, has_fuse, is_built_device};
+ghost use Rattle.line_reader.specs.Built.{is_built, is_built_word, is_store_word, is_transaction_word, is_upkeep_word, has_fuse, is_built_device};
 
 use script::cut;
 
@@ -23,7 +23,7 @@ pub fn is_built(line: &[u8]) -> bool
 fn is_built_word(word: &[u8]) -> bool
     ensures { result ≡ is_built_word word.now }
 {
-    is_store_word(word) || is_transaction_word(word)
+    is_store_word(word) || is_upkeep_word(word) || is_transaction_word(word)
 }
 
 /// Whether it asks for something of the store.
@@ -32,12 +32,17 @@ fn is_store_word(word: &[u8]) -> bool
 {
     word == b"format".as_slice()
         || word == b"open".as_slice()
-        || word == b"checkpoint".as_slice()
         || word == b"stat".as_slice()
         || word == b"close".as_slice()
         || word == b"stop".as_slice()
         || word == b"damage".as_slice()
-        || word == b"help".as_slice()
+}
+
+/// Whether it asks for something that keeps the store up, or loses a part of it.
+fn is_upkeep_word(word: &[u8]) -> bool
+    ensures { result ≡ is_upkeep_word word.now }
+{
+    word == b"checkpoint".as_slice() || word == b"lose".as_slice() || word == b"help".as_slice()
 }
 
 /// Whether it asks for something of a transaction.

@@ -8,3 +8,4 @@ pub mod Surveyed
 pub mod Written
 mod Helped
 mod Redone
+mod Restored

@@ -1,8 +1,11 @@
 -- What a life's pages have written to their data device.
-use Rattle.std.specs.Prelude.{◌≡◌, ◌≢◌, ◌⊎◌, ◌<◌, ◌≤◌, ◌==◌, ℕ, List, ◌++◌, length, Option, Some, None, Bool, true, IsTrue}
+use Rattle.std.specs.Prelude.{◌≡◌, ◌≢◌, ◌⊎◌, ◌<◌, ◌≤◌, ◌==◌, ℕ, List, [], ◌++◌, length, Option, Some, None, Bool, true, IsTrue}
 use Rattle.std.specs.List.{All, list_any}
 use Rattle.restart.specs.Plans.{awaits}
 use Rattle.buffer_pool.specs.Tables.{Table, frame_of, is_dirty}
+use Rattle.wal_record.specs.History.{life_log}
+use Rattle.wal_record.specs.Upkeep.{unrestored}
+use Rattle.wal_record.specs.declared.record.Record.{Record}
 use Rattle.wal_record.specs.declared.record.Record.TheVariants as kinds
 use Rattle.wal_record.specs.declared.entry.Entry.{Entry}
 use Rattle.wal_record.specs.declared.entry.Entry.TheVariants.{Rec}
@@ -10,6 +13,18 @@ use Rattle.wal_record.specs.declared.entry.Entry.TheVariants.{Rec}
 -- the data device lacks the page as it is in its frame
 abbrev pub Lacks : Table → ℕ → Type 0
 Lacks t page = is_dirty (frame_of t page) ≡ true
+
+-- the device has an image of no page
+abbrev pub HasNone : {D : Type 0} → (D → ℕ → Option (List ℕ)) → D → Type 0
+HasNone newest device = (page : ℕ) → newest device page ≡ None
+
+-- no segment is unrestored, in each log with which the life may have begun
+abbrev pub AreRestored : (List Record → Type 0) → List Entry → Type 0
+AreRestored opens h = (opening : List Record) → opens opening → unrestored (life_log opening h) ≡ []
+
+-- some log is known with which the life may have begun, behind which no segment is unrestored
+abbrev pub IsKnownRestored : (List Record → Type 0) → List Entry → Type 0
+IsKnownRestored opens h = (opening : List Record) × opens opening × (unrestored (life_log opening h) ≡ [])
 
 -- the page awaits redo by this plan
 abbrev pub AwaitsRedo : List Bool → ℕ → Type 0

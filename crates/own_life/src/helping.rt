@@ -1,10 +1,10 @@
 //! Help: what an opening has left to do, and what a close would have to, step by step.
-ghost use Rattle.std.specs.Prelude.{◌≡◌, ◌⊎◌, ◌<◌, ◌≤◌, ℕ, None, IfErr, IfOk, OnErr, OnOk};
+ghost use Rattle.std.specs.Prelude.{◌≡◌, ◌⊎◌, ◌<◌, ◌≤◌, ℕ, None, IfErr, IfNone, IfOk, OnErr, OnOk};
 ghost use Rattle.maintenance.specs.Steps.{AreAllOver};
 ghost use Rattle.rollback.specs.Owners.{IsLoserOf};
 ghost use Rattle.store_life.specs.Steps.{AddsUpkeep, StepsBack};
 ghost use Rattle.own_life.specs.Helps.{AddsSteps, Helps, Undoes, UndoesSome};
-ghost use Rattle.own_life.specs.Pages.{AllBut, IsNextRedone, WritesUpto};
+ghost use Rattle.own_life.specs.Pages.{AllBut, AreRestored, WritesUpto};
 ghost use Rattle.own_life.specs.State.{Fails, GoesOn};
 
 use crate::life::{OwnLife, unvaulted};
@@ -18,9 +18,10 @@ use store_model::{Fault, PageNo};
 
 impl<'a, L: Disk, N: Life> OwnLife<'a, L, N> {
     /// Takes so many steps, or fewer where no step has work, and tells how many. A step is the first of these that has work: a
-    /// write of the least loser is undone, or it is ended; the least page that awaits redo is brought; the least dirty page is
-    /// written, and dropped where the device fails. By one thread no work comes back of a kind that is done: a page that is
-    /// brought or written makes no loser, and one that is written awaits no redo.
+    /// write of the least loser is undone, or it is ended; the least segment that is unrestored is restored; the least page that
+    /// awaits redo is brought; the least dirty page is written, and dropped where the device fails. By one thread no work comes
+    /// back of a kind that is done: a page that is brought or written makes no loser and loses no segment, and one that is
+    /// written awaits no redo.
     pub fn help<D: PageDevice, P: LifePages<N, D>, R: Wait>(
         &mut self,
         rt: &R,
@@ -34,6 +35,7 @@ impl<'a, L: Disk, N: Life> OwnLife<'a, L, N> {
         ensures helps { Helps (IsLoserOf N.opens) steps self.old.history self.new.history }
         ensures taken { IfOk result (λ taken. taken ≤ steps) }
         ensures losers { IfOk result (λ taken. AreAllOver N.opens self.new.history ⊎ ((taken ≡ steps) × AddsSteps steps self.old.history self.new.history)) }
+        ensures restored { IfOk result (λ taken. taken < steps → AreRestored N.opens self.new.history) }
         ensures redone { IfOk result (λ taken. taken < steps → (page : ℕ) → P.awaits pages.new page → ⊥) }
         ensures written { IfOk result (λ taken. taken < steps → (page : ℕ) → 0 < page → P.dirty pages.new page → ⊥) }
         ensures names { self.new.active ≡ self.old.active }
@@ -41,9 +43,9 @@ impl<'a, L: Disk, N: Life> OwnLife<'a, L, N> {
         ensures refused { IfErr result (Fails N.opens self.old self.new) }
     {
         let undone = self.undo_losers(rt, alloc, pages, steps)?;
-        let redone = self.redo_pages(rt, alloc, pages, steps - undone)?;
-        let written = self.write_pages(rt, alloc, pages, steps - undone - redone)?;
-        Ok(undone + redone + written)
+        let brought = self.bring_pages(rt, alloc, pages, steps - undone)?;
+        let written = self.write_pages(rt, alloc, pages, steps - undone - brought)?;
+        Ok(undone + brought + written)
     }
 
     /// Undoes losers, the least first, in so many steps at most.
@@ -73,8 +75,8 @@ impl<'a, L: Disk, N: Life> OwnLife<'a, L, N> {
         Ok(steps)
     }
 
-    /// Brings so many pages that await redo at most, the least first.
-    fn redo_pages<D: PageDevice, P: LifePages<N, D>, R: Wait>(
+    /// Brings so many pages ahead of need at most: those of segments that are unrestored, and then those that await redo.
+    fn bring_pages<D: PageDevice, P: LifePages<N, D>, R: Wait>(
         &mut self,
         rt: &R,
         alloc: Global,
@@ -85,7 +87,7 @@ impl<'a, L: Disk, N: Life> OwnLife<'a, L, N> {
         requires idle { P.idle pages.old }
         ensures idle { P.idle pages.new }
         ensures few { IfOk result (λ taken. taken ≤ steps) }
-        ensures come { OnOk result (AllBut steps (P.awaits pages.old) (P.awaits pages.new)) }
+        ensures restored { IfOk result (λ taken. taken < steps → AreRestored N.opens self.new.history) }
         ensures redone { IfOk result (λ taken. taken < steps → (page : ℕ) → P.awaits pages.new page → ⊥) }
         ensures upkeep { AddsUpkeep self.old.history self.new.history }
         ensures names { self.new.active ≡ self.old.active }
@@ -93,7 +95,7 @@ impl<'a, L: Disk, N: Life> OwnLife<'a, L, N> {
         ensures refused { IfErr result (Fails N.opens self.old self.new) }
     {
         for taken in 0..steps {
-            if self.redo_next(rt, alloc, pages)?.is_none() {
+            if self.bring_next(rt, alloc, pages)?.is_none() {
                 return Ok(taken);
             }
         }
@@ -149,8 +151,8 @@ impl<'a, L: Disk, N: Life> OwnLife<'a, L, N> {
         unvaulted(undone)
     }
 
-    /// Brings the least page that awaits redo, and gives its number; none where no page awaits it.
-    fn redo_next<D: PageDevice, P: LifePages<N, D>, R: Wait>(
+    /// Brings the next page ahead of need, and gives its number; none where no segment is unrestored and no page awaits redo.
+    fn bring_next<D: PageDevice, P: LifePages<N, D>, R: Wait>(
         &mut self,
         rt: &R,
         alloc: Global,
@@ -159,16 +161,16 @@ impl<'a, L: Disk, N: Life> OwnLife<'a, L, N> {
         requires open { self.old.ended ≡ None }
         requires idle { P.idle pages.old }
         ensures idle { P.idle pages.new }
-        ensures next { IfOk result (IsNextRedone (P.awaits pages.old) (P.awaits pages.new)) }
-        ensures fewer { (page : ℕ) → P.awaits pages.new page → P.awaits pages.old page }
+        ensures restored { IfOk result (λ page. IfNone page (AreRestored N.opens self.new.history)) }
+        ensures redone { IfOk result (λ page. IfNone page ((q : ℕ) → P.awaits pages.new q → ⊥)) }
         ensures upkeep { AddsUpkeep self.old.history self.new.history }
         ensures names { self.new.active ≡ self.old.active }
         ensures goes { OnOk result (GoesOn self.old self.new) }
         ensures refused { IfErr result (Fails N.opens self.old self.new) }
     {
         let OwnLife { journal, life } = self;
-        let redone = pages.redo_next(rt, alloc, journal, life);
+        let brought = pages.bring_next(rt, alloc, journal, life);
         see_whole(journal, life);
-        unvaulted(redone)
+        unvaulted(brought)
     }
 }

@@ -1,5 +1,5 @@
 //! A life that one thread owns.
-ghost use Rattle.std.specs.Prelude.{◌≡◌, ◌==◌, ◌<◌, ◌≤◌, ◌-◌, ◌^◌, ℕ, None, Some, List, ◌++◌, Err, IfErr, IfOk, IfSome, OnOk, false, true, length, min, position};
+ghost use Rattle.std.specs.Prelude.{◌≡◌, ◌⊎◌, ◌==◌, ◌<◌, ◌≤◌, ◌-◌, ◌^◌, ℕ, None, Some, List, ◌++◌, Err, IfErr, IfOk, IfSome, OnErr, OnOk, false, true, length, min, position};
 ghost use Rattle.std.specs.Option.{option_map};
 ghost use Rattle.command_laws.specs.Names.{Active, active_of, is_active};
 ghost use Rattle.engine.specs.Applies.{GivesNone};
@@ -8,14 +8,16 @@ ghost use Rattle.engine.specs.Writes.{LacksRoom};
 ghost use Rattle.journal.specs.State.{ArmsDisk};
 ghost use Rattle.journal.specs.Stops.{IsDurableUpto};
 ghost use Rattle.log_laws.specs.Right.{IsRight};
+ghost use Rattle.media.specs.Cause.{Rose};
 ghost use Rattle.page_ops.specs.Outcomes.{IsConflict, IsSurvey};
 ghost use Rattle.store_model.specs.declared.fault.Fault.TheVariants as faults;
 ghost use Rattle.store_model.specs.declared.limits.TheConstants.{MOST_ACTIVE};
 ghost use Rattle.wal_record.specs.declared.entry.Entry.{Entry};
 ghost use Rattle.wal_record.specs.declared.record.Record.{Record};
 ghost use Rattle.store_life.specs.SoFar.{left_by};
-ghost use Rattle.store_life.specs.Turns.{Asks, EndsBy, IsCheckpointed, IsTold};
+ghost use Rattle.store_life.specs.Turns.{Asks, EndsBy, IsCheckpointed, IsLost, IsTold};
 ghost use Rattle.own_life.specs.Kept.{without_crowd, without_vault};
+ghost use Rattle.own_life.specs.Pages.{HasNone};
 ghost use Rattle.own_life.specs.State.{AreLeft, BeginsAs, Fails, FailsToAnswer, FailsToBegin, FailsToCommit, FailsToFlush, FailsToLook, GoesOn, IsCommitted, name_by};
 
 use crate::life_pages::LifePages;
@@ -200,6 +202,36 @@ impl<'a, L: Disk, N: Life> OwnLife<'a, L, N> {
         let taken = life.checkpoint(rt, alloc, journal);
         see_whole(journal, life);
         taken
+    }
+
+    /// The data device is lost, and an empty one takes its place. The log says so first, and is made durable up to that; gives the
+    /// LSN of that record. From then on a page is restored from the log as it is wanted, its whole segment with it. Where the log
+    /// doesn't say so, the device stays as it is.
+    pub fn lose<D: PageDevice, P: LifePages<N, D>, R: Wait>(
+        &mut self,
+        rt: &R,
+        alloc: Global,
+        pages: &mut P,
+    ) -> Result<Lsn, Fault>
+        requires open { self.old.ended ≡ None }
+        requires idle { P.idle pages.old }
+        ensures idle { P.idle pages.new }
+        ensures entered { IsLost result self.old.history self.new.history }
+        ensures flushed { IfOk result (λ lsn. (opening : List Record) → N.opens opening → lsn ≤ self.new.durable) }
+        ensures clean { OnOk result ((page : ℕ) → P.dirty pages.new page → ⊥) }
+        ensures empty { D.tells → OnOk result (HasNone D.newest (P.device pages.new) ⊎ Rose (D.faults (P.device pages.old)) (D.faults (P.device pages.new))) }
+        ensures same { OnErr result (pages.new ≡ pages.old) }
+        ensures names { self.new.active ≡ self.old.active }
+        ensures goes { OnOk result (GoesOn self.old self.new) }
+        ensures refused { IfErr result (FailsToFlush N.opens self.old self.new) }
+    {
+        let OwnLife { journal, life } = self;
+        let marked = life.mark_lost(rt, alloc, journal);
+        see_whole(journal, life);
+        if marked.is_ok() {
+            pages.lose(rt);
+        }
+        marked
     }
 
     /// What the journal knows of the log and of the life. Nothing is entered.

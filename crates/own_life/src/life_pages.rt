@@ -1,5 +1,5 @@
 //! What a life asks of its pages.
-ghost use Rattle.std.specs.Prelude.{◌≡◌, ◌≤◌, ◌⊎◌, ℕ, Some, IfErr, IfOk, OnOk, true};
+ghost use Rattle.std.specs.Prelude.{◌≡◌, ◌≤◌, ◌⊎◌, ℕ, Some, IfErr, IfNone, IfOk, OnOk, true};
 ghost use mathlib.Core.List.{IsPrefix};
 ghost use Rattle.buffer_pool.specs.Writes.{no_faults};
 ghost use Rattle.command_laws.specs.Names.{Active, active_of, is_active};
@@ -17,7 +17,7 @@ ghost use Rattle.page_repair.specs.Images.{AreWritten};
 ghost use Rattle.store_life.specs.SoFar.{HasNames, Runs, actives, left_by};
 ghost use Rattle.store_life.specs.Steps.{AddsUpkeep, StepsBack};
 ghost use Rattle.store_life.specs.Turns.{Asks, EndsBy, IsTold};
-ghost use Rattle.own_life.specs.Pages.{IsNextRedone, IsNextWritten, OneLess, WritesUpto};
+ghost use Rattle.own_life.specs.Pages.{AreRestored, HasNone, IsKnownRestored, IsNextRedone, IsNextWritten, OneLess, WritesUpto};
 
 use engine::Answered;
 use front::Pass;
@@ -114,8 +114,9 @@ pub trait LifePages<N: Life, D: PageDevice> {
         ensures open { OnOk result (MeetsNoEnd (J.account journal.old) (J.account journal.new)) }
         ensures refused { IfErr result (FailsToBring N.opens N.log_faults N.made no_faults no_faults (J.account journal.old) (J.account journal.new) life.new.pass.log) };
 
-    /// Brings the least page that awaits redo, and gives its number; none where no page awaits it.
-    fn redo_next<J: Journaling<N>, R: Wait>(
+    /// Brings the next page ahead of need, and gives its number: the first page of the least segment that is unrestored, which is
+    /// then restored; or the least page that awaits redo. None where no segment is unrestored and no page awaits redo.
+    fn bring_next<J: Journaling<N>, R: Wait>(
         &mut self,
         rt: &R,
         alloc: Global,
@@ -126,7 +127,9 @@ pub trait LifePages<N: Life, D: PageDevice> {
         requires runs { Runs N.opens N.entries (J.account journal.old) life.old }
         ensures idle { idle self.new }
         ensures runs { Runs N.opens N.entries (J.account journal.new) life.new }
-        ensures next { IfOk result (IsNextRedone (awaits self.old) (awaits self.new)) }
+        ensures restored { IfOk result (λ page. IfNone page (AreRestored N.opens life.new.pass.log)) }
+        ensures redone { IfOk result (λ page. IfNone page ((q : ℕ) → awaits self.new q → ⊥)) }
+        ensures next { IfOk result (λ page. IsKnownRestored N.opens life.old.pass.log → IsNextRedone (awaits self.old) (awaits self.new) page) }
         ensures fewer { (page : ℕ) → awaits self.new page → awaits self.old page }
         ensures upkeep { AddsUpkeep life.old.pass.log life.new.pass.log }
         ensures names { life.new.named ≡ life.old.named }
@@ -161,6 +164,15 @@ pub trait LifePages<N: Life, D: PageDevice> {
         ensures keeps { Keeps (J.account journal.old) (J.account journal.new) }
         ensures open { OnOk result (MeetsNoEnd (J.account journal.old) (J.account journal.new)) }
         ensures refused { IfErr result (FailsToReserve N.opens N.log_faults N.made no_faults no_faults (J.account journal.old) (J.account journal.new) life.new.pass.log) };
+
+    /// The data device is lost, and an empty one takes its place; where it fails, the old images may stay, and no answer tells of
+    /// that. Each page that was in memory is dropped.
+    fn lose<R: Wait>(&mut self, rt: &R)
+        requires idle { idle self.old }
+        ensures idle { idle self.new }
+        ensures clean { (page : ℕ) → dirty self.new page → ⊥ }
+        ensures awaits { (page : ℕ) → awaits self.new page → awaits self.old page }
+        ensures empty { D.tells → HasNone D.newest (device self.new) ⊎ Rose (D.faults (device self.old)) (D.faults (device self.new)) };
 
     /// Reads of the page from the data device fail verification until its next write. No answer tells whether the device did so.
     fn damage(&mut self, page: PageNo)

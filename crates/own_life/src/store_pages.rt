@@ -1,5 +1,5 @@
 //! The pages of a life over its data device.
-ghost use Rattle.std.specs.Prelude.{◌≡◌, ◌≤◌, ◌⊎◌, ℕ, Some, IfErr, IfOk, OnOk, false, true};
+ghost use Rattle.std.specs.Prelude.{◌≡◌, ◌≤◌, ◌⊎◌, ℕ, Some, IfErr, IfNone, IfOk, OnOk, false, true};
 ghost use mathlib.Core.List.{IsPrefix};
 ghost use Rattle.buffer_pool.specs.Writes.{no_faults};
 ghost use Rattle.command_laws.specs.Names.{Active, active_of, is_active};
@@ -17,7 +17,7 @@ ghost use Rattle.page_repair.specs.Images.{AreWritten};
 ghost use Rattle.store_life.specs.SoFar.{HasNames, Runs, actives, left_by};
 ghost use Rattle.store_life.specs.Steps.{AddsUpkeep, StepsBack};
 ghost use Rattle.store_life.specs.Turns.{Asks, EndsBy, IsTold};
-ghost use Rattle.own_life.specs.Pages.{AwaitsRedo, IsNextRedone, IsNextWritten, Lacks, OneLess, WritesUpto};
+ghost use Rattle.own_life.specs.Pages.{AreRestored, AwaitsRedo, HasNone, IsKnownRestored, IsNextRedone, IsNextWritten, Lacks, OneLess, WritesUpto};
 
 use crate::supply::LogAlone;
 use buffer_pool::PlainPool;
@@ -31,7 +31,7 @@ use script::Name;
 use std::alloc::Global;
 use std::sync::Wait;
 use store_life::StoreLife;
-use store_model::{Fault, PageNo, Pos, Request};
+use store_model::{Fault, PageNo, Pos, Request, SEGMENT_PAGES};
 use wal_record::Entry;
 
 /// The pages of a life over a data device: a page that this lacks, or gives damaged or too old, is rebuilt from the log. Whoever
@@ -122,8 +122,9 @@ impl<'a, D: PageDevice, N: Life> StorePages<'a, D, N> {
         life.undo_next(rt, alloc, &mut self.pool, journal)
     }
 
-    /// Brings the least page that awaits redo, and gives its number; none where no page awaits it.
-    pub fn redo_next<J: Journaling<N>, R: Wait>(
+    /// Brings the next page ahead of need, and gives its number: the first page of the least segment that is unrestored, which is
+    /// then restored; or the least page that awaits redo. None where no segment is unrestored and no page awaits redo.
+    pub fn bring_next<J: Journaling<N>, R: Wait>(
         &mut self,
         rt: &R,
         alloc: Global,
@@ -134,7 +135,9 @@ impl<'a, D: PageDevice, N: Life> StorePages<'a, D, N> {
         requires runs { Runs N.opens N.entries (J.account journal.old) life.old }
         ensures idle { (self.new.pool.out ≡ 0) × (self.new.pool.reserves ≡ false) }
         ensures runs { Runs N.opens N.entries (J.account journal.new) life.new }
-        ensures next { IfOk result (IsNextRedone (AwaitsRedo self.old.pool.plan) (AwaitsRedo self.new.pool.plan)) }
+        ensures restored { IfOk result (λ page. IfNone page (AreRestored N.opens life.new.pass.log)) }
+        ensures redone { IfOk result (λ page. IfNone page ((q : ℕ) → AwaitsRedo self.new.pool.plan q → ⊥)) }
+        ensures next { IfOk result (λ page. IsKnownRestored N.opens life.old.pass.log → IsNextRedone (AwaitsRedo self.old.pool.plan) (AwaitsRedo self.new.pool.plan) page) }
         ensures fewer { (page : ℕ) → AwaitsRedo self.new.pool.plan page → AwaitsRedo self.old.pool.plan page }
         ensures upkeep { AddsUpkeep life.old.pass.log life.new.pass.log }
         ensures names { life.new.named ≡ life.old.named }
@@ -144,10 +147,18 @@ impl<'a, D: PageDevice, N: Life> StorePages<'a, D, N> {
         ensures open { OnOk result (MeetsNoEnd (J.account journal.old) (J.account journal.new)) }
         ensures refused { IfErr result (FailsToBring N.opens N.log_faults N.made no_faults no_faults (J.account journal.old) (J.account journal.new) life.new.pass.log) }
     {
-        let Some(page) = self.pool.next_redo(0) else {
+        let work = match journal.work(rt, &mut life.pass) {
+            Ok(work) => work,
+            Err(fault) => return Err(fault),
+        };
+        let next = match work.segment {
+            Some(segment) => Some(segment.saturating_mul(SEGMENT_PAGES).saturating_add(1)),
+            None => self.pool.next_redo(0),
+        };
+        let Some(page) = next else {
             return Ok(None);
         };
-        // What awaits redo is there, in every log that is told.
+        // What is unrestored or awaits redo is there, in every log that is told.
         if page > journal.pages(rt, &mut life.pass) {
             return Err(Fault::Memory);
         }
@@ -193,6 +204,18 @@ impl<'a, D: PageDevice, N: Life> StorePages<'a, D, N> {
             Ok(()) => Ok(Some(page)),
             Err(fault) => Err(fault),
         }
+    }
+
+    /// The data device is lost, and an empty one takes its place; where it fails, the old images may stay, and no answer tells of
+    /// that. Each page that was in memory is dropped.
+    pub fn lose<R: Wait>(&mut self, rt: &R)
+        requires idle { (self.old.pool.out ≡ 0) × (self.old.pool.reserves ≡ false) }
+        ensures idle { (self.new.pool.out ≡ 0) × (self.new.pool.reserves ≡ false) }
+        ensures clean { (page : ℕ) → Lacks self.new.pool.frames page → ⊥ }
+        ensures plan { self.new.pool.plan ≡ self.old.pool.plan }
+        ensures empty { D.tells → HasNone D.newest self.new.pool.images ⊎ Rose (D.faults self.old.pool.images) (D.faults self.new.pool.images) }
+    {
+        let _ = self.pool.lose(rt);
     }
 
     /// Reads of the page from the data device fail verification until its next write. No answer tells whether the device did so.

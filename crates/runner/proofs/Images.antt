@@ -161,6 +161,9 @@ module _ (told : ℕ → List ℕ → Type 0) (tells : Type 0) (t : tells) where
       by commands.Checkpoint es found kept figures Done lawful row = grown es
       by commands.Checkpoint es found kept figures (LogFault n) lawful row = grown es
       by commands.Checkpoint es found kept figures Cut lawful row = grown es
+      by commands.Lose es found kept figures Done lawful row = grown es
+      by commands.Lose es found kept figures (LogFault n) lawful row = grown es
+      by commands.Lose es found kept figures Cut lawful row = grown es
       by (commands.Help steps) es found kept figures Done lawful row = grown es
       by (commands.Help steps) es found kept figures (LogFault n) lawful row = grown es
       by (commands.Help steps) es found kept figures Cut lawful row = grown es

@@ -17,9 +17,9 @@
 //!                                    open |                          | close, stop
 //!                                         v                          |
 //!   begin, get, put, del, scan, op,   ( a life ) --------------------+
-//!   commit, abort, checkpoint, help,      |                          |
-//!   stat, damage, fuse,     +---------    |                          |
-//!   renew                   +-------->    | a fuse refuses a call    |
+//!   commit, abort, checkpoint, lose,      |                          |
+//!   help, stat, damage,     +---------    |                          |
+//!   fuse, renew             +-------->    | a fuse refuses a call    |
 //!                                         | of one of the commands   |
 //!                                         v                          |
 //!   the same commands:           ( an ended life ) ------------------+

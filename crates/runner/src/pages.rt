@@ -63,14 +63,14 @@ impl<'a, D: PageDevice, N: Life> LifePages<N, D> for RunPages<'a, D, N> {
         self.pages.undo_next(rt, alloc, journal, life)
     }
 
-    fn redo_next<J: Journaling<N>, R: Wait>(
+    fn bring_next<J: Journaling<N>, R: Wait>(
         &mut self,
         rt: &R,
         alloc: Global,
         journal: &mut J,
         life: &mut StoreLife<N>,
     ) -> Result<Option<PageNo>, Fault> {
-        self.pages.redo_next(rt, alloc, journal, life)
+        self.pages.bring_next(rt, alloc, journal, life)
     }
 
     fn write_next<J: Entering<N>, R: Wait>(
@@ -82,6 +82,10 @@ impl<'a, D: PageDevice, N: Life> LifePages<N, D> for RunPages<'a, D, N> {
         after: PageNo,
     ) -> Result<Option<PageNo>, Fault> {
         self.pages.write_next(rt, alloc, journal, life, after)
+    }
+
+    fn lose<R: Wait>(&mut self, rt: &R) {
+        self.pages.lose(rt)
     }
 
     fn damage(&mut self, page: PageNo) {
