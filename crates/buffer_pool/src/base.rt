@@ -2,6 +2,7 @@
 ghost use Rattle.std.specs.Prelude.{◌≡◌, ◌≤◌, IfOk, IfSome, IfNone};
 ghost use mathlib.Core.List.{IsPrefix};
 ghost use Rattle.media.specs.Cause.{Rose};
+ghost use Rattle.page_repair.specs.Images.{SameNewest};
 ghost use Rattle.buffer_pool.specs.Bases.{IsBaseAmong, IsBaseIn, IsGiven};
 
 use front::Pass;
@@ -23,6 +24,7 @@ pub(crate) fn read_image<N: Life, I: Images<N>, R: Wait>(
 ) -> Option<PageBytes>
     ensures image { IfSome result (IsGiven N.opens pass.new page) }
     ensures seen { IsPrefix pass.old.log pass.new.log × (pass.old.durable ≤ pass.new.durable) }
+    ensures same { I.tells → SameNewest I.newest images.old images.new }
     ensures later { I.faults images.old ≤ I.faults images.new }
     ensures failed { IfNone result (Rose (I.faults images.old) (I.faults images.new)) }
 {

@@ -5,6 +5,7 @@ ghost use Rattle.page_ops.specs.Causes.{FailsToBring, MeetsNoEnd};
 ghost use Rattle.page_ops.specs.Claims.{IsInRange, PageAgrees, no_claims};
 ghost use Rattle.page_ops.specs.Desks.{KeepsFaults};
 ghost use Rattle.page_ops.specs.Seeing.{IsConsistent, Upholds, is_none, is_upkeep, known};
+ghost use Rattle.page_repair.specs.Images.{SameNewest, Spares};
 ghost use Rattle.page_repair.specs.Supplies.{is_restored};
 ghost use Rattle.buffer_pool.specs.Bases.{IsGiven};
 ghost use Rattle.buffer_pool.specs.Brings.{BringsInHand, WasWritten};
@@ -39,6 +40,7 @@ fn made_ready<N: Life, J: Entering<N>, I: Images<N>, S: Supply<N, J>, R: Wait>(
     requires range { IsInRange (record { page = page; lsn = lsn }) }
     ensures same { rights.new ≡ rights.old }
     ensures written { IfOk result (WasWritten N.opens pass.old.log pass.new.log page) }
+    ensures spared { I.tells → Spares N.opens page pass.old.log pass.new.log I.newest images.old images.new }
     ensures images { I.faults images.old ≤ I.faults images.new }
     ensures entered { Upholds N.opens N.entries N.session_entries is_restored (known (J.account journal.old) pass.old no_claims) (known (J.account journal.new) pass.new no_claims) }
     ensures faults { KeepsFaults (S.faults supply.old) (S.faults supply.new) }
@@ -68,6 +70,7 @@ fn seen_image<N: Life, J: Entering<N>, I: Images<N>, R: Wait>(
     ensures same { rights.new ≡ rights.old }
     ensures image { IfSome result (IsGiven N.opens pass.new page) }
     ensures failed { IfNone result (Rose (I.faults images.old) (I.faults images.new)) }
+    ensures images { I.tells → SameNewest I.newest images.old images.new }
     ensures consistent { IsConsistent N.opens pass.new.log }
     ensures agrees { PageAgrees N.opens pass.new.log (record { page = page; lsn = lsn }) }
     ensures entered { Upholds N.opens N.entries N.session_entries is_none (known (J.account journal.old) pass.old no_claims) (known (J.account journal.new) pass.new no_claims) }
@@ -95,6 +98,7 @@ pub(crate) fn brought<N: Life, J: Entering<N>, I: Images<N>, S: Supply<N, J>, R:
     requires range { IsInRange (record { page = page; lsn = lsn }) }
     ensures brings { BringsInHand N.opens N.entries N.session_entries page lsn (I.faults images.old) (I.faults images.new) result (known (J.account journal.old) pass.old no_claims) (known (J.account journal.new) pass.new no_claims) }
     ensures same { OnErr result (rights.new ≡ rights.old) }
+    ensures spared { I.tells → Spares N.opens page pass.old.log pass.new.log I.newest images.old images.new }
     ensures entered { Upholds N.opens N.entries N.session_entries is_upkeep (known (J.account journal.old) pass.old no_claims) (known (J.account journal.new) pass.new no_claims) }
     ensures faults { KeepsFaults (S.faults supply.old) (S.faults supply.new) }
     ensures open { OnOk result (MeetsNoEnd (J.account journal.old) (J.account journal.new)) }

@@ -5,7 +5,7 @@ ghost use Rattle.page_ops.specs.Causes.{FailsToBring, FailsToReserve, MeetsNoEnd
 ghost use Rattle.page_ops.specs.Claims.{no_claims};
 ghost use Rattle.page_ops.specs.Desks.{KeepsFaults};
 ghost use Rattle.page_ops.specs.Seeing.{Upholds, is_upkeep, known};
-ghost use Rattle.page_repair.specs.Images.{SameOthers};
+ghost use Rattle.page_repair.specs.Images.{SameOthers, Spares};
 ghost use Rattle.buffer_pool.specs.Brings.{Brings, Renews};
 ghost use Rattle.buffer_pool.specs.Repairs.{Repairs};
 ghost use Rattle.buffer_pool.specs.Tables.{Stays, Stores, frame_of, is_dirty, is_full};
@@ -37,6 +37,7 @@ pub(crate) fn fetch<N: Life, J: Entering<N>, I: Images<N>, S: Supply<N, J>, R: W
 ) -> Result<(), Fault>
     ensures framed { OnOk result (is_full (frame_of frames.new page) ≡ true) }
     ensures brings { Brings N.opens N.entries N.session_entries page (I.faults images.old) (I.faults images.new) result frames.old frames.new (known (J.account journal.old) pass.old no_claims) (known (J.account journal.new) pass.new no_claims) }
+    ensures spared { I.tells → Spares N.opens page pass.old.log pass.new.log I.newest images.old images.new }
     ensures entered { Upholds N.opens N.entries N.session_entries is_upkeep (known (J.account journal.old) pass.old no_claims) (known (J.account journal.new) pass.new no_claims) }
     ensures faults { KeepsFaults (S.faults supply.old) (S.faults supply.new) }
     ensures open { OnOk result (MeetsNoEnd (J.account journal.old) (J.account journal.new)) }

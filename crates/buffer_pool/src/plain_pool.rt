@@ -9,7 +9,7 @@ ghost use Rattle.page_ops.specs.Claims.{IsInRange, no_claims};
 ghost use Rattle.page_ops.specs.Desks.{IsMade, KeepsFaults};
 ghost use Rattle.page_ops.specs.Hands.{Hand};
 ghost use Rattle.page_ops.specs.Seeing.{Upholds, is_upkeep, known};
-ghost use Rattle.page_repair.specs.Images.{SameOthers};
+ghost use Rattle.page_repair.specs.Images.{SameOthers, Spares};
 ghost use Rattle.restart.specs.Plans.{Comes, IsNextAwaiting};
 ghost use Rattle.buffer_pool.specs.Brings.{Brings, Renews};
 ghost use Rattle.buffer_pool.specs.Repairs.{Repairs};
@@ -208,6 +208,7 @@ impl<N: Life, J: Entering<N>, I: Images<N>, S: Supply<N, J>> Pages<N, J> for Pla
         requires made { IsMade N.opens pass.old.log page }
         ensures framed { OnOk result (is_full (frame_of self.new.frames page) ≡ true) }
         ensures brings { Brings N.opens N.entries N.session_entries page (I.faults self.old.images) (I.faults self.new.images) result self.old.frames self.new.frames (known (J.account journal.old) pass.old no_claims) (known (J.account journal.new) pass.new no_claims) }
+        ensures spared { I.tells → Spares N.opens page pass.old.log pass.new.log I.newest self.old.images self.new.images }
         ensures came { OnOk result (Comes page self.old.plan self.new.plan) }
         ensures awaits { OnErr result (self.new.plan ≡ self.old.plan) }
         ensures out { (self.new.out ≡ 0) × (self.new.reserves ≡ self.old.reserves) }

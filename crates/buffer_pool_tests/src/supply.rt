@@ -43,7 +43,7 @@ impl<'a, N: Life> Supply<N, Telling<'a, N>> for EmptyLeaf {
         0
     }
 
-    #[tactic(auto, using(page_ops::proofs::Gaining::upheld))]
+    #[tactic(auto, using(page_ops::proofs::Gaining::upheld, page_repair::proofs::Sparing::spares_same))]
     fn ready<I: Images<N>, R: Wait>(
         &mut self,
         _rt: &R,

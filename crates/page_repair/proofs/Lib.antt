@@ -3,3 +3,4 @@ pub mod Staying
 pub mod Following
 pub mod Redoing
 pub mod RebuiltPages
+pub mod Sparing

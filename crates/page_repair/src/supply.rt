@@ -4,6 +4,7 @@ ghost use Rattle.page_ops.specs.Causes.{FailsToBring, MeetsNoEnd};
 ghost use Rattle.page_ops.specs.Claims.{no_claims};
 ghost use Rattle.page_ops.specs.Desks.{Faults, IsMade, KeepsFaults};
 ghost use Rattle.page_ops.specs.Seeing.{Upholds, is_none, known};
+ghost use Rattle.page_repair.specs.Images.{Spares};
 ghost use Rattle.page_repair.specs.Supplies.{IsBase, IsHead, IsReady, IsRebuilt, is_restored};
 
 use crate::images::Images;
@@ -29,7 +30,7 @@ pub trait Supply<N: Life, J: Entering<N>> {
         ensures { result ≡ min (faults self.now).vault (2 ^ 64 - 1) };
 
     /// Restores the page's segment onto the data device, if it is unrestored, and enters that. Each image that it writes is
-    /// one of the log.
+    /// one of the log. Of other segments, and where the segment isn't found unrestored, it writes none.
     fn ready<I: Images<N>, R: Wait>(
         &mut self,
         rt: &R,
@@ -41,6 +42,7 @@ pub trait Supply<N: Life, J: Entering<N>> {
     ) -> Result<(), Fault>
         requires made { IsMade N.opens pass.old.log page }
         ensures ready { OnOk result (IsReady N.opens pass.new.log page) }
+        ensures spared { I.tells → Spares N.opens page pass.old.log pass.new.log I.newest images.old images.new }
         ensures images { I.faults images.old ≤ I.faults images.new }
         ensures faults { KeepsFaults (faults self.old) (faults self.new) }
         ensures entered { Upholds N.opens N.entries N.session_entries is_restored (known (J.account journal.old) pass.old no_claims) (known (J.account journal.new) pass.new no_claims) }

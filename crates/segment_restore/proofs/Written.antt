@@ -9,6 +9,7 @@ use Rattle.media.specs.Cause.{Rose}
 use Rattle.wal_record.specs.Chains.{head, names_at}
 use Rattle.wal_record.specs.History.{life_log, log_of}
 use Rattle.wal_record.specs.Images.{image}
+use Rattle.wal_record.specs.Upkeep.{segment_of}
 use Rattle.wal_record.specs.declared.analysis.PageHead.{PageHead}
 use Rattle.wal_record.specs.declared.page.PageState.{PageState}
 use Rattle.wal_record.specs.declared.record.Record.{Record}
@@ -19,8 +20,9 @@ use Rattle.page_image.specs.declared.sealed.Sealed.{Sealed}
 use Rattle.page_ops.proofs.Staying.{longer_log}
 use Rattle.page_ops.specs.Outcomes.{IsListed}
 use Rattle.page_ops.specs.declared.outcome.Listed.{Listed}
+use Rattle.page_repair.specs.Images.{Spares}
 use Rattle.page_repair.specs.Supplies.{IsHead, IsRebuilt}
-use Rattle.segment_restore.specs.Restored.{AreBack, IsBack, IsHeadImage, IsLost}
+use Rattle.segment_restore.specs.Restored.{AreBack, IsBack, IsHeadImage, IsLost, SpareOthers}
 use Rattle.segment_restore.proofs.Chains.{is_there, rebuilt_later}
 use Rattle.segment_restore.proofs.Segments.{listed_head}
 
@@ -169,3 +171,9 @@ spared segment lost here start newest newest' lost_here others so_far p apart = 
 -- no page of the segment stands behind its last one
 pub lost_upto : (segment lost page last : ℕ) → IsLost segment lost page → lost < 2 ^ 32 → min lost (min (min (segment * 16) (2 ^ 32 - 1) + 16) (2 ^ 32 - 1)) ≤ last → page ≤ last
 lost_upto segment lost page last l few most = let w = lost_within segment lost page l in let a = w.0 in let b = w.1 in let c = l.upto in omega (arith, few, most, a, b, c)
+
+-- a restore of the page's segment spares the other segments
+pub spares_others : {I : Type 0} (opens : List Record → Type 0) (page segment : ℕ) (x : Listed) (before at now : List Entry) (newest : I → ℕ → Option (List ℕ)) (old new : I) → segment ≡ segment_of page → IsListed opens at page x → x.unrestored ≡ true
+    → IsPrefix before at → IsPrefix at now → SpareOthers (IsLost segment x.lost) newest old new → Spares opens page before now newest old new
+spares_others opens page segment x before at now newest old new is l unrestored begins goes_on s =
+    inr (record { moment = at; begins = begins; goes_on = goes_on; is = λ opening stands. sym (l.unrestored opening stands) ∙ unrestored }, λ p apart. s p (λ lost. apart (lost.inside ∙ is)))

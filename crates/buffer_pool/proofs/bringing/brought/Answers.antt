@@ -1,6 +1,8 @@
 use Rattle.std.proofs.Common.{sym}
 use Rattle.std.proofs.lemmas.Result.{err_from_is_err_and}
 use Rattle.page_ops.specs.Seeing.{is_none, is_upkeep}
+use Rattle.front.proofs.Keeping.{prefix_self, prefix_trans}
+use Rattle.page_repair.proofs.Sparing.{spares_longer, spares_then}
 use Rattle.page_repair.specs.Supplies.{is_restored}
 use Rattle.buffer_pool.proofs.Coming.{brings_in_hand, looked_for}
 use Rattle.buffer_pool.proofs.Entering.{bring_behind_all, faults_both, none_both, none_kind, none_restored, open_both, restored_kind, upheld_both, upheld_more}
@@ -49,3 +51,19 @@ returns-in_default-clause-brings g c = upheld_both _ _ _ is_restored _ _ _ c.mad
 
 pub returns-in_default-clause-entered : goal.returns-in_default-clause-entered
 returns-in_default-clause-entered g c = upheld_both _ _ _ is_upkeep _ _ _ (upheld_more _ _ _ is_restored is_upkeep restored_kind _ _ c.made_ready.ensures.entered) (upheld_more _ _ _ is_none is_upkeep none_kind _ _ c.seen_image-bytes.ensures.entered)
+
+pub returns-in_err-written-clause-spared : goal.returns-in_err-written-clause-spared
+returns-in_err-written-clause-spared g c = c.made_ready.ensures.spared
+
+pub returns-clause-spared : goal.returns-clause-spared
+returns-clause-spared g c = λ t.
+    let u = c.seen_image-bytes.ensures.entered in
+    let v = c.in_hand.ensures.entered in
+    spares_longer g.N.Life.opens c.args.page g.I.Images.newest _ _ _ _ c.args.images.now c.seen_image-bytes.new.images (prefix_self _) (prefix_trans _ _ _ (u.gained, sym u.is) (v.gained, sym v.is))
+    (spares_then g.N.Life.opens c.args.page g.I.Images.newest _ _ c.args.images.now c.made_ready.new.images c.seen_image-bytes.new.images (c.made_ready.ensures.spared t) (c.seen_image-bytes.ensures.images t))
+
+pub returns-in_default-clause-spared : goal.returns-in_default-clause-spared
+returns-in_default-clause-spared g c = λ t.
+    let u = c.seen_image-bytes.ensures.entered in
+    spares_longer g.N.Life.opens c.args.page g.I.Images.newest _ _ _ _ c.args.images.now c.seen_image-bytes.new.images (prefix_self _) (u.gained, sym u.is)
+    (spares_then g.N.Life.opens c.args.page g.I.Images.newest _ _ c.args.images.now c.made_ready.new.images c.seen_image-bytes.new.images (c.made_ready.ensures.spared t) (c.seen_image-bytes.ensures.images t))

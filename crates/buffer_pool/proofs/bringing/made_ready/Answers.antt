@@ -2,6 +2,7 @@ use Rattle.std.proofs.Common.{sym, ◌∙◌}
 use Rattle.std.proofs.lemmas.Result.{err_from_is_err_and}
 use Rattle.front.proofs.Keeping.{prefix_self, prefix_trans}
 use Rattle.page_ops.proofs.Gaining.{upheld}
+use Rattle.page_repair.proofs.Sparing.{spares_longer, spares_same}
 use Rattle.page_repair.specs.Supplies.{is_restored}
 use Rattle.buffer_pool.proofs.Coming.{was_written}
 use Rattle.buffer_pool.proofs.Entering.{bring_behind, faults_self, looks, none_both, open_met, upheld_both}
@@ -41,3 +42,17 @@ returns-clause-written g c =
 pub returns-clause-entered : goal.returns-clause-entered
 returns-clause-entered g c =
     upheld_both _ _ _ is_restored _ _ _ (upheld_both _ _ _ is_restored _ _ _ (upheld _ _ _ is_restored _ _ _ _ c.listed.ensures.seen) (looks _ _ _ is_restored _ _ _ _ _ _ c.see.ensures.seen)) c.ready.ensures.entered
+
+pub returns-in_err-listed-clause-spared : goal.returns-in_err-listed-clause-spared
+returns-in_err-listed-clause-spared g c = λ t. spares_same g.N.Life.opens c.args.page g.I.Images.newest _ _ c.args.images.now
+
+pub returns-then-not-listed-clause-spared : goal.returns-then-not-listed-clause-spared
+returns-then-not-listed-clause-spared g c = λ t. spares_same g.N.Life.opens c.args.page g.I.Images.newest _ _ c.args.images.now
+
+pub returns-in_err-ready-clause-spared : goal.returns-in_err-ready-clause-spared
+returns-in_err-ready-clause-spared g c = λ t.
+    spares_longer g.N.Life.opens c.args.page g.I.Images.newest _ _ _ _ c.args.images.now c.ready.new.images (prefix_trans _ _ _ c.listed.ensures.seen.now.begins c.see.ensures.seen.now.begins) (prefix_self _) (c.ready.ensures.spared t)
+
+pub returns-clause-spared : goal.returns-clause-spared
+returns-clause-spared g c = λ t.
+    spares_longer g.N.Life.opens c.args.page g.I.Images.newest _ _ _ _ c.args.images.now c.ready.new.images (prefix_trans _ _ _ c.listed.ensures.seen.now.begins c.see.ensures.seen.now.begins) (prefix_self _) (c.ready.ensures.spared t)
