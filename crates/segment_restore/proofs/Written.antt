@@ -1,6 +1,6 @@
 -- Images that a restore has written.
-use Rattle.std.proofs.Common.{◌≡◌, ◌≢◌, ℕ, suc, List, [], ◌∷◌, ◌++◌, take, Option, Some, true, refl, sym, ap, subst, ◌∙◌, arith, inl, inr}
-use Rattle.std.specs.Prelude.{◌≤◌, ◌<◌, ◌+◌, ◌*◌, ◌-◌, ◌⊎◌, ◌^◌, min, Contains, IfSome, OnOk, OnErr, Result, Ok, Err}
+use Rattle.std.proofs.Common.{◌≡◌, ◌≢◌, ℕ, suc, List, [], ◌∷◌, ◌++◌, take, Option, Some, Bool, true, false, refl, sym, ap, subst, ◌∙◌, arith, inl, inr}
+use Rattle.std.specs.Prelude.{◌≤◌, ◌<◌, ◌+◌, ◌*◌, ◌-◌, ◌⊎◌, ◌^◌, min, not, Contains, IfSome, OnOk, OnErr, Result, Ok, Err}
 use Rattle.std.proofs.lemmas.Bool.{cases_order}
 use Rattle.std.proofs.lemmas.List.{take-append-le}
 use mathlib.Core.List.{IsPrefix}
@@ -172,8 +172,12 @@ spared segment lost here start newest newest' lost_here others so_far p apart = 
 pub lost_upto : (segment lost page last : ℕ) → IsLost segment lost page → lost < 2 ^ 32 → min lost (min (min (segment * 16) (2 ^ 32 - 1) + 16) (2 ^ 32 - 1)) ≤ last → page ≤ last
 lost_upto segment lost page last l few most = let w = lost_within segment lost page l in let a = w.0 in let b = w.1 in let c = l.upto in omega (arith, few, most, a, b, c)
 
+not_none : (b : Bool) → not b ≡ false → b ≡ true
+not_none true e = refl
+not_none false e = sym e
+
 -- a restore of the page's segment spares the other segments
-pub spares_others : {I : Type 0} (opens : List Record → Type 0) (page segment : ℕ) (x : Listed) (before at now : List Entry) (newest : I → ℕ → Option (List ℕ)) (old new : I) → segment ≡ segment_of page → IsListed opens at page x → x.unrestored ≡ true
+pub spares_others : {I : Type 0} (opens : List Record → Type 0) (page segment : ℕ) (x : Listed) (before at now : List Entry) (newest : I → ℕ → Option (List ℕ)) (old new : I) → segment ≡ segment_of page → IsListed opens at page x → not x.unrestored ≡ false
     → IsPrefix before at → IsPrefix at now → SpareOthers (IsLost segment x.lost) newest old new → Spares opens page before now newest old new
 spares_others opens page segment x before at now newest old new is l unrestored begins goes_on s =
-    inr (record { moment = at; begins = begins; goes_on = goes_on; is = λ opening stands. sym (l.unrestored opening stands) ∙ unrestored }, λ p apart. s p (λ lost. apart (lost.inside ∙ is)))
+    inr (record { moment = at; begins = begins; goes_on = goes_on; is = λ opening stands. sym (l.unrestored opening stands) ∙ not_none x.unrestored unrestored }, λ p apart. s p (λ lost. apart (lost.inside ∙ is)))
