@@ -1,5 +1,5 @@
 -- What a life's pages have written to their data device.
-use Rattle.std.specs.Prelude.{◌≡◌, ◌≢◌, ◌⊎◌, ◌<◌, ◌≤◌, ◌==◌, ℕ, List, [], ◌++◌, length, Option, Some, None, Bool, true, IsTrue}
+use Rattle.std.specs.Prelude.{◌≡◌, ◌≢◌, ◌⊎◌, ◌<◌, ◌≤◌, ◌==◌, ℕ, List, [], ◌++◌, length, Option, Some, None, Bool, true, false, IsTrue}
 use Rattle.std.specs.List.{All, list_any}
 use Rattle.restart.specs.Plans.{awaits}
 use Rattle.buffer_pool.specs.Tables.{Table, frame_of, is_dirty}
@@ -9,6 +9,10 @@ use Rattle.wal_record.specs.declared.record.Record.{Record}
 use Rattle.wal_record.specs.declared.record.Record.TheVariants as kinds
 use Rattle.wal_record.specs.declared.entry.Entry.{Entry}
 use Rattle.wal_record.specs.declared.entry.Entry.TheVariants.{Rec}
+
+-- no page is in hand, and no frame is reserved
+abbrev pub IsIdle : ℕ → Bool → Type 0
+IsIdle out reserves = (out ≡ 0) × (reserves ≡ false)
 
 -- the data device lacks the page as it is in its frame
 abbrev pub Lacks : Table → ℕ → Type 0

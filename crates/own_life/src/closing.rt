@@ -2,11 +2,11 @@
 ghost use Rattle.std.specs.Prelude.{◌≡◌, ◌<◌, ◌≤◌, ℕ, List, None, IfErr, IfOk, OnOk, length};
 ghost use Rattle.wal_record.specs.History.{life_log};
 ghost use Rattle.wal_record.specs.declared.record.Record.{Record};
-ghost use Rattle.own_life.specs.Pages.{IsNextWritten, OneLess, WritesPages, WritesUpto};
+ghost use Rattle.own_life.specs.Pages.{AwaitsRedo, IsIdle, IsNextWritten, Lacks, OneLess, WritesPages, WritesUpto};
 ghost use Rattle.own_life.specs.State.{Fails, FailsToFlush, GoesOn};
 
 use crate::life::OwnLife;
-use crate::life_pages::LifePages;
+use crate::store_pages::StorePages;
 use crate::seeing::see_whole;
 use media::{Disk, PageDevice};
 use page_ops::{Entering, Life};
@@ -16,20 +16,20 @@ use store_model::{Fault, PageNo};
 
 impl<'a, L: Disk, N: Life> OwnLife<'a, L, N> {
     /// Writes the least dirty page above this one, and gives its number; none where no page above it is dirty.
-    pub(crate) fn write_next<D: PageDevice, P: LifePages<N, D>, R: Wait>(
+    pub(crate) fn write_next<D: PageDevice, R: Wait>(
         &mut self,
         rt: &R,
         alloc: Global,
-        pages: &mut P,
+        pages: &mut StorePages<'a, D, N>,
         after: PageNo,
     ) -> Result<Option<PageNo>, Fault>
         requires open { self.old.ended ≡ None }
-        requires idle { P.idle pages.old }
-        ensures idle { P.idle pages.new }
-        ensures next { IfOk result (IsNextWritten (P.dirty pages.new) after) }
-        ensures fewer { (page : ℕ) → P.dirty pages.new page → P.dirty pages.old page }
-        ensures one { IfOk result (OneLess (P.dirty pages.old) (P.dirty pages.new)) }
-        ensures awaits { (page : ℕ) → P.awaits pages.new page → P.awaits pages.old page }
+        requires idle { IsIdle pages.old.pool.out pages.old.pool.reserves }
+        ensures idle { IsIdle pages.new.pool.out pages.new.pool.reserves }
+        ensures next { IfOk result (IsNextWritten (Lacks pages.new.pool.frames) after) }
+        ensures fewer { (page : ℕ) → Lacks pages.new.pool.frames page → Lacks pages.old.pool.frames page }
+        ensures one { IfOk result (OneLess (Lacks pages.old.pool.frames) (Lacks pages.new.pool.frames)) }
+        ensures awaits { (page : ℕ) → AwaitsRedo pages.new.pool.plan page → AwaitsRedo pages.old.pool.plan page }
         ensures written { WritesUpto 1 self.old.history self.new.history }
         ensures names { self.new.active ≡ self.old.active }
         ensures goes { OnOk result (GoesOn self.old self.new) }
@@ -59,17 +59,17 @@ impl<'a, L: Disk, N: Life> OwnLife<'a, L, N> {
 
     /// Writes each dirty page to the data device, and then makes the whole log durable, so that the next life finds it as it is and
     /// its pages on the device. A page that the device fails to take is dropped: the next life rebuilds it from the log.
-    pub fn close<D: PageDevice, P: LifePages<N, D>, R: Wait>(
+    pub fn close<D: PageDevice, R: Wait>(
         &mut self,
         rt: &R,
         alloc: Global,
-        pages: &mut P,
+        pages: &mut StorePages<'a, D, N>,
     ) -> Result<(), Fault>
         requires open { self.old.ended ≡ None }
-        requires idle { P.idle pages.old }
-        ensures idle { P.idle pages.new }
+        requires idle { IsIdle pages.old.pool.out pages.old.pool.reserves }
+        ensures idle { IsIdle pages.new.pool.out pages.new.pool.reserves }
         ensures written { WritesPages self.old.history self.new.history }
-        ensures clean { OnOk result ((page : ℕ) → 0 < page → P.dirty pages.new page → ⊥) }
+        ensures clean { OnOk result ((page : ℕ) → 0 < page → Lacks pages.new.pool.frames page → ⊥) }
         ensures names { self.new.active ≡ self.old.active }
         ensures durable { OnOk result ((opening : List Record) → N.opens opening → length (life_log opening self.new.history) ≤ self.new.durable) }
         ensures goes { OnOk result (GoesOn self.old self.new) }

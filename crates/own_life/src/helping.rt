@@ -4,11 +4,11 @@ ghost use Rattle.maintenance.specs.Steps.{AreAllOver};
 ghost use Rattle.rollback.specs.Owners.{IsLoserOf};
 ghost use Rattle.store_life.specs.Steps.{AddsUpkeep, StepsBack};
 ghost use Rattle.own_life.specs.Helps.{AddsSteps, Helps, Undoes, UndoesSome};
-ghost use Rattle.own_life.specs.Pages.{AllBut, AreRestored, WritesUpto};
+ghost use Rattle.own_life.specs.Pages.{AllBut, AreRestored, AwaitsRedo, IsIdle, Lacks, WritesUpto};
 ghost use Rattle.own_life.specs.State.{Fails, GoesOn};
 
 use crate::life::{OwnLife, unvaulted};
-use crate::life_pages::LifePages;
+use crate::store_pages::StorePages;
 use crate::seeing::see_whole;
 use media::{Disk, PageDevice};
 use page_ops::Life;
@@ -22,22 +22,22 @@ impl<'a, L: Disk, N: Life> OwnLife<'a, L, N> {
     /// awaits redo is brought; the least dirty page is written, and dropped where the device fails. By one thread no work comes
     /// back of a kind that is done: a page that is brought or written makes no loser and loses no segment, and one that is
     /// written awaits no redo.
-    pub fn help<D: PageDevice, P: LifePages<N, D>, R: Wait>(
+    pub fn help<D: PageDevice, R: Wait>(
         &mut self,
         rt: &R,
         alloc: Global,
-        pages: &mut P,
+        pages: &mut StorePages<'a, D, N>,
         steps: u32,
     ) -> Result<u32, Fault>
         requires open { self.old.ended ≡ None }
-        requires idle { P.idle pages.old }
-        ensures idle { P.idle pages.new }
+        requires idle { IsIdle pages.old.pool.out pages.old.pool.reserves }
+        ensures idle { IsIdle pages.new.pool.out pages.new.pool.reserves }
         ensures helps { Helps (IsLoserOf N.opens) steps self.old.history self.new.history }
         ensures taken { IfOk result (λ taken. taken ≤ steps) }
         ensures losers { IfOk result (λ taken. AreAllOver N.opens self.new.history ⊎ ((taken ≡ steps) × AddsSteps steps self.old.history self.new.history)) }
         ensures restored { IfOk result (λ taken. taken < steps → AreRestored N.opens self.new.history) }
-        ensures redone { IfOk result (λ taken. taken < steps → (page : ℕ) → P.awaits pages.new page → ⊥) }
-        ensures written { IfOk result (λ taken. taken < steps → (page : ℕ) → 0 < page → P.dirty pages.new page → ⊥) }
+        ensures redone { IfOk result (λ taken. taken < steps → (page : ℕ) → AwaitsRedo pages.new.pool.plan page → ⊥) }
+        ensures written { IfOk result (λ taken. taken < steps → (page : ℕ) → 0 < page → Lacks pages.new.pool.frames page → ⊥) }
         ensures names { self.new.active ≡ self.old.active }
         ensures goes { OnOk result (GoesOn self.old self.new) }
         ensures refused { IfErr result (Fails N.opens self.old self.new) }
@@ -49,16 +49,16 @@ impl<'a, L: Disk, N: Life> OwnLife<'a, L, N> {
     }
 
     /// Undoes losers, the least first, in so many steps at most.
-    fn undo_losers<D: PageDevice, P: LifePages<N, D>, R: Wait>(
+    fn undo_losers<D: PageDevice, R: Wait>(
         &mut self,
         rt: &R,
         alloc: Global,
-        pages: &mut P,
+        pages: &mut StorePages<'a, D, N>,
         steps: u32,
     ) -> Result<u32, Fault>
         requires open { self.old.ended ≡ None }
-        requires idle { P.idle pages.old }
-        ensures idle { P.idle pages.new }
+        requires idle { IsIdle pages.old.pool.out pages.old.pool.reserves }
+        ensures idle { IsIdle pages.new.pool.out pages.new.pool.reserves }
         ensures few { IfOk result (λ taken. taken ≤ steps) }
         ensures undoes { IfOk result (λ taken. Undoes (IsLoserOf N.opens) taken self.old.history self.new.history) }
         ensures over { IfOk result (λ taken. taken < steps → AreAllOver N.opens self.new.history) }
@@ -76,19 +76,19 @@ impl<'a, L: Disk, N: Life> OwnLife<'a, L, N> {
     }
 
     /// Brings so many pages ahead of need at most: those of segments that are unrestored, and then those that await redo.
-    fn bring_pages<D: PageDevice, P: LifePages<N, D>, R: Wait>(
+    fn bring_pages<D: PageDevice, R: Wait>(
         &mut self,
         rt: &R,
         alloc: Global,
-        pages: &mut P,
+        pages: &mut StorePages<'a, D, N>,
         steps: u32,
     ) -> Result<u32, Fault>
         requires open { self.old.ended ≡ None }
-        requires idle { P.idle pages.old }
-        ensures idle { P.idle pages.new }
+        requires idle { IsIdle pages.old.pool.out pages.old.pool.reserves }
+        ensures idle { IsIdle pages.new.pool.out pages.new.pool.reserves }
         ensures few { IfOk result (λ taken. taken ≤ steps) }
         ensures restored { IfOk result (λ taken. taken < steps → AreRestored N.opens self.new.history) }
-        ensures redone { IfOk result (λ taken. taken < steps → (page : ℕ) → P.awaits pages.new page → ⊥) }
+        ensures redone { IfOk result (λ taken. taken < steps → (page : ℕ) → AwaitsRedo pages.new.pool.plan page → ⊥) }
         ensures upkeep { AddsUpkeep self.old.history self.new.history }
         ensures names { self.new.active ≡ self.old.active }
         ensures goes { OnOk result (GoesOn self.old self.new) }
@@ -103,20 +103,20 @@ impl<'a, L: Disk, N: Life> OwnLife<'a, L, N> {
     }
 
     /// Writes so many dirty pages at most, the least first.
-    fn write_pages<D: PageDevice, P: LifePages<N, D>, R: Wait>(
+    fn write_pages<D: PageDevice, R: Wait>(
         &mut self,
         rt: &R,
         alloc: Global,
-        pages: &mut P,
+        pages: &mut StorePages<'a, D, N>,
         steps: u32,
     ) -> Result<u32, Fault>
         requires open { self.old.ended ≡ None }
-        requires idle { P.idle pages.old }
-        ensures idle { P.idle pages.new }
+        requires idle { IsIdle pages.old.pool.out pages.old.pool.reserves }
+        ensures idle { IsIdle pages.new.pool.out pages.new.pool.reserves }
         ensures few { IfOk result (λ taken. taken ≤ steps) }
-        ensures stored { OnOk result (AllBut steps (P.dirty pages.old) (P.dirty pages.new)) }
-        ensures clean { IfOk result (λ taken. taken < steps → (page : ℕ) → 0 < page → P.dirty pages.new page → ⊥) }
-        ensures awaits { (page : ℕ) → P.awaits pages.new page → P.awaits pages.old page }
+        ensures stored { OnOk result (AllBut steps (Lacks pages.old.pool.frames) (Lacks pages.new.pool.frames)) }
+        ensures clean { IfOk result (λ taken. taken < steps → (page : ℕ) → 0 < page → Lacks pages.new.pool.frames page → ⊥) }
+        ensures awaits { (page : ℕ) → AwaitsRedo pages.new.pool.plan page → AwaitsRedo pages.old.pool.plan page }
         ensures written { WritesUpto steps self.old.history self.new.history }
         ensures names { self.new.active ≡ self.old.active }
         ensures goes { OnOk result (GoesOn self.old self.new) }
@@ -131,15 +131,15 @@ impl<'a, L: Disk, N: Life> OwnLife<'a, L, N> {
     }
 
     /// Takes a step in undoing the least loser, if any is left.
-    fn undo_next<D: PageDevice, P: LifePages<N, D>, R: Wait>(
+    fn undo_next<D: PageDevice, R: Wait>(
         &mut self,
         rt: &R,
         alloc: Global,
-        pages: &mut P,
+        pages: &mut StorePages<'a, D, N>,
     ) -> Result<bool, Fault>
         requires open { self.old.ended ≡ None }
-        requires idle { P.idle pages.old }
-        ensures idle { P.idle pages.new }
+        requires idle { IsIdle pages.old.pool.out pages.old.pool.reserves }
+        ensures idle { IsIdle pages.new.pool.out pages.new.pool.reserves }
         ensures steps { StepsBack N.opens result self.old.history self.new.history }
         ensures names { self.new.active ≡ self.old.active }
         ensures goes { OnOk result (GoesOn self.old self.new) }
@@ -152,17 +152,17 @@ impl<'a, L: Disk, N: Life> OwnLife<'a, L, N> {
     }
 
     /// Brings the next page ahead of need, and gives its number; none where no segment is unrestored and no page awaits redo.
-    fn bring_next<D: PageDevice, P: LifePages<N, D>, R: Wait>(
+    fn bring_next<D: PageDevice, R: Wait>(
         &mut self,
         rt: &R,
         alloc: Global,
-        pages: &mut P,
+        pages: &mut StorePages<'a, D, N>,
     ) -> Result<Option<PageNo>, Fault>
         requires open { self.old.ended ≡ None }
-        requires idle { P.idle pages.old }
-        ensures idle { P.idle pages.new }
+        requires idle { IsIdle pages.old.pool.out pages.old.pool.reserves }
+        ensures idle { IsIdle pages.new.pool.out pages.new.pool.reserves }
         ensures restored { IfOk result (λ page. IfNone page (AreRestored N.opens self.new.history)) }
-        ensures redone { IfOk result (λ page. IfNone page ((q : ℕ) → P.awaits pages.new q → ⊥)) }
+        ensures redone { IfOk result (λ page. IfNone page ((q : ℕ) → AwaitsRedo pages.new.pool.plan q → ⊥)) }
         ensures upkeep { AddsUpkeep self.old.history self.new.history }
         ensures names { self.new.active ≡ self.old.active }
         ensures goes { OnOk result (GoesOn self.old self.new) }

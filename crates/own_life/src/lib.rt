@@ -4,7 +4,7 @@
 //! ([`StorePages`]): the journal and the pool of a store (`plain_store`), and its named transactions (`store_life`). Pages come from
 //! the data device, and by repair from the log where this lacks them, or gives them damaged or too old; behind a loss of the
 //! device a segment is restored whole from the log before the first of its pages is given. They are lent to each call
-//! that wants them, in a type of the caller's own that is a [`LifePages`]. Each command of the life is a call: [`OwnLife::begin`],
+//! that wants them. Each command of the life is a call: [`OwnLife::begin`],
 //! [`OwnLife::ask`], [`OwnLife::commit`], [`OwnLife::abort`], [`OwnLife::checkpoint`], [`OwnLife::lose`], [`OwnLife::help`],
 //! [`OwnLife::survey`] and [`OwnLife::close`]. They are for a life that goes on; whether it has ended, and with which LSN, [`OwnLife::ended`] tells at any moment.
 //! [`OwnLife::into_devices`] stops it.
@@ -30,14 +30,12 @@
 mod closing;
 mod helping;
 mod life;
-mod life_pages;
 mod opened;
 mod seeing;
 mod store_pages;
 mod supply;
 
 pub use life::OwnLife;
-pub use life_pages::LifePages;
 pub use opened::{LifeRefused, open_life};
 pub use store_pages::StorePages;
 pub use supply::LogAlone;

@@ -17,10 +17,10 @@ ghost use Rattle.wal_record.specs.declared.record.Record.{Record};
 ghost use Rattle.store_life.specs.SoFar.{left_by};
 ghost use Rattle.store_life.specs.Turns.{Asks, EndsBy, IsCheckpointed, IsLost, IsTold};
 ghost use Rattle.own_life.specs.Kept.{without_crowd, without_vault};
-ghost use Rattle.own_life.specs.Pages.{HasNone};
+ghost use Rattle.own_life.specs.Pages.{HasNone, IsIdle, Lacks};
 ghost use Rattle.own_life.specs.State.{AreLeft, BeginsAs, Fails, FailsToAnswer, FailsToBegin, FailsToCommit, FailsToFlush, FailsToLook, GoesOn, IsCommitted, name_by};
 
-use crate::life_pages::LifePages;
+use crate::store_pages::StorePages;
 use crate::seeing::see_whole;
 use engine::Answered;
 use media::{Disk, PageDevice};
@@ -122,18 +122,18 @@ impl<'a, L: Disk, N: Life> OwnLife<'a, L, N> {
     }
 
     /// Asks for the active transaction of this name.
-    pub fn ask<D: PageDevice, P: LifePages<N, D>, R: Wait>(
+    pub fn ask<D: PageDevice, R: Wait>(
         &mut self,
         rt: &R,
         alloc: Global,
-        pages: &mut P,
+        pages: &mut StorePages<'a, D, N>,
         name: &Name,
         request: Request,
     ) -> Result<Answered, Fault>
         requires open { self.old.ended ≡ None }
         requires active { is_active self.old.active name.now ≡ true }
-        requires idle { P.idle pages.old }
-        ensures idle { P.idle pages.new }
+        requires idle { IsIdle pages.old.pool.out pages.old.pool.reserves }
+        ensures idle { IsIdle pages.new.pool.out pages.new.pool.reserves }
         ensures asks { (a : Active) → active_of self.old.active name.now ≡ Some a → Asks N.opens a.session a.tx request result self.old.history self.new.history }
         ensures told { (a : Active) → active_of self.old.active name.now ≡ Some a → IfOk result (IsTold N.opens a.session a.tx request self.new.history) }
         ensures names { self.new.active ≡ self.old.active }
@@ -167,17 +167,17 @@ impl<'a, L: Disk, N: Life> OwnLife<'a, L, N> {
 
     /// Undoes the active transaction of this name and ends it: it is active no more. After a refusal what was undone stays so,
     /// the transaction has no End yet, and the name stays active.
-    pub fn abort<D: PageDevice, P: LifePages<N, D>, R: Wait>(
+    pub fn abort<D: PageDevice, R: Wait>(
         &mut self,
         rt: &R,
         alloc: Global,
-        pages: &mut P,
+        pages: &mut StorePages<'a, D, N>,
         name: &Name,
     ) -> Result<Pos, Fault>
         requires open { self.old.ended ≡ None }
         requires active { is_active self.old.active name.now ≡ true }
-        requires idle { P.idle pages.old }
-        ensures idle { P.idle pages.new }
+        requires idle { IsIdle pages.old.pool.out pages.old.pool.reserves }
+        ensures idle { IsIdle pages.new.pool.out pages.new.pool.reserves }
         ensures aborts { (a : Active) → active_of self.old.active name.now ≡ Some a → EndsBy N.opens a.tx result self.old.history self.new.history }
         ensures names { self.new.active ≡ left_by result self.old.active name.now }
         ensures goes { OnOk result (GoesOn self.old self.new) }
@@ -207,19 +207,19 @@ impl<'a, L: Disk, N: Life> OwnLife<'a, L, N> {
     /// The data device is lost, and an empty one takes its place. The log says so first, and is made durable up to that; gives the
     /// LSN of that record. From then on a page is restored from the log as it is wanted, its whole segment with it. Where the log
     /// doesn't say so, the device stays as it is.
-    pub fn lose<D: PageDevice, P: LifePages<N, D>, R: Wait>(
+    pub fn lose<D: PageDevice, R: Wait>(
         &mut self,
         rt: &R,
         alloc: Global,
-        pages: &mut P,
+        pages: &mut StorePages<'a, D, N>,
     ) -> Result<Lsn, Fault>
         requires open { self.old.ended ≡ None }
-        requires idle { P.idle pages.old }
-        ensures idle { P.idle pages.new }
+        requires idle { IsIdle pages.old.pool.out pages.old.pool.reserves }
+        ensures idle { IsIdle pages.new.pool.out pages.new.pool.reserves }
         ensures entered { IsLost result self.old.history self.new.history }
         ensures flushed { IfOk result (λ lsn. (opening : List Record) → N.opens opening → lsn ≤ self.new.durable) }
-        ensures clean { OnOk result ((page : ℕ) → P.dirty pages.new page → ⊥) }
-        ensures empty { D.tells → OnOk result (HasNone D.newest (P.device pages.new) ⊎ Rose (D.faults (P.device pages.old)) (D.faults (P.device pages.new))) }
+        ensures clean { OnOk result ((page : ℕ) → Lacks pages.new.pool.frames page → ⊥) }
+        ensures empty { D.tells → OnOk result (HasNone D.newest pages.new.pool.images ⊎ Rose (D.faults pages.old.pool.images) (D.faults pages.new.pool.images)) }
         ensures same { OnErr result (pages.new ≡ pages.old) }
         ensures names { self.new.active ≡ self.old.active }
         ensures goes { OnOk result (GoesOn self.old self.new) }
@@ -265,7 +265,7 @@ impl<'a, L: Disk, N: Life> OwnLife<'a, L, N> {
 
     /// The life has stopped: its log disk and its data device, as they are. What the log disk keeps, and what it keeps after a crash
     /// that comes now, stands for a log that a stop may leave of the life, and each image of the data device is made of that log.
-    pub fn into_devices<D: PageDevice, P: LifePages<N, D>>(self, pages: P) -> (L, D)
+    pub fn into_devices<D: PageDevice>(self, pages: StorePages<'a, D, N>) -> (L, D)
         ensures left { AreLeft L.Disk D.PageDevice N.opens self.entry result.0 result.1 }
     {
         let OwnLife { journal, mut life } = self;

@@ -1,9 +1,10 @@
 //! A life is opened.
-ghost use Rattle.std.specs.Prelude.{◌≡◌, ◌<◌, List, [], None, false, IfErr, IfOk};
+ghost use Rattle.std.specs.Prelude.{◌≡◌, ◌<◌, List, [], None, IfErr, IfOk};
 ghost use Rattle.journal.specs.State.{calls_of};
 ghost use Rattle.opening.specs.Begins.{MayBegin};
 ghost use Rattle.plain_store.specs.Opens.{AreEarlier};
 ghost use Rattle.wal_record.specs.declared.record.Record.{Record};
+ghost use Rattle.own_life.specs.Pages.{IsIdle};
 ghost use Rattle.own_life.specs.State.{HasJustBegun};
 
 use crate::life::OwnLife;
@@ -42,7 +43,7 @@ pub fn open_life<'a, L: Disk, D: PageDevice, N: Life>(
     requires history { (tokens.front ≡ []) × (tokens.mark ≡ 0) × (tokens.pass.log ≡ []) }
     requires books { (tokens.books.pages ≡ []) × (tokens.books.sessions ≡ []) × (tokens.books.maint ≡ []) }
     ensures begins { IfOk result (λ opened. HasJustBegun N.opens (calls_of L.passes L.refused L.own log.log.log.device) opened.0) }
-    ensures idle { IfOk result (λ opened. (opened.1.pool.out ≡ 0) × (opened.1.pool.reserves ≡ false)) }
+    ensures idle { IfOk result (λ opened. IsIdle opened.1.pool.out opened.1.pool.reserves) }
     ensures refused { IfErr result (λ r. r ≡ record { log = log.log.log.device; device = device }) }
 {
     let supply = LogAlone { operators };

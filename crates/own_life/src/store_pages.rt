@@ -1,5 +1,5 @@
 //! The pages of a life over its data device.
-ghost use Rattle.std.specs.Prelude.{◌≡◌, ◌≤◌, ◌⊎◌, ℕ, Some, IfErr, IfNone, IfOk, OnOk, false, true};
+ghost use Rattle.std.specs.Prelude.{◌≡◌, ◌≤◌, ◌⊎◌, ℕ, Some, IfErr, IfNone, IfOk, OnOk, true};
 ghost use mathlib.Core.List.{IsPrefix};
 ghost use Rattle.buffer_pool.specs.Writes.{no_faults};
 ghost use Rattle.command_laws.specs.Names.{Active, active_of, is_active};
@@ -17,7 +17,7 @@ ghost use Rattle.page_repair.specs.Images.{AreWritten};
 ghost use Rattle.store_life.specs.SoFar.{HasNames, Runs, actives, left_by};
 ghost use Rattle.store_life.specs.Steps.{AddsUpkeep, StepsBack};
 ghost use Rattle.store_life.specs.Turns.{Asks, EndsBy, IsTold};
-ghost use Rattle.own_life.specs.Pages.{AreRestored, AwaitsRedo, HasNone, IsKnownRestored, IsNextRedone, IsNextWritten, Lacks, OneLess, WritesUpto};
+ghost use Rattle.own_life.specs.Pages.{AreRestored, AwaitsRedo, HasNone, IsIdle, IsKnownRestored, IsNextRedone, IsNextWritten, Lacks, OneLess, WritesUpto};
 
 use crate::supply::LogAlone;
 use buffer_pool::PlainPool;
@@ -34,8 +34,8 @@ use store_life::StoreLife;
 use store_model::{Fault, PageNo, Pos, Request, SEGMENT_PAGES};
 use wal_record::Entry;
 
-/// The pages of a life over a data device: a page that this lacks, or gives damaged or too old, is rebuilt from the log. Whoever
-/// lends them to a life keeps them in a type of its own that is a [`LifePages`](crate::LifePages) by these calls.
+/// The pages of a life over a data device, with the operators that change their rows: a page that the device lacks, or gives
+/// damaged or too old, is rebuilt from the log. No call of a log disk is made here but by the journal, and none of a vault.
 #[derive(Drop)]
 pub struct StorePages<'a, D: PageDevice, N: Life> {
     pub(crate) pool: PlainPool<OwnImages<'a, D, N>, LogAlone<'a>, N>,
@@ -53,10 +53,10 @@ impl<'a, D: PageDevice, N: Life> StorePages<'a, D, N> {
         name: &Name,
         request: Request,
     ) -> Result<Answered, Fault>
-        requires idle { (self.old.pool.out ≡ 0) × (self.old.pool.reserves ≡ false) }
+        requires idle { IsIdle self.old.pool.out self.old.pool.reserves }
         requires runs { Runs N.opens N.entries (J.account journal.old) life.old }
         requires active { is_active (actives life.old.named.items) name.now ≡ true }
-        ensures idle { (self.new.pool.out ≡ 0) × (self.new.pool.reserves ≡ false) }
+        ensures idle { IsIdle self.new.pool.out self.new.pool.reserves }
         ensures runs { Runs N.opens N.entries (J.account journal.new) life.new }
         ensures asks { (a : Active) → active_of (actives life.old.named.items) name.now ≡ Some a → Asks N.opens a.session a.tx request result life.old.pass.log life.new.pass.log }
         ensures told { (a : Active) → active_of (actives life.old.named.items) name.now ≡ Some a → IfOk result (IsTold N.opens a.session a.tx request life.new.pass.log) }
@@ -83,10 +83,10 @@ impl<'a, D: PageDevice, N: Life> StorePages<'a, D, N> {
         life: &mut StoreLife<N>,
         name: &Name,
     ) -> Result<Pos, Fault>
-        requires idle { (self.old.pool.out ≡ 0) × (self.old.pool.reserves ≡ false) }
+        requires idle { IsIdle self.old.pool.out self.old.pool.reserves }
         requires runs { Runs N.opens N.entries (J.account journal.old) life.old }
         requires active { is_active (actives life.old.named.items) name.now ≡ true }
-        ensures idle { (self.new.pool.out ≡ 0) × (self.new.pool.reserves ≡ false) }
+        ensures idle { IsIdle self.new.pool.out self.new.pool.reserves }
         ensures runs { Runs N.opens N.entries (J.account journal.new) life.new }
         ensures aborts { (a : Active) → active_of (actives life.old.named.items) name.now ≡ Some a → EndsBy N.opens a.tx result life.old.pass.log life.new.pass.log }
         ensures names { actives life.new.named.items ≡ left_by result (actives life.old.named.items) name.now }
@@ -107,9 +107,9 @@ impl<'a, D: PageDevice, N: Life> StorePages<'a, D, N> {
         journal: &mut J,
         life: &mut StoreLife<N>,
     ) -> Result<bool, Fault>
-        requires idle { (self.old.pool.out ≡ 0) × (self.old.pool.reserves ≡ false) }
+        requires idle { IsIdle self.old.pool.out self.old.pool.reserves }
         requires runs { Runs N.opens N.entries (J.account journal.old) life.old }
-        ensures idle { (self.new.pool.out ≡ 0) × (self.new.pool.reserves ≡ false) }
+        ensures idle { IsIdle self.new.pool.out self.new.pool.reserves }
         ensures runs { Runs N.opens N.entries (J.account journal.new) life.new }
         ensures steps { StepsBack N.opens result life.old.pass.log life.new.pass.log }
         ensures names { life.new.named ≡ life.old.named }
@@ -131,9 +131,9 @@ impl<'a, D: PageDevice, N: Life> StorePages<'a, D, N> {
         journal: &mut J,
         life: &mut StoreLife<N>,
     ) -> Result<Option<PageNo>, Fault>
-        requires idle { (self.old.pool.out ≡ 0) × (self.old.pool.reserves ≡ false) }
+        requires idle { IsIdle self.old.pool.out self.old.pool.reserves }
         requires runs { Runs N.opens N.entries (J.account journal.old) life.old }
-        ensures idle { (self.new.pool.out ≡ 0) × (self.new.pool.reserves ≡ false) }
+        ensures idle { IsIdle self.new.pool.out self.new.pool.reserves }
         ensures runs { Runs N.opens N.entries (J.account journal.new) life.new }
         ensures restored { IfOk result (λ page. IfNone page (AreRestored N.opens life.new.pass.log)) }
         ensures redone { IfOk result (λ page. IfNone page ((q : ℕ) → AwaitsRedo self.new.pool.plan q → ⊥)) }
@@ -178,9 +178,9 @@ impl<'a, D: PageDevice, N: Life> StorePages<'a, D, N> {
         life: &mut StoreLife<N>,
         after: PageNo,
     ) -> Result<Option<PageNo>, Fault>
-        requires idle { (self.old.pool.out ≡ 0) × (self.old.pool.reserves ≡ false) }
+        requires idle { IsIdle self.old.pool.out self.old.pool.reserves }
         requires runs { Runs N.opens N.entries (J.account journal.old) life.old }
-        ensures idle { (self.new.pool.out ≡ 0) × (self.new.pool.reserves ≡ false) }
+        ensures idle { IsIdle self.new.pool.out self.new.pool.reserves }
         ensures runs { Runs N.opens N.entries (J.account journal.new) life.new }
         ensures next { IfOk result (IsNextWritten (Lacks self.new.pool.frames) after) }
         ensures fewer { (page : ℕ) → Lacks self.new.pool.frames page → Lacks self.old.pool.frames page }
@@ -209,8 +209,8 @@ impl<'a, D: PageDevice, N: Life> StorePages<'a, D, N> {
     /// The data device is lost, and an empty one takes its place; where it fails, the old images may stay, and no answer tells of
     /// that. Each page that was in memory is dropped.
     pub fn lose<R: Wait>(&mut self, rt: &R)
-        requires idle { (self.old.pool.out ≡ 0) × (self.old.pool.reserves ≡ false) }
-        ensures idle { (self.new.pool.out ≡ 0) × (self.new.pool.reserves ≡ false) }
+        requires idle { IsIdle self.old.pool.out self.old.pool.reserves }
+        ensures idle { IsIdle self.new.pool.out self.new.pool.reserves }
         ensures clean { (page : ℕ) → Lacks self.new.pool.frames page → ⊥ }
         ensures plan { self.new.pool.plan ≡ self.old.pool.plan }
         ensures empty { D.tells → HasNone D.newest self.new.pool.images ⊎ Rose (D.faults self.old.pool.images) (D.faults self.new.pool.images) }
@@ -220,8 +220,8 @@ impl<'a, D: PageDevice, N: Life> StorePages<'a, D, N> {
 
     /// Reads of the page from the data device fail verification until its next write. No answer tells whether the device did so.
     pub fn damage(&mut self, page: PageNo)
-        requires idle { (self.old.pool.out ≡ 0) × (self.old.pool.reserves ≡ false) }
-        ensures idle { (self.new.pool.out ≡ 0) × (self.new.pool.reserves ≡ false) }
+        requires idle { IsIdle self.old.pool.out self.old.pool.reserves }
+        ensures idle { IsIdle self.new.pool.out self.new.pool.reserves }
         ensures damaged { D.tells → D.spoiled self.new.pool.images page ⊎ Rose (D.faults self.old.pool.images) (D.faults self.new.pool.images) }
         ensures same { D.tells → SameImages D.told D.newest self.old.pool.images self.new.pool.images }
         ensures pages { (self.new.pool.frames ≡ self.old.pool.frames) × (self.new.pool.plan ≡ self.old.pool.plan) }
@@ -231,8 +231,8 @@ impl<'a, D: PageDevice, N: Life> StorePages<'a, D, N> {
 
     /// Arms the data device's fuse, which lets n more calls pass, or renews it.
     pub fn fuse(&mut self, n: Option<u64>)
-        requires idle { (self.old.pool.out ≡ 0) × (self.old.pool.reserves ≡ false) }
-        ensures idle { (self.new.pool.out ≡ 0) × (self.new.pool.reserves ≡ false) }
+        requires idle { IsIdle self.old.pool.out self.old.pool.reserves }
+        ensures idle { IsIdle self.new.pool.out self.new.pool.reserves }
         ensures fuse { Armed D.fuses D.passes D.refused D.own n self.old.pool.images self.new.pool.images }
         ensures same { D.tells → SameImages D.told D.newest self.old.pool.images self.new.pool.images }
         ensures pages { (self.new.pool.frames ≡ self.old.pool.frames) × (self.new.pool.plan ≡ self.old.pool.plan) }

@@ -60,7 +60,6 @@ mod living;
 mod logs;
 mod opened;
 mod outside;
-mod pages;
 mod run;
 mod stop;
 mod turns;

@@ -6,6 +6,7 @@ ghost use Rattle.life_commands.specs.LogDisk.{View, IsWhole, seen};
 ghost use Rattle.life_commands.specs.Turns.{Start, Turn};
 ghost use Rattle.life_commands.specs.Living.{Within};
 ghost use Rattle.line_reader.specs.Lines.{Reader};
+ghost use Rattle.own_life.specs.Pages.{IsIdle};
 ghost use Rattle.runner.specs.Clause.{Between, Closing, LivedTo, Stopping};
 ghost use Rattle.runner.specs.Devices.{Imaged};
 ghost use Rattle.runner.specs.Machine.{Begun, IsAt, OpensOn};
@@ -14,14 +15,13 @@ ghost use Rattle.runner.specs.Causes.{LivedCause, disk_at};
 
 use crate::at::At;
 use crate::opened::Opened;
-use crate::pages::RunPages;
 use crate::stop::cycled;
 use crate::turns::{Passed, turn_inside};
 use life_commands::Status;
 use line_reader::Input;
 use media::{Disk, PageDevice, Sink, Source, Vault, write_all};
 use operators::Operators;
-use own_life::{LifePages, LifeRefused, OwnLife, open_life};
+use own_life::{LifeRefused, OwnLife, StorePages, open_life};
 use page_ops::{Ground, Life, Tokens, Unnamed};
 use std::alloc::Global;
 use std::marker::Brand;
@@ -122,10 +122,7 @@ fn run_on<'a, N: Life, S: Source, K: Sink, V: Vault, L: Disk, D: PageDevice, R: 
     ensures cause { LivedCause L.Disk (L.own opened.log.log.device) (S.faults source.old) (S.faults source.new) (K.faults sink.old) (K.faults sink.new) result }
 {
     match open_life(alloc, operators, ground, tokens, opened.into_log(), pages) {
-        Ok((life, pages)) => {
-            let pages = RunPages { pages };
-            run_life(rt, alloc, input, source, sink, vault, life, pages)
-        }
+        Ok((life, pages)) => run_life(rt, alloc, input, source, sink, vault, life, pages),
         Err(refused) => {
             let LifeRefused { log, device } = refused;
             Lived::Ends {
@@ -146,7 +143,6 @@ fn run_life<
     V: Vault,
     L: Disk,
     D: PageDevice,
-    P: LifePages<N, D>,
     R: Wait,
 >(
     rt: &R,
@@ -156,9 +152,9 @@ fn run_life<
     sink: &mut K,
     vault: &mut V,
     life: OwnLife<'a, L, N>,
-    pages: P,
+    pages: StorePages<'a, D, N>,
 ) -> Lived<L, D>
-    requires idle { P.idle pages }
+    requires idle { IsIdle pages.pool.out pages.pool.reserves }
     requires told { (opening : List Record) → N.opens opening → D.tells }
     ensures turns { (v : View L.tells) (start : Start) (first : V) (left told : Option (List ℕ)) (turns : List Turn)
         → Between (IsWhole v) start (Beside V.Vault first vault.old (Within (seen L.Disk v) N.opens life.entry)) left told input.old turns (S.left source.old) (K.told sink.old)
@@ -168,7 +164,7 @@ fn run_life<
 {
     let (mut life, mut pages) = (life, pages);
     for _ in 0..u64::MAX {
-        match turn_inside::<N, S, K, V, L, D, P, R>(
+        match turn_inside::<N, S, K, V, L, D, R>(
             rt, alloc, input, source, sink, &mut life, &mut pages,
         ) {
             Passed::Goes => {}

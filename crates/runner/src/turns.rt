@@ -5,6 +5,7 @@ ghost use Rattle.life_commands.specs.LogDisk.{View, IsWhole, seen};
 ghost use Rattle.life_commands.specs.Turns.{Start, Turn};
 ghost use Rattle.life_commands.specs.Living.{Out, Within};
 ghost use Rattle.wal_record.specs.declared.record.Record.{Record};
+ghost use Rattle.own_life.specs.Pages.{IsIdle};
 ghost use Rattle.runner.specs.Clause.{Between, PassedTo, TakesCommand, TurnedTo};
 ghost use Rattle.runner.specs.Devices.{AreDevicesOf, Imaged};
 ghost use Rattle.runner.specs.Machine.{Begun};
@@ -17,7 +18,7 @@ use crate::outside;
 use life_commands::Status;
 use line_reader::{Input, Next, NotRead, is_built};
 use media::{Disk, PageDevice, Sink, Source, Vault, write_all};
-use own_life::{LifePages, OwnLife};
+use own_life::{OwnLife, StorePages};
 use page_ops::Life;
 use script::{Command, command_of};
 use std::alloc::Global;
@@ -89,7 +90,6 @@ pub fn turn_inside<
     V: Vault,
     L: Disk,
     D: PageDevice,
-    P: LifePages<N, D>,
     R: Wait,
 >(
     rt: &R,
@@ -98,11 +98,11 @@ pub fn turn_inside<
     source: &mut S,
     sink: &mut K,
     life: &mut OwnLife<'a, L, N>,
-    pages: &mut P,
+    pages: &mut StorePages<'a, D, N>,
 ) -> Passed
-    requires idle { P.idle pages.old }
+    requires idle { IsIdle pages.old.pool.out pages.old.pool.reserves }
     requires told { (opening : List Record) → N.opens opening → D.tells }
-    ensures idle { P.idle pages.new }
+    ensures idle { IsIdle pages.new.pool.out pages.new.pool.reserves }
     ensures turns { (v : View L.tells) (start : Start) (first vault : V) (left told : Option (List ℕ)) (turns : List Turn)
         → Between (IsWhole v) start (Beside V.Vault first vault (Within (seen L.Disk v) N.opens life.old)) left told input.old turns (S.left source.old) (K.told sink.old)
         → PassedTo L.tells (seen L.Disk v) D.PageDevice V.Vault start (Within (seen L.Disk v) N.opens life.new) (AreDevicesOf L.Disk D.PageDevice N.opens life.new)

@@ -4,7 +4,7 @@ use Rattle.store_model.specs.declared.fault.Fault.{Fault}
 use Rattle.wal_record.specs.declared.entry.Entry.{Entry}
 use Rattle.store_life.specs.SoFar.{actives}
 use Rattle.store_life.specs.Steps.{AddsUpkeep, StepsBack}
-use Rattle.own_life.specs.Pages.{AreRestored}
+use Rattle.own_life.specs.Pages.{AreRestored, AwaitsRedo}
 use Rattle.own_life.specs.State.{Fails, GoesOn, LifeState}
 use Rattle.own_life.proofs.Called.{bring_refused, brings, meets_done}
 use Rattle.own_life.proofs.Going.{called_by, kept_by, names_left, state_of}
@@ -25,7 +25,7 @@ returns-clause-restored g c =
 
 pub returns-clause-redone : goal.returns-clause-redone
 returns-clause-redone g c =
-    let none = (q : ℕ) → g.P.LifePages.awaits c.bring_next-brought.new.self q → ⊥ in
+    let none = (q : ℕ) → AwaitsRedo c.bring_next-brought.new.self.pool.plan q → ⊥ in
     subst (λ (r : Result (Option ℕ) Fault). IfOk r (λ page. IfNone page none)) (sym c.unvaulted.ensures)
     (vault_ok (λ (page : Option ℕ). IfNone page none) c.bring_next-brought.result c.bring_next-brought.ensures.redone)
 

@@ -1,6 +1,6 @@
 use Rattle.std.proofs.Common.{ℕ, ap, refl, ◌∙◌}
 use Rattle.std.specs.Prelude.{not, IfNone}
-use Rattle.own_life.specs.Pages.{AreRestored}
+use Rattle.own_life.specs.Pages.{AreRestored, AwaitsRedo}
 use Rattle.own_life.proofs.Helped.{upkeep_none, upkeep_then}
 use Rattle.own_life.proofs.Restored.{when_none}
 use Rattle.own_life.proofs.Sequences.{goes_self, goes_then}
@@ -27,7 +27,7 @@ pub returns-then-is_none-clause-restored : goal.returns-then-is_none-clause-rest
 returns-then-is_none-clause-restored g c = λ less. when_none (AreRestored g.N.Life.opens c.bring_next.new.self.history) c.in_ok-bring_next.field-0 (c.is_none.ensures ∙ ap not c.if-is_none.true) c.in_ok-bring_next.ensures.restored
 
 pub returns-then-is_none-clause-redone : goal.returns-then-is_none-clause-redone
-returns-then-is_none-clause-redone g c = λ less. when_none ((q : ℕ) → g.P.LifePages.awaits c.bring_next.new.pages q → ⊥) c.in_ok-bring_next.field-0 (c.is_none.ensures ∙ ap not c.if-is_none.true) c.in_ok-bring_next.ensures.redone
+returns-then-is_none-clause-redone g c = λ less. when_none ((q : ℕ) → AwaitsRedo c.bring_next.new.pages.pool.plan q → ⊥) c.in_ok-bring_next.field-0 (c.is_none.ensures ∙ ap not c.if-is_none.true) c.in_ok-bring_next.ensures.redone
 
 pub returns-then-is_none-clause-upkeep : goal.returns-then-is_none-clause-upkeep
 returns-then-is_none-clause-upkeep g c = upkeep_then c.args.self.now.history c.loop-taken.self.history c.bring_next.new.self.history c.loop-taken.invariant.upkeep c.bring_next.ensures.upkeep

@@ -1,7 +1,7 @@
 use Rattle.std.proofs.Common.{ℕ, List, Option, arith, refl, sym, subst, ◌∙◌}
 use Rattle.std.proofs.lemmas.Result.{err_from_is_err_and}
 use Rattle.wal_record.specs.declared.entry.Entry.{Entry}
-use Rattle.own_life.specs.Pages.{IsNextWritten, WritesPages}
+use Rattle.own_life.specs.Pages.{IsNextWritten, Lacks, WritesPages}
 use Rattle.own_life.proofs.Sequences.{all_clean, done_then, fails_then, flush_then, goes_self, goes_then, more_clean, no_more, on_ok}
 use Rattle.own_life.proofs.Written.{upto_pages, writes_none, writes_then}
 use Rattle.own_life.proofs.life.OwnLife.close.Goals as goal
@@ -34,18 +34,18 @@ returns-in_err-page-clause-refused g c =
 
 pub loop-page-smaller : goal.loop-page-smaller
 loop-page-smaller g c =
-    let next = subst (λ (o : Option ℕ). IsNextWritten (g.P.LifePages.dirty c.write_next.new.pages) c.loop-page.after o) c.in-Some.is c.in_ok-page.ensures.next in
+    let next = subst (λ (o : Option ℕ). IsNextWritten (Lacks c.write_next.new.pages.pool.frames) c.loop-page.after o) c.in-Some.is c.in_ok-page.ensures.next in
     let more = next.0 in
     omega (arith, more)
 
 pub loop-page-preserved : goal.loop-page-preserved
 loop-page-preserved g c =
-    let next = subst (λ (o : Option ℕ). IsNextWritten (g.P.LifePages.dirty c.write_next.new.pages) c.loop-page.after o) c.in-Some.is c.in_ok-page.ensures.next in
+    let next = subst (λ (o : Option ℕ). IsNextWritten (Lacks c.write_next.new.pages.pool.frames) c.loop-page.after o) c.in-Some.is c.in_ok-page.ensures.next in
     record {
       goes = goes_then c.args.self.now c.loop-page.self c.write_next.new.self c.loop-page.invariant.goes c.in_ok-page.ensures.goes;
       writes = writes_then c.args.self.now.history c.loop-page.self.history c.write_next.new.self.history c.loop-page.invariant.writes (upto_pages 1 c.loop-page.self.history c.write_next.new.self.history c.write_next.ensures.written);
       names = c.write_next.ensures.names ∙ c.loop-page.invariant.names;
-      clean = more_clean (g.P.LifePages.dirty c.loop-page.pages) (g.P.LifePages.dirty c.write_next.new.pages) c.loop-page.after c.in-Some.page c.loop-page.invariant.clean c.write_next.ensures.fewer next;
+      clean = more_clean (Lacks c.loop-page.pages.pool.frames) (Lacks c.write_next.new.pages.pool.frames) c.loop-page.after c.in-Some.page c.loop-page.invariant.clean c.write_next.ensures.fewer next;
       idle = c.write_next.ensures.idle;
     }
 
@@ -55,8 +55,8 @@ returns-clause-written g c =
 
 pub returns-clause-clean : goal.returns-clause-clean
 returns-clause-clean g c =
-    let next = subst (λ (o : Option ℕ). IsNextWritten (g.P.LifePages.dirty c.write_next.new.pages) c.loop-page.after o) (no_more c.in_ok-page.field-0 c.in_default.not-Some) c.in_ok-page.ensures.next in
-    on_ok c.flush.result (all_clean (g.P.LifePages.dirty c.loop-page.pages) (g.P.LifePages.dirty c.write_next.new.pages) c.loop-page.after c.loop-page.invariant.clean c.write_next.ensures.fewer next)
+    let next = subst (λ (o : Option ℕ). IsNextWritten (Lacks c.write_next.new.pages.pool.frames) c.loop-page.after o) (no_more c.in_ok-page.field-0 c.in_default.not-Some) c.in_ok-page.ensures.next in
+    on_ok c.flush.result (all_clean (Lacks c.loop-page.pages.pool.frames) (Lacks c.write_next.new.pages.pool.frames) c.loop-page.after c.loop-page.invariant.clean c.write_next.ensures.fewer next)
 
 pub returns-clause-names : goal.returns-clause-names
 returns-clause-names g c = c.flush.ensures.names ∙ c.write_next.ensures.names ∙ c.loop-page.invariant.names

@@ -3,12 +3,13 @@ use Rattle.std.specs.Prelude.{not}
 use Rattle.own_life.proofs.Helped.{written_none, written_then, written_within}
 use Rattle.own_life.proofs.Sequences.{all_but_none, goes_self, goes_then, written_all, written_more}
 use Rattle.own_life.proofs.life.OwnLife.write_pages.Goals as goal
+use Rattle.own_life.specs.Pages.{Lacks}
 
 pub loop-taken-init : goal.loop-taken-init
 loop-taken-init g c = record {
   goes = goes_self c.args.self.now c.requires.open;
   written = written_none c.args.self.now.history;
-  stored = all_but_none (g.P.LifePages.dirty c.args.pages.now);
+  stored = all_but_none (Lacks c.args.pages.now.pool.frames);
   awaits = λ page is. is;
   names = refl;
   idle = c.requires.idle;
@@ -28,7 +29,7 @@ returns-in_err-write_next-clause-written g c =
 pub returns-then-is_none-clause-stored : goal.returns-then-is_none-clause-stored
 returns-then-is_none-clause-stored g c =
     let less = c.loop-taken-test.true in
-    written_all c.loop-taken.taken c.args.steps (g.P.LifePages.dirty c.args.pages.now) (g.P.LifePages.dirty c.loop-taken.pages) (g.P.LifePages.dirty c.write_next.new.pages) c.in_ok-write_next.field-0 (c.is_none.ensures ∙ ap not c.if-is_none.true) (omega (arith, less)) c.loop-taken.invariant.stored c.in_ok-write_next.ensures.one
+    written_all c.loop-taken.taken c.args.steps (Lacks c.args.pages.now.pool.frames) (Lacks c.loop-taken.pages.pool.frames) (Lacks c.write_next.new.pages.pool.frames) c.in_ok-write_next.field-0 (c.is_none.ensures ∙ ap not c.if-is_none.true) (omega (arith, less)) c.loop-taken.invariant.stored c.in_ok-write_next.ensures.one
 
 pub returns-then-is_none-clause-written : goal.returns-then-is_none-clause-written
 returns-then-is_none-clause-written g c =
@@ -39,7 +40,7 @@ pub loop-taken-preserved : goal.loop-taken-preserved
 loop-taken-preserved g c = record {
   goes = goes_then c.args.self.now c.loop-taken.self c.write_next.new.self c.loop-taken.invariant.goes c.in_ok-write_next.ensures.goes;
   written = written_then c.loop-taken.taken 1 c.args.self.now.history c.loop-taken.self.history c.write_next.new.self.history c.loop-taken.invariant.written c.write_next.ensures.written;
-  stored = written_more c.loop-taken.taken (g.P.LifePages.dirty c.args.pages.now) (g.P.LifePages.dirty c.loop-taken.pages) (g.P.LifePages.dirty c.write_next.new.pages) c.in_ok-write_next.field-0 (c.is_none.ensures ∙ ap not c.if-is_none.false) c.loop-taken.invariant.stored c.in_ok-write_next.ensures.one;
+  stored = written_more c.loop-taken.taken (Lacks c.args.pages.now.pool.frames) (Lacks c.loop-taken.pages.pool.frames) (Lacks c.write_next.new.pages.pool.frames) c.in_ok-write_next.field-0 (c.is_none.ensures ∙ ap not c.if-is_none.false) c.loop-taken.invariant.stored c.in_ok-write_next.ensures.one;
   awaits = λ page is. c.loop-taken.invariant.awaits page (c.write_next.ensures.awaits page is);
   names = c.write_next.ensures.names ∙ c.loop-taken.invariant.names;
   idle = c.write_next.ensures.idle;
