@@ -6,8 +6,8 @@ ghost use Rattle.own_life.specs.Pages.{AwaitsRedo, IsIdle, IsNextWritten, Lacks,
 ghost use Rattle.own_life.specs.State.{Fails, FailsToFlush, GoesOn};
 
 use crate::life::OwnLife;
-use crate::store_pages::StorePages;
 use crate::seeing::see_whole;
+use crate::store_pages::StorePages;
 use media::{Disk, PageDevice};
 use page_ops::{Entering, Life};
 use std::alloc::Global;

@@ -8,8 +8,8 @@ ghost use Rattle.own_life.specs.Pages.{AllBut, AreRestored, AwaitsRedo, IsIdle, 
 ghost use Rattle.own_life.specs.State.{Fails, GoesOn};
 
 use crate::life::{OwnLife, unvaulted};
-use crate::store_pages::StorePages;
 use crate::seeing::see_whole;
+use crate::store_pages::StorePages;
 use media::{Disk, PageDevice};
 use page_ops::Life;
 use std::alloc::Global;

@@ -20,8 +20,8 @@ ghost use Rattle.own_life.specs.Kept.{without_crowd, without_vault};
 ghost use Rattle.own_life.specs.Pages.{HasNone, IsIdle, Lacks};
 ghost use Rattle.own_life.specs.State.{AreLeft, BeginsAs, Fails, FailsToAnswer, FailsToBegin, FailsToCommit, FailsToFlush, FailsToLook, GoesOn, IsCommitted, name_by};
 
-use crate::store_pages::StorePages;
 use crate::seeing::see_whole;
+use crate::store_pages::StorePages;
 use engine::Answered;
 use media::{Disk, PageDevice};
 use own_journal::OwnJournal;

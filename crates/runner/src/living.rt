@@ -135,16 +135,7 @@ fn run_on<'a, N: Life, S: Source, K: Sink, V: Vault, L: Disk, D: PageDevice, R: 
 }
 
 /// A life, from its opening to its stop, its close or the end of the run.
-fn run_life<
-    'a,
-    N: Life,
-    S: Source,
-    K: Sink,
-    V: Vault,
-    L: Disk,
-    D: PageDevice,
-    R: Wait,
->(
+fn run_life<'a, N: Life, S: Source, K: Sink, V: Vault, L: Disk, D: PageDevice, R: Wait>(
     rt: &R,
     alloc: Global,
     input: &mut Input,

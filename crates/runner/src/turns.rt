@@ -82,16 +82,7 @@ pub fn turn_outside<S: Source, K: Sink, V: Vault, L: Disk, D: PageDevice>(
 
 /// One line within a life. The end of the input ends the run. A stop, and the end of a life that was closed, are left to the
 /// caller, who has the life.
-pub fn turn_inside<
-    'a,
-    N: Life,
-    S: Source,
-    K: Sink,
-    V: Vault,
-    L: Disk,
-    D: PageDevice,
-    R: Wait,
->(
+pub fn turn_inside<'a, N: Life, S: Source, K: Sink, V: Vault, L: Disk, D: PageDevice, R: Wait>(
     rt: &R,
     alloc: Global,
     input: &mut Input,
