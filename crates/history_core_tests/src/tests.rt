@@ -55,16 +55,19 @@ fn what_the_journal_enters_is_audited(rt: HostRuntime) -> Result<(), Fail> {
         A_SCAN,
         LEAST_HOLDER,
         AN_END,
-        FULL,
-        FULL_BY_OPERATORS,
-        THREE_WRITES,
-        UNDONE_IN_PART,
         FAILED_COMMIT,
         LOSERS_LEFT,
         LOSERS,
         LOSERS_UNDONE,
         TWO_RESTORES,
     ];
+    assert_eq!(rt; judged(rt.alloc(), &histories)?, None);
+    Ok(())
+}
+
+#[test]
+fn what_the_journal_writes_is_audited(rt: HostRuntime) -> Result<(), Fail> {
+    let histories = [FULL, FULL_BY_OPERATORS, THREE_WRITES, UNDONE_IN_PART];
     assert_eq!(rt; judged(rt.alloc(), &histories)?, None);
     Ok(())
 }
