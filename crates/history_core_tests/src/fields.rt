@@ -1,5 +1,5 @@
 //! The fields of a line: words `name=value`, in any order.
-use store_model::{Bound, Key, KeyRange, Mode, Value};
+use store_model::{Bound, Key, KeyRange, Mode, OpValue, Value};
 
 /// The word at this place.
 pub fn word_at(line: &str, place: usize) -> &str {
@@ -36,6 +36,15 @@ pub fn value(line: &str, name: &str) -> Option<Value> {
         "V" => Value::new(&[b'.'; 256]),
         text => Value::new(text.as_bytes()),
     }
+}
+
+/// The number of an operator.
+pub fn operator(line: &str) -> Option<u8> {
+    field(line, "operator")?.parse::<u8>().ok()
+}
+
+pub fn argument(line: &str) -> Option<OpValue> {
+    OpValue::new(field(line, "argument")?.as_bytes())
 }
 
 /// That of a key, or from `low` on up to `high`, or to the end.

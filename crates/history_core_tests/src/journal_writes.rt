@@ -48,6 +48,53 @@ record 11 Write tx=2 prev=0 page=1 page_prev=9 key=f old=1 new=1 | 25 | 25
 record 11 Write tx=2 prev=0 page=1 page_prev=10 key=f old none new=1 | 25 | 25",
 };
 
+/// The same for operators. Changed are one that is declined within the limit, and one with other counts; an old value that the
+/// key hadn't; arguments and operators that give no value; answers of another argument, another operator and another value;
+/// and an undo of another write than the last.
+pub const FULL_BY_OPERATORS: History<'static> = History {
+    opening: "record 1 Format limit=8",
+    entries: "\
+began session=1 tx=1 | 0 | 0
+lock tx=1 mode=exclusive low=a | 1 | 1
+record 2 Apply tx=1 prev=0 page=1 page_prev=1 key=n operator=1 argument=5 old none | 2 | 2
+apply session=1 tx=1 key=n operator=1 argument=5 was none | 3 | 3
+record 3 Apply tx=1 prev=2 page=1 page_prev=2 key=n operator=1 argument=2 old=5 | 4 | 4
+apply session=1 tx=1 key=n operator=1 argument=2 was=5 | 5 | 5
+record 4 Apply tx=1 prev=3 page=1 page_prev=3 key=n operator=2 argument=9 old=7 | 6 | 6
+apply session=1 tx=1 key=n operator=2 argument=9 was=7 | 7 | 7
+record 5 Apply tx=1 prev=4 page=1 page_prev=4 key=m operator=2 argument=4 old none | 8 | 8
+apply session=1 tx=1 key=m operator=2 argument=4 was none | 9 | 9
+record 6 Apply tx=1 prev=5 page=1 page_prev=5 key=t operator=3 argument=a old none | 10 | 10
+apply session=1 tx=1 key=t operator=3 argument=a was none | 11 | 11
+record 7 Apply tx=1 prev=6 page=1 page_prev=6 key=t operator=3 argument=b old=a | 12 | 12
+apply session=1 tx=1 key=t operator=3 argument=b was=a | 13 | 13
+apply session=1 tx=1 key=n operator=1 argument=1 pages=1 pending=6 | told | apart
+del session=1 tx=1 key=z was none | told | apart
+record 8 Undo tx=1 prev=7 page=1 page_prev=7 key=t restores=a undo_next=6 | 16 | 16
+record 9 Apply tx=1 prev=8 page=1 page_prev=8 key=n operator=1 argument=1 old=9 | 17 | 17
+apply session=1 tx=1 key=n operator=1 argument=1 was=9 | 18 | 18
+put session=1 tx=1 key=z new=1 pages=1 pending=6 | told | 20
+record 10 Commit tx=1 prev=9 | 20 | 20
+acked session=1 tx=1 | told | apart
+began session=2 tx=2 | 22 | 22
+lock tx=2 mode=exclusive key=n | 23 | 23
+record 11 Apply tx=2 prev=0 page=1 page_prev=9 key=n operator=1 argument=1 old=10 | 24 | 24
+apply session=2 tx=2 key=n operator=1 argument=1 was=10 | last",
+    changes: "\
+record 3 Apply tx=1 prev=2 page=1 page_prev=2 key=n operator=1 argument=2 old=6 | 4 | 4
+record 3 Apply tx=1 prev=2 page=1 page_prev=2 key=n operator=1 argument=x old=5 | 4 | 4
+record 3 Apply tx=1 prev=2 page=1 page_prev=2 key=n operator=4 argument=2 old=5 | 4 | 4
+apply session=1 tx=1 key=n operator=1 argument=3 was=5 | 5 | 5
+record 4 Apply tx=1 prev=3 page=1 page_prev=3 key=n operator=1 argument=9 old=7 | 6 | 7
+apply session=1 tx=1 key=t operator=3 argument=b pages=1 pending=5 | 12 | 12
+apply session=1 tx=1 key=n operator=1 argument=1 pages=1 pending=5 | 14 | 14
+apply session=1 tx=1 key=n operator=1 argument=x pages=1 pending=6 | 14 | 14
+record 8 Apply tx=1 prev=7 page=1 page_prev=7 key=n operator=1 argument=1 old=9 | 14 | 15
+record 8 Undo tx=1 prev=7 page=1 page_prev=7 key=m restores none undo_next=4 | 16 | 16
+apply session=1 tx=1 key=n operator=1 argument=1 was=16 | 18 | 18
+record 11 Apply tx=2 prev=0 page=1 page_prev=9 key=n operator=1 argument=1 old=9 | 24 | 24",
+};
+
 /// The last of two writes is undone, as by an abort that is then refused, and the transaction commits. Changed are undos of
 /// the first write, and of all; an End where a write is open; and the value of the write that was undone.
 pub const UNDONE_IN_PART: History<'static> = History {

@@ -1,16 +1,21 @@
 //! Entries as texts. A record is told as `inspect` lists it.
-use crate::fields::{key, mode, number, range, small, value, word_at};
+use crate::fields::{argument, key, mode, number, operator, range, small, value, word_at};
 use crate::records::record_of;
 use std::alloc::Global;
 use store_model::{Outcome, Reply, Request, Value};
 use wal_record::{Entry, Record};
 
-/// The request of a put, a del or a get.
+/// The request of a put, a del, an operator or a get.
 fn request_of(line: &str) -> Option<Request> {
     let key = key(line)?;
     match word_at(line, 0) {
         "put" => Some(Request::Put(key, value(line, "new").unwrap_or(Value::empty()))),
         "del" => Some(Request::Del(key)),
+        "apply" => Some(Request::Apply {
+            operator: operator(line)?,
+            key,
+            argument: argument(line)?,
+        }),
         "get" => Some(Request::Get(key)),
         _ => None,
     }

@@ -1,10 +1,10 @@
 //! Records, as `inspect` lists them. Lists are told in short.
-use crate::fields::{key, number, small, value, word_at};
+use crate::fields::{argument, key, number, operator, small, value, word_at};
 use std::alloc::Global;
 use store_model::{Bound, Key, List, Value};
 use wal_record::{
-    BackupDone, Checkpoint, Commit, End, Format, LeafRow, Lost, OpenWrite, PageHead, PageLsn,
-    PageState, Record, Restored, Rows, RunDone, Split, Undo, Unfinished, Write, Written,
+    Apply, BackupDone, Checkpoint, Commit, End, Format, LeafRow, Lost, OpenWrite, PageHead,
+    PageLsn, PageState, Record, Restored, Rows, RunDone, Split, Undo, Unfinished, Write, Written,
 };
 
 fn write(line: &str) -> Option<Record> {
@@ -16,6 +16,19 @@ fn write(line: &str) -> Option<Record> {
         key: key(line)?,
         old: value(line, "old"),
         new: value(line, "new"),
+    }))
+}
+
+fn apply(line: &str) -> Option<Record> {
+    Some(Record::Apply(Apply {
+        tx: number(line, "tx")?,
+        prev: number(line, "prev")?,
+        page: small(line, "page")?,
+        page_prev: number(line, "page_prev")?,
+        key: key(line)?,
+        operator: operator(line)?,
+        argument: argument(line)?,
+        old: value(line, "old"),
     }))
 }
 
@@ -151,6 +164,7 @@ pub fn record_of(alloc: Global, line: &str) -> Option<Record> {
             limit: small(line, "limit")?,
         })),
         "Write" => write(line),
+        "Apply" => apply(line),
         "Undo" => undo(line),
         "Commit" => Some(Record::Commit(Commit { tx, prev })),
         "End" => Some(Record::End(End { tx, prev })),

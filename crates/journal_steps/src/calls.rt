@@ -2,7 +2,7 @@
 use crate::answers::{begun_text, committed_text, grant_text};
 use books::{PageRight, SessionRight};
 use front::Pass;
-use page_ops::{Grant, Journaling, Life, Rights};
+use page_ops::{Committed, Grant, Journaling, Life, Rights};
 use std::alloc::Global;
 use std::sync::Wait;
 use store_model::{Fault, KeyRange, Memory, Mode, TxId};
@@ -80,6 +80,25 @@ pub(crate) fn begin_one<N: Life, J: Journaling<N>, R: Wait>(
     begun
 }
 
+/// The session that has no transaction begins one.
+pub(crate) fn begin_by<N: Life, J: Journaling<N>, R: Wait>(
+    rt: &R,
+    alloc: Global,
+    journal: &mut J,
+    hands: &mut Hands<N>,
+    pass: &mut Pass<Entry, N>,
+) -> Result<TxId, Fault> {
+    let Some(mut s) = hands.take(0) else {
+        return Err(Fault::NotActive);
+    };
+    if s.tx() > 0 {
+        return Err(Fault::NotActive);
+    }
+    let begun = journal.begin(rt, alloc, &mut s, pass);
+    hands.sessions.push(s)?;
+    begun
+}
+
 /// A new session begins a transaction.
 pub(crate) fn begin<N: Life, J: Journaling<N>, R: Wait>(
     rt: &R,
@@ -126,6 +145,25 @@ pub(crate) fn lock_by<N: Life, J: Journaling<N>, R: Wait>(
 }
 
 /// Locks a range for a transaction.
+pub(crate) fn lock_one<N: Life, J: Journaling<N>, R: Wait>(
+    rt: &R,
+    alloc: Global,
+    journal: &mut J,
+    hands: &mut Hands<N>,
+    tx: TxId,
+    range: &KeyRange,
+    mode: Mode,
+    pass: &mut Pass<Entry, N>,
+) -> Result<Grant, Fault> {
+    let Some(mut s) = hands.take(tx) else {
+        return Err(Fault::NotActive);
+    };
+    let granted = lock_by(rt, alloc, journal, &mut s, range, mode, pass);
+    hands.sessions.push(s)?;
+    granted
+}
+
+/// Locks a range for a transaction. The answer as text.
 pub(crate) fn lock<N: Life, J: Journaling<N>, R: Wait>(
     rt: &R,
     alloc: Global,
@@ -136,23 +174,18 @@ pub(crate) fn lock<N: Life, J: Journaling<N>, R: Wait>(
     mode: Mode,
     pass: &mut Pass<Entry, N>,
 ) -> Result<String, Fault> {
-    let Some(mut s) = hands.take(tx) else {
-        return Err(Fault::NotActive);
-    };
-    let granted = lock_by(rt, alloc, journal, &mut s, range, mode, pass);
-    hands.sessions.push(s)?;
+    let granted = lock_one(rt, alloc, journal, hands, tx, range, mode, pass);
     grant_text(alloc, granted)
 }
 
 /// Commits a transaction.
-pub(crate) fn commit<N: Life, J: Journaling<N>, R: Wait>(
+pub(crate) fn commit_one<N: Life, J: Journaling<N>, R: Wait>(
     rt: &R,
-    alloc: Global,
     journal: &mut J,
     hands: &mut Hands<N>,
     tx: TxId,
     pass: &mut Pass<Entry, N>,
-) -> Result<String, Fault> {
+) -> Result<Committed, Fault> {
     let Some(mut s) = hands.take(tx) else {
         return Err(Fault::NotActive);
     };
@@ -161,5 +194,18 @@ pub(crate) fn commit<N: Life, J: Journaling<N>, R: Wait>(
     }
     let committed = journal.commit(rt, &mut s, pass);
     hands.sessions.push(s)?;
+    committed
+}
+
+/// Commits a transaction. The answer as text.
+pub(crate) fn commit<N: Life, J: Journaling<N>, R: Wait>(
+    rt: &R,
+    alloc: Global,
+    journal: &mut J,
+    hands: &mut Hands<N>,
+    tx: TxId,
+    pass: &mut Pass<Entry, N>,
+) -> Result<String, Fault> {
+    let committed = commit_one(rt, journal, hands, tx, pass);
     committed_text(alloc, committed)
 }

@@ -1,19 +1,19 @@
 //! Groups that are entered.
-ghost use Rattle.std.specs.Prelude.{◌≡◌, List, IfSome, IsTrue};
+ghost use Rattle.std.specs.Prelude.{◌≡◌, List, IfOk, IfSome, IsTrue};
 ghost use Rattle.page_ops.specs.Claims.{IsInRange};
-ghost use Rattle.wal_record.specs.Rules.{HasSpelling, KeepsWrite, is_change, is_number};
+ghost use Rattle.wal_record.specs.Rules.{HasSpelling, KeepsUndo, is_change, is_number};
 ghost use Rattle.wal_record.specs.declared.record.Record.{Record};
 
 use crate::answers::entered_text;
 use crate::calls::Hands;
-use crate::groups::{absent, alone, taken_back, written};
+use crate::groups::{absent, alone, applied, taken_back, written};
 use books::{PageRight, SessionRight};
 use front::Pass;
 use page_ops::{Entered, Journaling, Life, Rights};
 use std::alloc::Global;
 use std::sync::Wait;
-use store_model::{Fault, HIGHEST, Key, Lsn, MOST_PAGES, TxId, Value};
-use wal_record::{End, Entry, Lost, Record, Restored, Write};
+use store_model::{Fault, HIGHEST, Key, Lsn, MOST_PAGES, OpValue, TxId, Value};
+use wal_record::{End, Entry, Lost, Record, Restored, Undo};
 
 /// What became of a group, the LSN of its first record, and the rights.
 #[derive(Drop)]
@@ -66,25 +66,62 @@ fn put_by<N: Life, J: Journaling<N>, R: Wait>(
     }
 }
 
-/// Takes back this write, which is on this page, by the right to its session if it is live.
+/// An operator on a key that has this value, by the session's transaction.
+fn apply_by<N: Life, J: Journaling<N>, R: Wait>(
+    rt: &R,
+    alloc: Global,
+    journal: &mut J,
+    page: PageRight<N>,
+    s: SessionRight<N>,
+    asked: Operation<'_>,
+    pass: &mut Pass<Entry, N>,
+) -> Came<N>
+    requires untold { (opening : List Record) → N.opens opening → ⊥ }
+    requires page { IsInRange page }
+    requires number { IsTrue (is_number s.tx) }
+{
+    let mut rights = Rights::none();
+    let (session, tx, number) = (s.session(), s.tx(), page.page());
+    let (operator, argument) = (asked.operator, asked.argument);
+    let made = applied(
+        alloc, session, tx, number, asked.key, asked.old, operator, argument,
+    );
+    rights.a = Some(page);
+    rights.s = Some(s);
+    let Ok(mut group) = made else {
+        return Came {
+            entered: Err(Fault::Memory),
+            lsn: 0,
+            rights,
+        };
+    };
+    let entered = journal.enter(rt, alloc, &mut group, &mut rights, pass);
+    Came {
+        entered,
+        lsn: group.lsn,
+        rights,
+    }
+}
+
+/// Takes back a write of this page, by the right to its session if it is live.
 fn undo_by<N: Life, J: Journaling<N>, R: Wait>(
     rt: &R,
     alloc: Global,
     journal: &mut J,
     page: PageRight<N>,
     s: Option<SessionRight<N>>,
-    write: &Write,
+    undo: Undo,
     pass: &mut Pass<Entry, N>,
 ) -> Came<N>
     requires untold { (opening : List Record) → N.opens opening → ⊥ }
     requires page { IsInRange page }
-    requires same { page.page ≡ write.now.page }
-    requires spelled { KeepsWrite write.now }
+    requires same { page.page ≡ undo.page }
+    requires spelled { KeepsUndo undo }
 {
     let mut rights = Rights::none();
     rights.a = Some(page);
     rights.s = s;
-    let Ok(mut group) = alone(alloc, Record::Undo(taken_back(write))) else {
+    let Ok(mut group) = alone(alloc, Record::Undo(undo)) else {
         return Came {
             entered: Err(Fault::Memory),
             lsn: 0,
@@ -147,6 +184,29 @@ pub(crate) struct Change<'a> {
     pub(crate) new: &'a Option<Value>,
 }
 
+/// What an operator is applied to, a key that has a value, or none, and its argument.
+#[derive(Clone, Copy)]
+pub(crate) struct Operation<'a> {
+    pub(crate) key: &'a Key,
+    pub(crate) old: &'a Option<Value>,
+    pub(crate) operator: u8,
+    pub(crate) argument: &'a OpValue,
+}
+
+/// The rights to the page and to the session of a transaction.
+fn writer<N: Life>(hands: &mut Hands<N>, tx: TxId) -> Result<(PageRight<N>, SessionRight<N>), Fault>
+    ensures page { IfOk result (λ (page, s). IsInRange page) }
+    ensures number { IfOk result (λ (page, s). IsTrue (is_number s.tx)) }
+{
+    let (Some(page), Some(s)) = (hands.page.take(), hands.take(tx)) else {
+        return Err(Fault::NotActive);
+    };
+    if !is_in_range(&page) || s.tx() == 0 || HIGHEST < s.tx() {
+        return Err(Fault::NotActive);
+    }
+    Ok((page, s))
+}
+
 /// Writes a key for a transaction.
 fn put_one<N: Life, J: Journaling<N>, R: Wait>(
     rt: &R,
@@ -160,12 +220,7 @@ fn put_one<N: Life, J: Journaling<N>, R: Wait>(
     requires untold { (opening : List Record) → N.opens opening → ⊥ }
     requires change { IsTrue (is_change write.old.now write.new.now) }
 {
-    let (Some(page), Some(s)) = (hands.page.take(), hands.take(tx)) else {
-        return Err(Fault::NotActive);
-    };
-    if !is_in_range(&page) || s.tx() == 0 || HIGHEST < s.tx() {
-        return Err(Fault::NotActive);
-    }
+    let (page, s) = writer(hands, tx)?;
     Ok(put_by(rt, alloc, journal, page, s, write, pass))
 }
 
@@ -183,6 +238,23 @@ pub(crate) fn put<N: Life, J: Journaling<N>, R: Wait>(
     requires change { IsTrue (is_change write.old.now write.new.now) }
 {
     let came = put_one(rt, alloc, journal, hands, tx, write, pass)?;
+    come_back(alloc, hands, came)
+}
+
+/// Applies an operator for a transaction.
+pub(crate) fn apply<N: Life, J: Journaling<N>, R: Wait>(
+    rt: &R,
+    alloc: Global,
+    journal: &mut J,
+    hands: &mut Hands<N>,
+    tx: TxId,
+    asked: Operation<'_>,
+    pass: &mut Pass<Entry, N>,
+) -> Result<String, Fault>
+    requires untold { (opening : List Record) → N.opens opening → ⊥ }
+{
+    let (page, s) = writer(hands, tx)?;
+    let came = apply_by(rt, alloc, journal, page, s, asked, pass);
     come_back(alloc, hands, came)
 }
 
@@ -258,20 +330,20 @@ fn undo_write<N: Life, J: Journaling<N>, R: Wait>(
     alloc: Global,
     journal: &mut J,
     hands: &mut Hands<N>,
-    write: &Write,
+    write: &Record,
     pass: &mut Pass<Entry, N>,
 ) -> Result<String, Fault>
     requires untold { (opening : List Record) → N.opens opening → ⊥ }
-    requires spelled { KeepsWrite write.now }
+    requires spelled { HasSpelling write.now }
 {
-    let Some(page) = hands.page.take() else {
+    let (Some(undo), Some(page)) = (taken_back(write), hands.page.take()) else {
         return Err(Fault::NotActive);
     };
-    if !is_in_range(&page) || page.page() != write.page {
+    if !is_in_range(&page) || page.page() != undo.page {
         return Err(Fault::NotActive);
     }
-    let s = hands.take(write.tx);
-    let came = undo_by(rt, alloc, journal, page, s, write, pass);
+    let s = hands.take(undo.tx);
+    let came = undo_by(rt, alloc, journal, page, s, undo, pass);
     come_back(alloc, hands, came)
 }
 
@@ -288,7 +360,7 @@ fn undo_found<N: Life, J: Journaling<N>, R: Wait>(
     requires untold { (opening : List Record) → N.opens opening → ⊥ }
     requires spelled { IfSome found.now HasSpelling }
 {
-    let Some(Record::Write(write)) = found else {
+    let Some(write) = found else {
         return Ok(format!(in alloc; "no open write")?);
     };
     let mut out = undo_write(rt, alloc, journal, hands, write, pass)?;

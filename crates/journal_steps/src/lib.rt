@@ -11,7 +11,9 @@ mod ended;
 mod entering;
 mod groups;
 mod refused;
+mod rounds;
 mod steps;
 
 pub use refused::{Made, put_and_commit};
+pub use rounds::{Deed, Rounds, put_in_rounds};
 pub use steps::{Line, Step, play};

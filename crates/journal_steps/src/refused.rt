@@ -2,7 +2,7 @@
 ghost use Rattle.std.specs.Prelude.{List};
 ghost use Rattle.wal_record.specs.declared.record.Record.{Record};
 
-use crate::calls::{Hands, begin_one, lock_by};
+use crate::calls::{Hands, begin_one, commit_one, lock_one};
 use crate::entering::{Change, put_lsn};
 use books::PageRight;
 use front::Pass;
@@ -36,7 +36,7 @@ enum Call {
 }
 
 /// Transaction 1 locks the key.
-fn lock_one<N: Life, J: Journaling<N>, R: Wait>(
+fn lock_key<N: Life, J: Journaling<N>, R: Wait>(
     rt: &R,
     alloc: Global,
     journal: &mut J,
@@ -44,13 +44,8 @@ fn lock_one<N: Life, J: Journaling<N>, R: Wait>(
     key: &Key,
     pass: &mut Pass<Entry, N>,
 ) -> Result<bool, Fault> {
-    let Some(mut s) = hands.take(1) else {
-        return Err(Fault::NotActive);
-    };
     let range = KeyRange::point(key);
-    let granted = lock_by(rt, alloc, journal, &mut s, &range, Mode::Exclusive, pass);
-    hands.sessions.push(s)?;
-    match granted? {
+    match lock_one(rt, alloc, journal, hands, 1, &range, Mode::Exclusive, pass)? {
         Grant::Held(_) => Ok(true),
         Grant::Loser(_) => Ok(false),
     }
@@ -90,7 +85,7 @@ fn make<N: Life, J: Journaling<N>, R: Wait>(
 {
     match call {
         Call::Begin => Ok(begin_one(rt, alloc, journal, hands, pass)? == 1),
-        Call::Lock => lock_one(rt, alloc, journal, hands, key, pass),
+        Call::Lock => lock_key(rt, alloc, journal, hands, key, pass),
         Call::Put => put_value(rt, alloc, journal, hands, key, pass),
     }
 }
@@ -167,13 +162,7 @@ fn commit_first<N: Life, J: Journaling<N>, R: Wait>(
     hands: &mut Hands<N>,
     pass: &mut Pass<Entry, N>,
 ) -> bool {
-    let Some(mut s) = hands.take(1) else {
-        return false;
-    };
-    if s.tx() == 0 {
-        return false;
-    }
-    match journal.commit(rt, &mut s, pass) {
+    match commit_one(rt, journal, hands, 1, pass) {
         Ok(Committed { pos: _, number }) => number == 1 && journal.length(rt, pass) == 6,
         Err(_) => false,
     }

@@ -4,13 +4,13 @@ ghost use Rattle.wal_record.specs.declared.record.Record.{Record};
 
 use crate::calls::{Hands, begin, begin_all, commit, lock};
 use crate::ended::calls_ended;
-use crate::entering::{Change, end, lose, miss, put, restore, undo};
+use crate::entering::{Change, Operation, apply, end, lose, miss, put, restore, undo};
 use books::PageRight;
 use front::Pass;
 use page_ops::{Journaling, Life};
 use std::alloc::Global;
 use std::sync::Wait;
-use store_model::{Bound, Fault, Key, KeyRange, Mode, TxId, Value};
+use store_model::{Bound, Fault, Key, KeyRange, Mode, OpValue, TxId, Value};
 use wal_record::Entry;
 
 /// What is asked. The number is that of a transaction.
@@ -26,6 +26,9 @@ pub enum Step<'a> {
     Scan(TxId, Mode, &'a str, &'a str),
     /// Writes a key that has a value: puts another one, or deletes the key. An empty one stands for none.
     Put(TxId, &'a str, &'a str, &'a str),
+    /// Applies the operator of this number to a key that has a value, or none, which an empty text stands for; with an
+    /// argument.
+    Apply(TxId, u8, &'a str, &'a str, &'a str),
     /// So many take back the last open write, which they have seen.
     Undo(TxId, u32),
     End(TxId),
@@ -130,6 +133,36 @@ fn write<N: Life, J: Journaling<N>, R: Wait>(
     put(rt, alloc, journal, hands, tx, write, pass)
 }
 
+/// Applies an operator to a key.
+fn operate<N: Life, J: Journaling<N>, R: Wait>(
+    rt: &R,
+    alloc: Global,
+    journal: &mut J,
+    hands: &mut Hands<N>,
+    tx: TxId,
+    operator: u8,
+    texts: (&str, &str, &str),
+    pass: &mut Pass<Entry, N>,
+) -> Result<String, Fault>
+    requires untold { (opening : List Record) → N.opens opening → ⊥ }
+{
+    let (key, old, argument) = texts;
+    let old = value_of(old);
+    let Some(key) = Key::new(key.as_bytes()) else {
+        return Err(Fault::NotActive);
+    };
+    let Some(argument) = OpValue::new(argument.as_bytes()) else {
+        return Err(Fault::NotActive);
+    };
+    let asked = Operation {
+        key: &key,
+        old: &old,
+        operator,
+        argument: &argument,
+    };
+    apply(rt, alloc, journal, hands, tx, asked, pass)
+}
+
 /// What a step answers.
 fn answer<N: Life, J: Journaling<N>, R: Wait>(
     rt: &R,
@@ -151,6 +184,10 @@ fn answer<N: Life, J: Journaling<N>, R: Wait>(
         }
         Step::Put(tx, key, old, new) => {
             write(rt, alloc, journal, hands, tx, (key, old, new), pass)
+        }
+        Step::Apply(tx, operator, key, old, argument) => {
+            let texts = (key, old, argument);
+            operate(rt, alloc, journal, hands, tx, operator, texts, pass)
         }
         Step::Undo(tx, askers) => undo(rt, alloc, journal, hands, tx, askers, pass),
         Step::End(tx) => end(rt, alloc, journal, hands, tx, pass),

@@ -2,7 +2,7 @@
 use crate::lives::{Asked, formatted, live};
 use crate::locks::{A_SCAN, AN_END, BEGINS, LEAST_HOLDER};
 use crate::loser_lives::{LOSERS, LOSERS_LEFT, LOSERS_UNDONE, TWO_RESTORES};
-use crate::writes::{FAILED_COMMIT, FULL, THREE_WRITES, UNDONE_IN_PART};
+use crate::writes::{FAILED_COMMIT, FULL, FULL_BY_OPERATORS, THREE_WRITES, UNDONE_IN_PART};
 use journal_steps::{Line, Made};
 use std::alloc::Global;
 use std::sync::Wait;
@@ -35,7 +35,7 @@ fn each_call_tells_what_it_enters(rt: HostRuntime) -> Result<(), Fail> {
     for lines in [BEGINS, A_SCAN, LEAST_HOLDER, AN_END, TWO_RESTORES] {
         assert_eq!(rt; told(&rt, rt.alloc(), 12, None, lines)?.as_str(), "");
     }
-    for lines in [FULL, THREE_WRITES, UNDONE_IN_PART] {
+    for lines in [FULL, FULL_BY_OPERATORS, THREE_WRITES, UNDONE_IN_PART] {
         assert_eq!(rt; told(&rt, rt.alloc(), 8, None, lines)?.as_str(), "");
     }
     Ok(())

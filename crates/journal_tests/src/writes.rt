@@ -25,6 +25,28 @@ pub(crate) const FULL: &[Line<'static>] = &[
     (Step::Put(2, "f", "", "1"), "record 11 at 27"),
 ];
 
+/// The same for operators: six of them, and the seventh where one was taken back. The first three make n 5, 7 and 9, the others
+/// m 4, and t a and ab.
+pub(crate) const FULL_BY_OPERATORS: &[Line<'static>] = &[
+    (Step::Begin, "1 at 1"),
+    (Step::Scan(1, Exclusive, "a", ""), "held at 2"),
+    (Step::Apply(1, 1, "n", "", "5"), "record 2 at 4"),
+    (Step::Apply(1, 1, "n", "5", "2"), "record 3 at 6"),
+    (Step::Apply(1, 2, "n", "7", "9"), "record 4 at 8"),
+    (Step::Apply(1, 2, "m", "", "4"), "record 5 at 10"),
+    (Step::Apply(1, 3, "t", "", "a"), "record 6 at 12"),
+    (Step::Apply(1, 3, "t", "a", "b"), "record 7 at 14"),
+    (Step::Apply(1, 1, "n", "9", "1"), "full 1 6 at 15"),
+    (Step::Put(1, "z", "", ""), "record 0 at 16"),
+    (Step::Undo(1, 1), "record 8 at 17"),
+    (Step::Apply(1, 1, "n", "9", "1"), "record 9 at 19"),
+    (Step::Put(1, "z", "", "1"), "full 1 6 at 20"),
+    (Step::Commit(1), "commit 1 at 22"),
+    (Step::Begin, "2 at 23"),
+    (Step::Lock(2, Exclusive, "n"), "held at 24"),
+    (Step::Apply(2, 1, "n", "10", "1"), "record 11 at 26"),
+];
+
 /// The last of two writes is undone, as by an abort that is then refused, and the transaction commits.
 pub(crate) const UNDONE_IN_PART: &[Line<'static>] = &[
     (Step::Begin, "1 at 1"),
