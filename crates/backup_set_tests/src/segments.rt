@@ -98,23 +98,16 @@ fn field_at(byte: usize) -> u64 {
     }
 }
 
-/// Whether this byte is tried: each of the first ones, behind which the image has one fault alone, and some of the others.
-fn is_tried(at: usize) -> bool {
-    at < 80 || at % 100 == 0 || at == 4115
-}
-
 #[test]
 fn a_cut_object_is_named_at_the_field_that_is_cut(rt: HostRuntime) -> Result<(), Fail> {
     let bytes = object(rt.alloc())?;
     for len in 0..bytes.len() {
-        if is_tried(len) {
-            let (front, _) = bytes.as_slice().split_at(len);
-            assert_eq!(rt;
-                answer_of(rt.alloc(), front),
-                Answer::BadAt(field_at(len)),
-                "{len}"
-            );
-        }
+        let (front, _) = bytes.as_slice().split_at(len);
+        assert_eq!(rt;
+            answer_of(rt.alloc(), front),
+            Answer::BadAt(field_at(len)),
+            "{len}"
+        );
     }
     assert_eq!(rt; answer_of(rt.alloc(), &bytes), Answer::Found);
     Ok(())
@@ -133,9 +126,6 @@ fn changed(alloc: Global, bytes: &[u8], at: usize) -> Result<Answer, AllocError>
 fn a_changed_byte_is_named_at_its_field(rt: HostRuntime) -> Result<(), Fail> {
     let bytes = object(rt.alloc())?;
     for at in 0..bytes.len() {
-        if !is_tried(at) {
-            continue;
-        }
         let wanted = if at == 19 {
             Answer::Found
         } else {

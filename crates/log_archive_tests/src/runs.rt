@@ -3,10 +3,11 @@ ghost use Rattle.std.specs.Prelude.{◌≤◌};
 
 use crate::records::Three;
 use crate::tables::{CHANGED, CUT, PARTS, Wanted};
-use log_archive::{items_of, make_run, merge_runs, records_of};
+use log_archive::{RUN_BYTES, Reads, RunItems, items_of, make_run, merge_runs, records_of};
 use media::{Fuse, Vault};
 use media_mem::MemVault;
 use std::alloc::{AllocError, Global};
+use std::sync::Wait;
 use std::test::Fail;
 use store_model::{Fault, Lsn, ObjectKind, ObjectName, PageNo};
 use wal_record::Run;
@@ -158,6 +159,34 @@ fn a_run_is_one_put_and_one_sync(rt: HostRuntime) -> Result<(), Fail> {
         vault.arm(0);
         assert_eq!(rt; read(rt.alloc(), &mut vault, 1, 1), Answer::VaultFault);
     }
+    Ok(())
+}
+
+/// Whether the record of this LSN is added, where the items then have at most so many bytes.
+fn is_added<R: Wait>(
+    rt: &R,
+    alloc: Global,
+    items: &mut RunItems,
+    lsn: Lsn,
+    most: usize,
+) -> Result<bool, Fault> {
+    let rec = Three.read(rt, alloc, lsn)?;
+    Ok(items.add(alloc, lsn, &rec, most.min(RUN_BYTES))?)
+}
+
+/// The items have 17, 48 and twice 43 bytes. One byte less isn't enough, and the items stay as they were.
+#[test]
+fn a_record_is_added_up_to_the_last_byte_that_there_may_be(rt: HostRuntime) -> Result<(), Fail> {
+    let mut items = RunItems::new(rt.alloc());
+    for (lsn, less, enough) in [(1, 16, 17), (2, 64, 65), (3, 150, 151)] {
+        assert!(rt; !is_added(&rt, rt.alloc(), &mut items, lsn, less)?, "{lsn}");
+        assert!(rt;
+            is_added(&rt, rt.alloc(), &mut items, lsn, enough)?,
+            "{lsn}"
+        );
+    }
+    let bytes = items.bytes(rt.alloc(), 5, 1, 3)?;
+    assert!(rt; bytes.as_slice() == object(rt.alloc())?.as_slice());
     Ok(())
 }
 
