@@ -1,6 +1,7 @@
 //! A store with one empty leaf, which one thread owns, over the journal of a life of which no opening log is known.
-ghost use Rattle.std.specs.Prelude.{◌≡◌, List, [], ◌∷◌, ◌++◌, None, IfOk, IfSome};
+ghost use Rattle.std.specs.Prelude.{◌≡◌, ℕ, List, [], ◌∷◌, ◌++◌, None, Some, IfOk, IfSome};
 ghost use Rattle.books.specs.Booking.{entry, entry_of};
+ghost use Rattle.books.specs.declared.entry.BookEntry.{BookEntry};
 ghost use Rattle.wal_record.specs.State.{KeepsState};
 ghost use Rattle.wal_record.specs.declared.record.Record.{Record};
 
@@ -87,7 +88,6 @@ pub struct Planted<'a, L: Disk, N: Life> {
 }
 
 /// Page 1 is in its frame.
-#[tactic(auto, using(crate::proofs::Begun::one_page))]
 pub fn plant<'a, L: Disk, N: Life>(
     alloc: Global,
     ground: &'a Ground<N>,
@@ -103,6 +103,29 @@ pub fn plant<'a, L: Disk, N: Life>(
     requires pages { tokens.books.pages ≡ [] }
     requires sessions { tokens.books.sessions ≡ [] }
     requires maint { tokens.books.maint ≡ [] }
+    requires open { log.log.log.ended ≡ None }
+    requires keeps { KeepsState state }
+{
+    plant_beside(alloc, ground, tokens, log, state, frames)
+}
+
+/// The same, where the right to maintenance may be with somebody already.
+#[tactic(auto, using(crate::proofs::Begun::one_page))]
+pub fn plant_beside<'a, L: Disk, N: Life>(
+    alloc: Global,
+    ground: &'a Ground<N>,
+    tokens: Tokens<N>,
+    log: ListedLog<L>,
+    state: PageState,
+    frames: Frames<N>,
+) -> Planted<'a, L, N>
+    requires untold { (opening : List Record) → N.opens opening → ⊥ }
+    requires parts { (N.entries.parts ≡ 1) × (N.session_entries.parts ≡ 1) × (N.log_faults.parts ≡ 1) × (N.vault_faults.parts ≡ 1) × (N.made.parts ≡ 1) }
+    requires front { tokens.front ≡ [] }
+    requires mark { tokens.mark ≡ 0 }
+    requires pages { tokens.books.pages ≡ [] }
+    requires sessions { tokens.books.sessions ≡ [] }
+    requires maint { (n : ℕ) (e : BookEntry) → entry_of n tokens.books.maint ≡ Some e → (n ≡ 0) × (e.first ≡ 0) }
     requires open { log.log.log.ended ≡ None }
     requires keeps { KeepsState state }
 {
