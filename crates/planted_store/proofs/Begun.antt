@@ -5,7 +5,6 @@ use Rattle.std.specs.Int.{w32}
 use Rattle.books.specs.Booking.{entry, entry_of}
 use Rattle.books.specs.declared.entry.BookEntry.{BookEntry}
 use Rattle.log_manager.specs.Payload.{bytes_of}
-use Rattle.store_model.specs.Along.{along}
 use Rattle.wal_record.specs.Books.{maintenance_book}
 use Rattle.wal_record.specs.Spelling.{spelling, number_bytes}
 use Rattle.wal_record.specs.declared.record.Format.{Format}
@@ -23,10 +22,6 @@ format_size f = let e = length-u32 f.limit in omega (arith, e, length-append (sp
 pub one_page : (b : List BookEntry) (n : ℕ) → b ≡ [] ++ entry 1 1 0 ∷ [] → 2 ≤ n → entry_of n b ≡ None
 one_page b n is low = ap (entry_of n) is ∙ ap (λ (t : Bool). cond t (Some (entry 1 1 0)) None) (ne_eqb 1 n (λ e. omega (arith, e, low)))
 
-pub none_named : maintenance_book [] ≡ 0
-unfolding maintenance_book along
-none_named = refl
-
 -- an empty book has no entry
-pub none_given : (b : List BookEntry) → b ≡ [] → (n : ℕ) (e : BookEntry) → entry_of n b ≡ Some e → (n ≡ 0) × (e.first ≡ 0)
+pub none_given : (b : List BookEntry) → b ≡ [] → (n : ℕ) (e : BookEntry) → entry_of n b ≡ Some e → (n ≡ 0) × (e.first ≡ maintenance_book [])
 none_given b is n e found = let no : Some e ≡ None = sym found ∙ ap (entry_of n) is in absurd (cc no)

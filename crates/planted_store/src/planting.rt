@@ -2,6 +2,7 @@
 ghost use Rattle.std.specs.Prelude.{◌≡◌, ℕ, List, [], ◌∷◌, ◌++◌, None, Some, IfOk, IfSome};
 ghost use Rattle.books.specs.Booking.{entry, entry_of};
 ghost use Rattle.books.specs.declared.entry.BookEntry.{BookEntry};
+ghost use Rattle.wal_record.specs.Books.{maintenance_book};
 ghost use Rattle.wal_record.specs.State.{KeepsState};
 ghost use Rattle.wal_record.specs.declared.record.Record.{Record};
 
@@ -125,7 +126,7 @@ pub fn plant_beside<'a, L: Disk, N: Life>(
     requires mark { tokens.mark ≡ 0 }
     requires pages { tokens.books.pages ≡ [] }
     requires sessions { tokens.books.sessions ≡ [] }
-    requires maint { (n : ℕ) (e : BookEntry) → entry_of n tokens.books.maint ≡ Some e → (n ≡ 0) × (e.first ≡ 0) }
+    requires maint { (n : ℕ) (e : BookEntry) → entry_of n tokens.books.maint ≡ Some e → (n ≡ 0) × (e.first ≡ maintenance_book []) }
     requires open { log.log.log.ended ≡ None }
     requires keeps { KeepsState state }
 {

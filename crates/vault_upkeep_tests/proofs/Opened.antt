@@ -16,5 +16,7 @@ one_entry n e found = by (eqb 0 n) refl found
     by true is found = let same : entry 0 0 0 ≡ e = cc found in (sym (eqb-true 0 n is), ap (λ (x : BookEntry). x.first) (sym same))
     by false is found = absurd (cc found)
 
-pub opened : (before maint : List BookEntry) → before ≡ [] → maint ≡ before ++ entry 0 0 0 ∷ [] → (n : ℕ) (e : BookEntry) → entry_of n maint ≡ Some e → (n ≡ 0) × (e.first ≡ 0)
-opened before maint empty more n e found = one_entry n e (sym (ap (entry_of n) (more ∙ ap (λ (es : List BookEntry). es ++ entry 0 0 0 ∷ []) empty)) ∙ found)
+pub opened : (before maint : List BookEntry) → before ≡ [] → maint ≡ before ++ entry 0 0 0 ∷ [] → (n : ℕ) (e : BookEntry) → entry_of n maint ≡ Some e → (n ≡ 0) × (e.first ≡ maintenance_book [])
+opened before maint empty more n e found =
+    let one = one_entry n e (sym (ap (entry_of n) (more ∙ ap (λ (es : List BookEntry). es ++ entry 0 0 0 ∷ []) empty)) ∙ found) in
+    (one.0, one.1 ∙ sym none_named)
