@@ -111,7 +111,6 @@ pub fn plant<'a, L: Disk, N: Life>(
 }
 
 /// The same, where the right to maintenance may be with somebody already.
-#[tactic(auto, using(crate::proofs::Begun::one_page))]
 pub fn plant_beside<'a, L: Disk, N: Life>(
     alloc: Global,
     ground: &'a Ground<N>,
