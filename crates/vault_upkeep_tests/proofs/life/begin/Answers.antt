@@ -17,5 +17,5 @@ new-objects-requires-clause-told g c = inr c.requires.untold
 pub new-objects-requires-clause-named : goal.new-objects-requires-clause-named
 new-objects-requires-clause-named g c = λ t opening name bytes stands is. absurd (c.requires.untold opening stands)
 
-pub plant_beside-requires-clause-maint : goal.plant_beside-requires-clause-maint
-plant_beside-requires-clause-maint g c = opened _ _ c.requires.maint c.open.ensures.book
+pub plant_beside-journal-requires-clause-maint : goal.plant_beside-journal-requires-clause-maint
+plant_beside-journal-requires-clause-maint g c = opened _ _ c.requires.maint c.open.ensures.book
