@@ -60,7 +60,7 @@ fn refusal(fault: Fault) -> Answer {
 
 fn done<T: Drop>(answered: Result<T, Fault>) -> Answer {
     match answered {
-        Ok(_) => Answer::Done,
+        Ok(_done) => Answer::Done,
         Err(fault) => refusal(fault),
     }
 }
