@@ -35,7 +35,8 @@ use wal_record::Entry;
 #[derive(Drop)]
 pub struct PlainPool<I, S, N: Life> {
     images: I,
-    supply: S,
+    /// What the pages come from that the device doesn't give; a vault may stand behind it.
+    pub supply: S,
     frames: Frames<N>,
     plan: RestartPlan,
     out: u32,
@@ -84,6 +85,30 @@ impl<I, S, N: Life> PlainPool<I, S, N> {
     {
         let PlainPool { images, supply, .. } = self;
         (images, supply)
+    }
+
+    /// The pool over another supply, and the one that it had.
+    pub fn resupplied<T>(self, supply: T) -> (PlainPool<I, T, N>, S)
+        ensures pages { (result.0.frames ≡ self.frames) × (result.0.out ≡ self.out) × (result.0.reserves ≡ self.reserves) × (result.0.plan ≡ self.plan) }
+        ensures parts { (result.0.images ≡ self.images) × (result.0.supply ≡ supply) × (result.1 ≡ self.supply) }
+    {
+        let PlainPool {
+            images,
+            supply: before,
+            frames,
+            plan,
+            out,
+            reserves,
+        } = self;
+        let pool = PlainPool {
+            images,
+            supply,
+            frames,
+            plan,
+            out,
+            reserves,
+        };
+        (pool, before)
     }
 
     /// The least page above this one that is dirty in its frame.

@@ -1,7 +1,9 @@
 //! A vault that one thread owns.
 ghost use Rattle.std.specs.Prelude.{◌≡◌, ◌⊎◌, None};
-ghost use Rattle.page_ops.specs.Causes.{IsUntold};
+ghost use Rattle.media.specs.Counted.{Armed};
+ghost use Rattle.page_ops.specs.Causes.{IsUntold, MeetsNoFault};
 ghost use Rattle.page_ops.specs.Claims.{MaintAgrees};
+ghost use Rattle.page_ops.specs.Seeing.{Looks};
 ghost use Rattle.named_objects.specs.Drafts.{Owned};
 ghost use Rattle.named_objects.specs.Named.{AreNamed};
 
@@ -61,11 +63,34 @@ impl<V: Vault, N: Life> OwnObjects<V, N> {
         }
     }
 
-    /// The vault.
-    pub fn into_vault(self) -> V
-        ensures { result ≡ self.vault }
+    /// Arms the vault's fuse, which lets n more calls pass, or renews it.
+    pub fn fuse(&mut self, n: Option<u64>)
+        ensures fuse { Armed V.fuses V.passes V.refused V.own n self.old.vault self.new.vault }
+        ensures faults { V.faults self.new.vault ≡ V.faults self.old.vault }
+        ensures draft { self.new.draft ≡ self.old.draft }
     {
-        let OwnObjects { vault, .. } = self;
+        self.vault.fuse(n);
+    }
+
+    /// The vault, as the life leaves it. The pass then has seen the whole history, and each object that it names is synced.
+    pub fn into_vault<J: Entering<N>, R: Wait>(
+        self,
+        rt: &R,
+        journal: &mut J,
+        pass: &mut Pass<Entry, N>,
+    ) -> V
+        ensures vault { result ≡ self.vault }
+        ensures named { V.tells → AreNamed N.opens V.told pass.new.log result }
+        ensures seen { Looks N.opens N.entries N.session_entries (J.account journal.old) pass.old (J.account journal.new) pass.new }
+        ensures calm { MeetsNoFault (J.account journal.old) (J.account journal.new) }
+    {
+        let OwnObjects {
+            vault,
+            mut right,
+            pass: mut own,
+            ..
+        } = self;
+        look(rt, journal, &mut right, &mut own, pass);
         vault
     }
 }
