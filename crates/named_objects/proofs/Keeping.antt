@@ -19,7 +19,6 @@ use Rattle.claim_laws.specs.Suiting.{Suits, Pins}
 use Rattle.claim_laws.specs.Upkeep.{SameMaintenance}
 use Rattle.claim_laws.proofs.Suiting.{suiting_law}
 use Rattle.claim_laws.proofs.Upkeep.{books_law}
-use Rattle.page_ops.specs.Causes.{IsUntold}
 use Rattle.page_ops.specs.Claims.{MaintAgrees}
 use Rattle.page_ops.specs.Seeing.{IsConsistent}
 use Rattle.page_ops.proofs.Staying.{longer_log}
@@ -71,7 +70,7 @@ means_later opens h now n bytes begins m opening later stands goes = m opening l
 module _ {V : Type 0} (opens : List Record → Type 0) (tells : Type 0) (told : V → ObjectName → Stored) where
   -- what a vault keeps with its draft, after what its pass has seen
   abbrev pub Holds : Option MaintClaim → List Entry → V → Option Draft → Type 0
-  Holds m h vault draft = IsSome m × IfSome m (MaintAgrees h) × (tells ⊎ IsUntold opens) × (tells → AreNamed opens told h vault) × IfSome draft (IsDraft opens tells told h vault)
+  Holds m h vault draft = IsSome m × IfSome m (MaintAgrees h) × ((opening : List Record) → opens opening → tells) × (tells → AreNamed opens told h vault) × IfSome draft (IsDraft opens tells told h vault)
 
   -- ---- the history goes on
 
@@ -94,17 +93,14 @@ module _ {V : Type 0} (opens : List Record → Type 0) (tells : Type 0) (told : 
 
   -- ---- a get
 
-  pub read : (h : List Entry) (vault : V) (name : ObjectName) (from : ℕ) (old new : List ℕ) {E : Type 0} (result : Result ℕ E) → tells ⊎ IsUntold opens → (tells → AreNamed opens told h vault)
+  pub read : (h : List Entry) (vault : V) (name : ObjectName) (from : ℕ) (old new : List ℕ) {E : Type 0} (result : Result ℕ E) → ((opening : List Record) → opens opening → tells) → (tells → AreNamed opens told h vault)
       → (tells → IfOk result (λ n. n ≡ min (length old) (length (bytes_of (told vault name)) - from))) → (tells → IfOk result (λ n. new ≡ take n (drop from (bytes_of (told vault name))) ++ drop n old))
       → IfOk result (IsNamedPiece opens h name from old new)
   read h vault name from old new (Err e) which named count gives = tt
   read h vault name from old new (Ok n) which named count gives = λ opening bytes stands is.
-      elim which [
-        | inl t ↦
-            let there : bytes_of (told vault name) ≡ bytes = ap bytes_of (named t opening name bytes stands is) in
-            (count t ∙ ap (λ (b : List ℕ). min (length old) (length b - from)) there, gives t ∙ ap (λ (b : List ℕ). take n (drop from b) ++ drop n old) there)
-        | inr untold ↦ absurd (untold opening stands)
-      ]
+      let t = which opening stands in
+      let there : bytes_of (told vault name) ≡ bytes = ap bytes_of (named t opening name bytes stands is) in
+      (count t ∙ ap (λ (b : List ℕ). min (length old) (length b - from)) there, gives t ∙ ap (λ (b : List ℕ). take n (drop from b) ++ drop n old) there)
 
   same_draft : (h : List Entry) (old new : V) (draft : Option Draft) → (tells → SameObjects (told old) (told new)) → IfSome draft (IsDraft opens tells told h old) → IfSome draft (IsDraft opens tells told h new)
   same_draft h old new None same d = tt

@@ -1,9 +1,10 @@
 //! A vault that one thread owns.
-ghost use Rattle.std.specs.Prelude.{◌≡◌, ◌⊎◌, None};
+ghost use Rattle.std.specs.Prelude.{◌≡◌, List, None};
 ghost use Rattle.media.specs.Counted.{Armed};
-ghost use Rattle.page_ops.specs.Causes.{IsUntold, MeetsNoFault};
+ghost use Rattle.page_ops.specs.Causes.{MeetsNoFault};
 ghost use Rattle.page_ops.specs.Claims.{MaintAgrees};
 ghost use Rattle.page_ops.specs.Seeing.{Looks};
+ghost use Rattle.wal_record.specs.declared.record.Record.{Record};
 ghost use Rattle.named_objects.specs.Drafts.{Owned};
 ghost use Rattle.named_objects.specs.Named.{AreNamed};
 
@@ -32,8 +33,8 @@ pub struct OwnObjects<V: Vault, N: Life> {
 }
 
 impl<V: Vault, N: Life> Model for OwnObjects<V, N> {
-    ghost use Rattle.std.specs.Prelude.{◌⊎◌, IfSome, IsSome};
-    ghost use Rattle.page_ops.specs.Causes.{IsUntold};
+    ghost use Rattle.std.specs.Prelude.{List, IfSome, IsSome};
+    ghost use Rattle.wal_record.specs.declared.record.Record.{Record};
     ghost use Rattle.page_ops.specs.Claims.{MaintAgrees};
     ghost use Rattle.named_objects.specs.Drafts.{IsDraft, Owned};
     ghost use Rattle.named_objects.specs.Named.{AreNamed};
@@ -42,16 +43,16 @@ impl<V: Vault, N: Life> Model for OwnObjects<V, N> {
 
     ghost view = { λ o. record { vault = o.vault; draft = o.draft } };
 
-    ghost invariant = { λ o. IsSome o.right × IfSome o.right (MaintAgrees o.pass.log) × (V.tells ⊎ IsUntold N.opens)
+    ghost invariant = { λ o. IsSome o.right × IfSome o.right (MaintAgrees o.pass.log) × ((opening : List Record) → N.opens opening → V.tells)
         × (V.tells → AreNamed N.opens V.told o.pass.log o.vault) × IfSome o.draft (IsDraft N.opens V.tells V.told o.pass.log o.vault) };
 }
 
 impl<V: Vault, N: Life> OwnObjects<V, N> {
-    /// The vault of a life, whose named objects are named by what this pass has seen. A vault that doesn't tell is that of a
-    /// life of which no opening log is known.
+    /// The vault of a life, whose named objects are named by what this pass has seen. An opening log is known only where the
+    /// vault tells what it holds.
     pub fn new(vault: V, right: MaintRight<N>, pass: Pass<Entry, N>) -> OwnObjects<V, N>
         requires right { MaintAgrees pass.log right }
-        requires told { V.tells ⊎ IsUntold N.opens }
+        requires told { (opening : List Record) → N.opens opening → V.tells }
         requires named { V.tells → AreNamed N.opens V.told pass.log vault }
         ensures { result ≡ record { vault = vault; draft = None } }
     {

@@ -12,7 +12,7 @@ use Rattle.script.specs.declared.command.Device.TheVariants.{Log, Data, Vault}
 use Rattle.transcript.specs.Printing.{escaped, shown}
 use Rattle.transcript.specs.declared.upkeep.Stat.{Stat}
 use Rattle.transcript.specs.declared.upkeep.Upkeep.{Upkeep}
-use Rattle.transcript.specs.declared.upkeep.Upkeep.TheVariants.{Checkpoint, Lose, Help, Close}
+use Rattle.transcript.specs.declared.upkeep.Upkeep.TheVariants.{Checkpoint, Backup, Lose, Help, Close}
 
 abbrev pub line : List ℕ → List ℕ → List ℕ
 line head answer = head ++ answer ++ codes "\n"
@@ -90,12 +90,17 @@ ended_line head at = head ++ codes " ended " ++ decimal at ++ codes "\n"
 
 abbrev pub upkeep_head : Upkeep → List ℕ
 upkeep_head Checkpoint = codes "checkpoint"
+upkeep_head Backup = codes "backup"
 upkeep_head Lose = codes "lose"
 upkeep_head Help = codes "help"
 upkeep_head Close = codes "close"
 
 abbrev pub upkeep_line : Upkeep → List ℕ
 upkeep_line word = upkeep_head word ++ codes " ok\n"
+
+-- so many runs were made
+abbrev pub archive_line : ℕ → List ℕ
+archive_line runs = codes "archive runs=" ++ decimal runs ++ codes "\n"
 
 abbrev pub stat_line : Stat → List ℕ
 stat_line s =

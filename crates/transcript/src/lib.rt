@@ -30,7 +30,8 @@ pub use requests::{
     request_conflict, request_ended, request_failed, request_full, request_lines, request_refused,
 };
 pub use upkeep::{
-    Stat, Upkeep, stat_ended, stat_failed, stat_line, upkeep_ended, upkeep_failed, upkeep_line,
+    Stat, Upkeep, archive_ended, archive_failed, archive_line, stat_ended, stat_failed, stat_line,
+    upkeep_ended, upkeep_failed, upkeep_line,
 };
 
 /// The token law: each text of bytes is printed as a token that a script reads as that text.

@@ -1,7 +1,7 @@
 //! The lines of words without a transaction, by which a store is kept up and looked at.
 ghost use Rattle.std.specs.Prelude.{◌≡◌, ◌++◌, IfOk, OnOk, codes};
 ghost use Rattle.std.specs.Fmt.{decimal};
-ghost use Rattle.transcript.specs.Lines.{failed_line, ended_line, upkeep_head, upkeep_line, stat_line};
+ghost use Rattle.transcript.specs.Lines.{archive_line, failed_line, ended_line, upkeep_head, upkeep_line, stat_line};
 
 use crate::endings::{ended_line, failed_line};
 use crate::pieces::{add, add_number, begun};
@@ -13,6 +13,7 @@ use store_model::Lsn;
 #[derive(Clone, Copy)]
 pub enum Upkeep {
     Checkpoint,
+    Backup,
     Lose,
     /// `help N`, whatever the number.
     Help,
@@ -43,6 +44,7 @@ fn upkeep_head(alloc: Global, word: Upkeep) -> Result<Vec<u8>, AllocError>
 {
     match word {
         Upkeep::Checkpoint => begun(alloc, b"checkpoint".as_slice()),
+        Upkeep::Backup => begun(alloc, b"backup".as_slice()),
         Upkeep::Lose => begun(alloc, b"lose".as_slice()),
         Upkeep::Help => begun(alloc, b"help".as_slice()),
         Upkeep::Close => begun(alloc, b"close".as_slice()),
@@ -70,6 +72,30 @@ pub fn upkeep_ended(alloc: Global, word: Upkeep, at: Lsn) -> Result<Vec<u8>, All
     ensures { IfOk result (λ out. out.items ≡ ended_line (upkeep_head word) at) }
 {
     ended_line(upkeep_head(alloc, word)?, at)
+}
+
+/// `archive runs=N`, the runs that were made.
+pub fn archive_line(alloc: Global, runs: u64) -> Result<Vec<u8>, AllocError>
+    ensures { IfOk result (λ out. out.items ≡ archive_line runs) }
+{
+    let mut out = begun(alloc, b"archive".as_slice())?;
+    add_count(&mut out, b" runs=".as_slice(), runs)?;
+    add(&mut out, b"\n".as_slice())?;
+    Ok(out)
+}
+
+/// `archive log failed`, and so of each device.
+pub fn archive_failed(alloc: Global, device: Device) -> Result<Vec<u8>, AllocError>
+    ensures { IfOk result (λ out. out.items ≡ failed_line (codes "archive") device) }
+{
+    failed_line(begun(alloc, b"archive".as_slice())?, device)
+}
+
+/// `archive ended N`.
+pub fn archive_ended(alloc: Global, at: Lsn) -> Result<Vec<u8>, AllocError>
+    ensures { IfOk result (λ out. out.items ≡ ended_line (codes "archive") at) }
+{
+    ended_line(begun(alloc, b"archive".as_slice())?, at)
 }
 
 fn add_count(out: &mut Vec<u8>, field: &[u8], count: u64) -> Result<(), AllocError>

@@ -3,9 +3,9 @@ use script::{Device, Name};
 use std::str;
 use std::test::Fail;
 use transcript::{
-    Stat, Upkeep, abort_ended, abort_failed, abort_line, begin_refused, commit_ended,
-    commit_failed, damage_line, fuse_line, renew_line, stat_ended, stat_failed, stat_line,
-    upkeep_ended, upkeep_failed, upkeep_line,
+    Stat, Upkeep, abort_ended, abort_failed, abort_line, archive_ended, archive_failed,
+    archive_line, begin_refused, commit_ended, commit_failed, damage_line, fuse_line, renew_line,
+    stat_ended, stat_failed, stat_line, upkeep_ended, upkeep_failed, upkeep_line,
 };
 
 /// These bytes, if they are text.
@@ -49,6 +49,12 @@ fn words_answered_by_ok(rt: HostRuntime) -> Result<(), Fail> {
             "checkpoint ended 1\n",
         ),
         (
+            Upkeep::Backup,
+            "backup ok\n",
+            "backup log failed\n",
+            "backup ended 1\n",
+        ),
+        (
             Upkeep::Lose,
             "lose ok\n",
             "lose log failed\n",
@@ -88,6 +94,17 @@ fn faults_that_a_script_asks_for(rt: HostRuntime) -> Result<(), Fail> {
         assert_eq!(rt; text_of(&renew_line(alloc, device)?), renew);
     }
     assert_eq!(rt; text_of(&damage_line(alloc, 16384)?), "damage 16384\n");
+    Ok(())
+}
+
+#[test]
+fn an_archive_tells_its_runs(rt: HostRuntime) -> Result<(), Fail> {
+    let alloc = rt.alloc();
+    assert_eq!(rt; text_of(&archive_line(alloc, 0)?), "archive runs=0\n");
+    assert_eq!(rt; text_of(&archive_line(alloc, 12)?), "archive runs=12\n");
+    let failed = archive_failed(alloc, Device::Vault)?;
+    assert_eq!(rt; text_of(&failed), "archive vault failed\n");
+    assert_eq!(rt; text_of(&archive_ended(alloc, 7)?), "archive ended 7\n");
     Ok(())
 }
 

@@ -1,4 +1,4 @@
-use Rattle.std.proofs.Common.{◌≡◌, List, [], ap, sym, ◌∙◌, inr}
+use Rattle.std.proofs.Common.{◌≡◌, List, [], ap, sym, ◌∙◌}
 use Rattle.books.specs.Rights.{MaintClaim, maint_claim}
 use Rattle.front.specs.Seen.{PassSeen}
 use Rattle.wal_record.specs.Books.{maintenance_book}
@@ -15,7 +15,7 @@ new-objects-requires-clause-right g c =
     ap (λ (m : MaintClaim). m.lsn) (c.of-right.ensures ∙ ap maint_claim c.open.ensures.right) ∙ sym none_named ∙ ap maintenance_book (sym begun)
 
 pub new-objects-requires-clause-told : goal.new-objects-requires-clause-told
-new-objects-requires-clause-told g c = inr c.requires.untold
+new-objects-requires-clause-told g c = λ opening stands. absurd (c.requires.untold opening stands)
 
 pub new-objects-requires-clause-named : goal.new-objects-requires-clause-named
 new-objects-requires-clause-named g c = λ t opening name bytes stands is. absurd (c.requires.untold opening stands)
