@@ -78,7 +78,7 @@ module _ {V : Type 0} (opens : List Record → Type 0) (tells : Type 0) (told : 
   draft_later h now vault None begins d = tt
   draft_later h now vault (Some x) begins d = record { bytes = d.bytes; means = means_later opens h now x.naming d.bytes begins d.means; stored = d.stored; durable = d.durable }
 
-  named_later : (h now : List Entry) (vault : V) → (tells → AreNamed opens told h vault) → IsPrefix h now → IsConsistent opens now → maintenance_book now ≡ maintenance_book h → tells → AreNamed opens told now vault
+  pub named_later : (h now : List Entry) (vault : V) → (tells → AreNamed opens told h vault) → IsPrefix h now → IsConsistent opens now → maintenance_book now ≡ maintenance_book h → tells → AreNamed opens told now vault
   named_later h now vault named begins consistent still t opening name bytes stands is = named t opening name bytes stands (named_still opens h now opening name bytes begins consistent still stands is)
 
   pub looked : (m : Option MaintClaim) (h now : List Entry) (vault : V) (draft : Option Draft) → Holds m h vault draft → IsPrefix h now → IsConsistent opens now → IfSome m (MaintAgrees now) → Holds m now vault draft

@@ -1,9 +1,7 @@
 //! A vault that one thread owns.
 ghost use Rattle.std.specs.Prelude.{◌≡◌, List, None};
 ghost use Rattle.media.specs.Counted.{Armed};
-ghost use Rattle.page_ops.specs.Causes.{MeetsNoFault};
 ghost use Rattle.page_ops.specs.Claims.{MaintAgrees};
-ghost use Rattle.page_ops.specs.Seeing.{Looks};
 ghost use Rattle.wal_record.specs.declared.record.Record.{Record};
 ghost use Rattle.named_objects.specs.Drafts.{Owned};
 ghost use Rattle.named_objects.specs.Named.{AreNamed};
@@ -73,26 +71,21 @@ impl<V: Vault, N: Life> OwnObjects<V, N> {
         self.vault.fuse(n);
     }
 
-    /// The vault, as the life leaves it. The pass then has seen the whole history, and each object that it names is synced.
-    pub fn into_vault<J: Entering<N>, R: Wait>(
-        self,
-        rt: &R,
-        journal: &mut J,
-        pass: &mut Pass<Entry, N>,
-    ) -> V
-        ensures vault { result ≡ self.vault }
-        ensures named { V.tells → AreNamed N.opens V.told pass.new.log result }
-        ensures seen { Looks N.opens N.entries N.session_entries (J.account journal.old) pass.old (J.account journal.new) pass.new }
-        ensures calm { MeetsNoFault (J.account journal.old) (J.account journal.new) }
+    /// The vault, the right to maintenance, and a pass: each object that is named by what this has seen is synced, and the right
+    /// agrees with it.
+    pub fn into_parts(self) -> (V, MaintRight<N>, Pass<Entry, N>)
+        ensures vault { result.0 ≡ self.vault }
+        ensures right { MaintAgrees result.2.log result.1 }
+        ensures named { V.tells → AreNamed N.opens V.told result.2.log result.0 }
     {
         let OwnObjects {
             vault,
-            mut right,
-            pass: mut own,
+            right,
+            pass,
             ..
         } = self;
-        look(rt, journal, &mut right, &mut own, pass);
-        vault
+        let Some(right) = right else { unreachable!() };
+        (vault, right, pass)
     }
 }
 
