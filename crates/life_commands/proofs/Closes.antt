@@ -3,6 +3,7 @@ use Rattle.std.proofs.Common.{◌≡◌, ℕ, ◌<◌, ◌≤◌, true, false, L
 use Rattle.std.specs.List.{All}
 use Rattle.media.specs.declared.disk.Disk.{Ghosts}
 use Rattle.media.specs.declared.pages.PageDevice as pages
+use Rattle.media.specs.declared.vault.Vault as vaults
 use Rattle.wal_record.specs.History.{life_log}
 use Rattle.wal_record.specs.declared.record.Record.{Record}
 use Rattle.wal_record.specs.declared.entry.Entry.{Entry}
@@ -17,17 +18,17 @@ use Rattle.script.specs.declared.command.Device.TheVariants.{Log}
 use Rattle.transcript.specs.Lines.{ended_line, failed_line, upkeep_line}
 use Rattle.transcript.specs.declared.upkeep.Upkeep.TheVariants as upkeeps
 use Rattle.life_commands.specs.Bytes.{Known}
-use Rattle.life_commands.specs.Images.{AreImagesOf}
 use Rattle.life_commands.specs.LogDisk.{Keeps, View, seen}
-use Rattle.life_commands.specs.Living.{Adds, IsArmed, IsDeviceOf, IsDiskOf, IsFused, Out, Within}
+use Rattle.life_commands.specs.Living.{Adds, AreBeside, IsArmed, IsDiskOf, IsFused, Out, Within}
 use Rattle.life_commands.specs.Promises.{Closed}
 use Rattle.life_commands.specs.Rows.{IsCutOff, is_lawful, no_name}
+use Rattle.life_commands.specs.Stores.{AreOf, stores}
 use Rattle.life_commands.specs.Text.{head}
 use Rattle.life_commands.specs.Turns.{Done, Ended, Found, IsRightLife, Last, LeftBy, Life, LogFault, Stage, bytes_after, last_after, last_turn, lives, log_of_life, longer, over, with_entries}
 use Rattle.life_commands.proofs.Commands as c
 use Rattle.life_commands.proofs.Ends.{IsCut}
 use Rattle.life_commands.proofs.Entered.{enters_own}
-use Rattle.life_commands.proofs.Images.{images_found, images_left, left_whole}
+use Rattle.life_commands.proofs.Images.{left_whole, stores_found, stores_left}
 use Rattle.life_commands.proofs.Lives.{disk_seen, keeps_map, life_keeps, right_more}
 
 -- ---- names
@@ -77,10 +78,10 @@ module _ {D : Type 0} (L : Ghosts D) (opens : List Record → Type 0) (x : LifeS
     part = tt;
   }
 
-  module _ {E : Type 0} (P : pages.Ghosts E) (T : Type 0) (y : LifeState) (kept : ℕ) (disk : D) (device : E) (of : IsDiskOf L opens y kept disk) (images : IsDeviceOf P opens y kept device) where
-    -- no life is open then, and the data device has images of what the log disk keeps
+  module _ {E F : Type 0} (P : pages.Ghosts E) (V : vaults.Ghosts F) (T : Type 0) (y : LifeState) (kept : ℕ) (disk : D) (beside : E × F) (of : IsDiskOf L opens y kept disk) (images : AreBeside P V opens y kept beside) where
+    -- no life is open then, and what stands beside the log disk is of what this keeps
     abbrev Behind : Stage → Type 0
-    Behind t = Out T L disk t × (L.tells → P.tells → AreImagesOf (P.told device) t.last)
+    Behind t = Out T L disk t × (L.tells → (stores P V).tells → AreOf ((stores P V).are_of beside) t.last)
 
     -- it had ended before
     ended_close : (n : ℕ) → x.ended ≡ Some n → y ≡ x → (out : List ℕ) → out ≡ ended_line (head commands.Close) n → Adds L.tells Behind s commands.Close out
@@ -93,7 +94,7 @@ module _ {D : Type 0} (L : Ghosts D) (opens : List Record → Type 0) (x : LifeS
             (λ t. subst (λ (o : Option Life). All IsRightLife (lives (record s { life = o }))) (sym h.life) (right_more L s.past h.here (h.past t) (h.right t)))
             h.goes (subst (λ (z : LifeState). IsArmed L.fuses z.calls s.armed.log) (sym same) h.fused)
             (λ t. subst (λ (o : Option Life). Keeps L (last_after o s.last kept) disk) (sym h.life) (life_keeps L opens y h.here kept disk (h.begins t) here_same of)),
-        λ t u. subst (λ (o : Option Life). AreImagesOf (P.told device) (last_after o s.last kept)) (sym h.life) (images_left P opens y h.here kept device (h.begins t) here_same images u),
+        λ t u. subst (λ (o : Option Life). AreOf ((stores P V).are_of beside) (last_after o s.last kept)) (sym h.life) (stores_left P V opens y h.here kept beside (h.begins t) here_same images u),
       );
       lines = text;
     }
@@ -125,7 +126,7 @@ module _ {D : Type 0} (L : Ghosts D) (opens : List Record → Type 0) (x : LifeS
           out_over T L y.calls disk of.calls (with_entries s es) now life_now (Found (log_of_life (longer s.life es))) right_now h.goes
               (c.armed_next L.fuses ⊥ x.calls y.calls s.armed.log on.calls h.fused)
               (λ t. subst (λ (o : Option Life). Keeps L (Found (log_of_life o)) disk) (sym life_now) (whole t)),
-          λ t u. subst (λ (o : Option Life). AreImagesOf (P.told device) (Found (log_of_life o))) (sym life_now) (images_found P opens y now kept device (h.begins t) is_now images u),
+          λ t u. subst (λ (o : Option Life). AreOf ((stores P V).are_of beside) (Found (log_of_life o))) (sym life_now) (stores_found P V opens y now kept beside (h.begins t) is_now images u),
         );
         lines = text;
       }
@@ -147,7 +148,7 @@ module _ {D : Type 0} (L : Ghosts D) (opens : List Record → Type 0) (x : LifeS
           out_over T L y.calls disk of.calls (record (with_entries s es) { ended = Some b.at }) now life_now (last_after (longer s.life es) s.last kept) right_now h.goes
               (c.armed_next L.fuses (Unit {0}) x.calls y.calls s.armed.log b.calls h.fused)
               (λ t. subst (λ (o : Option Life). Keeps L (last_after o s.last kept) disk) (sym life_now) (life_keeps L opens y now kept disk (h.begins t) is_now of)),
-          λ t u. subst (λ (o : Option Life). AreImagesOf (P.told device) (last_after o s.last kept)) (sym life_now) (images_left P opens y now kept device (h.begins t) is_now images u),
+          λ t u. subst (λ (o : Option Life). AreOf ((stores P V).are_of beside) (last_after o s.last kept)) (sym life_now) (stores_left P V opens y now kept beside (h.begins t) is_now images u),
         );
         lines = text;
       }
@@ -165,16 +166,16 @@ module _ {D : Type 0} (L : Ghosts D) (opens : List Record → Type 0) (x : LifeS
       pub close_cut : (v : View L.tells) (s : Stage) → Within (seen L v) opens x s → IsCut (seen L v) y x s commands.Close
       close_cut v s h = record { entries = written.0; added = written.2; lawful = lawful (seen L v) opens x s h none; off = cut_close (seen L v) opens x s h none written.0 goes written.1 }
 
-    module _ {E : Type 0} (P : pages.Ghosts E) where
-      pub closes_ended : (n : ℕ) → x.ended ≡ Some n → (out : List ℕ) → out ≡ ended_line (head commands.Close) n → Closed L P opens x x out
-      closes_ended n ended out text = λ v s h kept disk device more of images. ended_close (seen L v) opens x s h none P L.tells x kept disk device (disk_seen L v opens x kept disk of) images n ended refl out text
+    module _ {E F : Type 0} (P : pages.Ghosts E) (V : vaults.Ghosts F) where
+      pub closes_ended : (n : ℕ) → x.ended ≡ Some n → (out : List ℕ) → out ≡ ended_line (head commands.Close) n → Closed L P V opens x x out
+      closes_ended n ended out text = λ v s h kept disk beside more of images. ended_close (seen L v) opens x s h none P V L.tells x kept disk beside (disk_seen L v opens x kept disk of) images n ended refl out text
 
       module _ (y : LifeState) (right : (opening : List Record) → opens opening → IsRight opening y.history) (goes : x.ended ≡ None) (written : WritesPages x.history y.history) where
-        pub closes_done : GoesOn x y → ((opening : List Record) → opens opening → length (life_log opening y.history) ≤ y.durable) → (out : List ℕ) → out ≡ upkeep_line upkeeps.Close → Closed L P opens x y out
-        closes_done on durable out text = λ v s h kept disk device more of images.
-            done_close (seen L v) opens x s h none P L.tells y kept disk device (disk_seen L v opens y kept disk of) images written.0 written.2 right goes written.1 on
+        pub closes_done : GoesOn x y → ((opening : List Record) → opens opening → length (life_log opening y.history) ≤ y.durable) → (out : List ℕ) → out ≡ upkeep_line upkeeps.Close → Closed L P V opens x y out
+        closes_done on durable out text = λ v s h kept disk beside more of images.
+            done_close (seen L v) opens x s h none P V L.tells y kept disk beside (disk_seen L v opens y kept disk of) images written.0 written.2 right goes written.1 on
             (λ opening may. let n = durable opening may in omega (arith, n, more)) out text
 
-        pub closes_failed : BreaksOff opens x y → x.calls.refused < y.calls.refused → (out : List ℕ) → out ≡ failed_line (head commands.Close) Log → Closed L P opens x y out
-        closes_failed b refused out text = λ v s h kept disk device more of images.
-            failed_close (seen L v) opens x s h none P L.tells y kept disk device (disk_seen L v opens y kept disk of) images written.0 written.2 right goes written.1 b refused out text
+        pub closes_failed : BreaksOff opens x y → x.calls.refused < y.calls.refused → (out : List ℕ) → out ≡ failed_line (head commands.Close) Log → Closed L P V opens x y out
+        closes_failed b refused out text = λ v s h kept disk beside more of images.
+            failed_close (seen L v) opens x s h none P V L.tells y kept disk beside (disk_seen L v opens y kept disk of) images written.0 written.2 right goes written.1 b refused out text

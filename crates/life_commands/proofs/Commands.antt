@@ -6,6 +6,7 @@ use Rattle.std.proofs.lemmas.List.{append_cancel_left}
 use Rattle.std.specs.Fmt.{decimal}
 use Rattle.media.specs.declared.disk.Disk.{Ghosts}
 use Rattle.store_model.specs.declared.limits.TheConstants.{MOST_ACTIVE}
+use Rattle.store_model.specs.declared.object.ObjectName.{ObjectName}
 use Rattle.store_model.specs.declared.reply.Outcome.{Outcome}
 use Rattle.store_model.specs.declared.reply.Outcome.TheVariants as outcomes
 use Rattle.store_model.specs.declared.request.Request.{Request}
@@ -211,6 +212,12 @@ module _ {D : Type 0} (L : Ghosts D) (opens : List Record → Type 0) (x : LifeS
 
       pub cut_bad : (kept : ℕ) (disk : D) → IsDiskOf L opens y kept disk → (line block byte : ℕ) → IsUntold opens → RefusesAt L kept disk opens y.history s c line (statuses.BlockBad block byte)
       cut_bad kept disk of line block byte untold = (cut_at kept disk of, λ t. untold h.here.opening (h.begins t))
+
+      pub cut_vault : (kept : ℕ) (disk : D) → IsDiskOf L opens y kept disk → (line : ℕ) → RefusesAt L kept disk opens y.history s c line statuses.VaultFault
+      cut_vault kept disk of line = cut_at kept disk of
+
+      pub cut_object : (kept : ℕ) (disk : D) → IsDiskOf L opens y kept disk → (line : ℕ) (object : ObjectName) (byte : ℕ) → IsUntold opens → RefusesAt L kept disk opens y.history s c line (statuses.VaultBad object byte)
+      cut_object kept disk of line object byte untold = (cut_at kept disk of, λ t. untold h.here.opening (h.begins t))
 
       -- a fuse refused a call
       -- so many records of the log are durable then, where the command is a close

@@ -31,7 +31,7 @@ use Rattle.maintenance.specs.Steps.{AreAllOver}
 use Rattle.rollback.specs.Owners.{IsLoserOf}
 use Rattle.own_life.specs.Helps.{AddsSteps, Helps}
 use Rattle.store_life.specs.Turns.{EndsBy, HasMark, IsCheckpointed, IsLost}
-use Rattle.own_life.specs.State.{BeginsAs, BreaksOff, Fails, FailsToFlush, GoesOn, IsCommitted, LifeState}
+use Rattle.own_life.specs.State.{BeginsAs, BreaksOff, Fails, FailsOver, FailsToFlush, GoesOn, IsCommitted, LifeState}
 use Rattle.script.specs.declared.command.Command.{Command}
 use Rattle.script.specs.declared.command.Command.TheVariants as commands
 use Rattle.script.specs.declared.command.Device.{Device}
@@ -72,15 +72,17 @@ module _ {D : Type 0} (L : Ghosts D) (opens : List Record → Type 0) (x y : Lif
   abbrev Ends : ℕ → View L.tells → Stage → ℕ → D → Status → Type 0
   Ends line v s kept disk z = RefusesAt (seen L v) kept disk opens y.history s command line z
 
-  pub ends_run : (before now : ℕ) (fault : Fault) → Fails opens x y fault → (status : Status) → FailsAs before now fault status → (line : ℕ) → Refused L opens x y command line status
-  ends_run before now fault p status says line = λ v s h kept disk of. by fault p says v s h kept disk (disk_seen L v opens y kept disk of)
+  pub ends_run : (w w' before now : ℕ) (fault : Fault) → FailsOver opens w w' x y fault → (status : Status) → FailsAs before now fault status → (line : ℕ) → Refused L opens x y command line status
+  ends_run w w' before now fault p status says line = λ v s h kept disk of. by fault p says v s h kept disk (disk_seen L v opens y kept disk of)
     where
       to : (v : View L.tells) (s : Stage) (kept : ℕ) (disk : D) (wanted : Status) → status ≡ wanted → Ends line v s kept disk wanted → Ends line v s kept disk status
       to v s kept disk wanted e h = subst (Ends line v s kept disk) (sym e) h
 
-      by : (f : Fault) → Fails opens x y f → FailsAs before now f status → (v : View L.tells) (s : Stage) (h : Within (seen L v) opens x s) (kept : ℕ) (disk : D) → IsDiskOf (seen L v) opens y kept disk → Ends line v s kept disk status
+      by : (f : Fault) → FailsOver opens w w' x y f → FailsAs before now f status → (v : View L.tells) (s : Stage) (h : Within (seen L v) opens x s) (kept : ℕ) (disk : D) → IsDiskOf (seen L v) opens y kept disk → Ends line v s kept disk status
       by faults.Memory q e v s h kept disk of = let k = cut v s h in to v s kept disk statuses.Memory e (c.cut_memory (seen L v) opens x s h y k.entries k.added right command kind calls k.lawful k.off kept disk of line)
       by faults.LogFault q e v s h kept disk of = let k = cut v s h in to v s kept disk statuses.LogFault e.0 (c.cut_fault (seen L v) opens x s h y k.entries k.added right command kind calls k.lawful k.off kept disk of line)
+      by faults.VaultFault q e v s h kept disk of = let k = cut v s h in to v s kept disk statuses.VaultFault e (c.cut_vault (seen L v) opens x s h y k.entries k.added right command kind calls k.lawful k.off kept disk of line)
+      by (faults.VaultBad object byte) q e v s h kept disk of = let k = cut v s h in to v s kept disk (statuses.VaultBad object byte) e (c.cut_object (seen L v) opens x s h y k.entries k.added right command kind calls k.lawful k.off kept disk of line object byte q.1)
       by (faults.LogBad block byte) q e v s h kept disk of = let k = cut v s h in to v s kept disk (statuses.BlockBad block byte) e (c.cut_bad (seen L v) opens x s h y k.entries k.added right command kind calls k.lawful k.off kept disk of line block byte q.1)
       by _ q e v s h kept disk of = absurd q
 
@@ -185,7 +187,7 @@ module _ {D : Type 0} (L : Ghosts D) (opens : List Record → Type 0) (x y : Lif
 
     pub checkpoint_ends : (before now : ℕ) (fault : Fault) → IsCheckpointed (Err fault) x.history y.history → FailsToFlush opens x y fault → (status : Status) → FailsAs before now fault status → (line : ℕ) → Refused L opens x y commands.Checkpoint line status
     checkpoint_ends before now faults.Memory same p status says line = subst (λ (z : Status). Refused L opens x y commands.Checkpoint line z) (sym says) (lacks_memory L opens x y same commands.Checkpoint line)
-    checkpoint_ends before now faults.LogFault entered p status says line = ends_run L opens x y active right commands.Checkpoint tt refl (checkpoint_cut entered.0 entered.1) before now faults.LogFault p status says line
+    checkpoint_ends before now faults.LogFault entered p status says line = ends_run L opens x y active right commands.Checkpoint tt refl (checkpoint_cut entered.0 entered.1) 0 0 before now faults.LogFault p status says line
     checkpoint_ends before now _ entered p status says line = absurd p
 
   -- ---- losses of the data device
@@ -205,7 +207,7 @@ module _ {D : Type 0} (L : Ghosts D) (opens : List Record → Type 0) (x y : Lif
 
     pub loss_ends : (before now : ℕ) (fault : Fault) → IsLost (Err fault) x.history y.history → FailsToFlush opens x y fault → (status : Status) → FailsAs before now fault status → (line : ℕ) → Refused L opens x y commands.Lose line status
     loss_ends before now faults.Memory same p status says line = subst (λ (z : Status). Refused L opens x y commands.Lose line z) (sym says) (lacks_memory L opens x y same commands.Lose line)
-    loss_ends before now faults.LogFault entered p status says line = ends_run L opens x y active right commands.Lose tt refl (loss_cut entered.0 entered.1) before now faults.LogFault p status says line
+    loss_ends before now faults.LogFault entered p status says line = ends_run L opens x y active right commands.Lose tt refl (loss_cut entered.0 entered.1) 0 0 before now faults.LogFault p status says line
     loss_ends before now _ entered p status says line = absurd p
 
   -- ---- help

@@ -5,7 +5,7 @@ use Rattle.media.specs.Cause.{Rose}
 use Rattle.wal_record.specs.declared.record.Record.{Record}
 use Rattle.store_model.specs.declared.fault.Fault.{Fault}
 use Rattle.store_model.specs.declared.fault.Fault.TheVariants as faults
-use Rattle.own_life.specs.State.{BreaksOff, Fails, FailsToAnswer, FailsToBegin, FailsToCommit, FailsToFlush, LifeState}
+use Rattle.own_life.specs.State.{BreaksOff, Fails, FailsToAnswer, FailsToBegin, FailsToCommit, FailsToFlush, FailsOver, LifeState}
 use Rattle.life_commands.specs.Causes.{LifeCause}
 use Rattle.life_commands.specs.Faults.{FailsAs}
 use Rattle.life_commands.specs.declared.status.Status.{Status}
@@ -46,20 +46,31 @@ module _ (opens : List Record → Type 0) (x y : LifeState) where
   begin_later faults.TooManyActive p = p.calls.own
   begin_later _ p = absurd p
 
-  pub later : (fault : Fault) → Fails opens x y fault → x.calls.own ≤ y.calls.own
-  later faults.Memory p = p.calls.own
-  later faults.LogFault p = p.calls.own
-  later (faults.LogBad block byte) p = p.0.calls.own
-  later _ p = absurd p
+  -- a call that reads no vault
+  pub over : (fault : Fault) → Fails opens x y fault → FailsOver opens 0 0 x y fault
+  over faults.Memory p = p
+  over faults.LogFault p = p
+  over (faults.LogBad block byte) p = p
+  over _ p = absurd p
 
-  pub answer_later : (may : Fault → Type 0) (fault : Fault) → FailsToAnswer may opens x y fault → x.calls.own ≤ y.calls.own
-  answer_later may (faults.Conflict holder range at) p = p.1.calls.own
-  answer_later may (faults.Full pages pending at) p = p.1.calls.own
-  answer_later may (faults.OpRefused at) p = p.1.calls.own
-  answer_later may faults.Memory p = p.calls.own
-  answer_later may faults.LogFault p = p.calls.own
-  answer_later may (faults.LogBad block byte) p = p.0.calls.own
-  answer_later may _ p = absurd p
+  pub later : (v v' : ℕ) (fault : Fault) → FailsOver opens v v' x y fault → x.calls.own ≤ y.calls.own
+  later v v' faults.Memory p = p.calls.own
+  later v v' faults.LogFault p = p.calls.own
+  later v v' faults.VaultFault p = p.0.calls.own
+  later v v' (faults.LogBad block byte) p = p.0.calls.own
+  later v v' (faults.VaultBad object byte) p = p.0.calls.own
+  later v v' _ p = absurd p
+
+  pub answer_later : (v v' : ℕ) (may : Fault → Type 0) (fault : Fault) → FailsToAnswer may opens v v' x y fault → x.calls.own ≤ y.calls.own
+  answer_later v v' may (faults.Conflict holder range at) p = p.1.calls.own
+  answer_later v v' may (faults.Full pages pending at) p = p.1.calls.own
+  answer_later v v' may (faults.OpRefused at) p = p.1.calls.own
+  answer_later v v' may faults.Memory p = p.calls.own
+  answer_later v v' may faults.LogFault p = p.calls.own
+  answer_later v v' may faults.VaultFault p = p.0.calls.own
+  answer_later v v' may (faults.LogBad block byte) p = p.0.calls.own
+  answer_later v v' may (faults.VaultBad object byte) p = p.0.calls.own
+  answer_later v v' may _ p = absurd p
 
   module _ (before now : ℕ) (is : before ≡ min x.calls.refused (2 ^ 64 - 1)) (now_is : now ≡ min y.calls.refused (2 ^ 64 - 1)) (few : before < 2 ^ 62) where
     by_status : (status wanted : Status) → status ≡ wanted → LifeCause x.calls.own y.calls.own wanted → LifeCause x.calls.own y.calls.own status
@@ -68,20 +79,24 @@ module _ (opens : List Record → Type 0) (x y : LifeState) where
     fault_cause : (status : Status) → BreaksOff opens x y → FailsAs before now faults.LogFault status → LifeCause x.calls.own y.calls.own status
     fault_cause status b (e, same) = by_status status _ e (own_rose b (few_refused x.calls.refused before is few) (none_refused x.calls.refused y.calls.refused before now is now_is few same))
 
-    pub cause : (fault : Fault) (status : Status) → Fails opens x y fault → FailsAs before now fault status → LifeCause x.calls.own y.calls.own status
-    cause faults.Memory status p says = by_status status _ says tt
-    cause faults.LogFault status p says = fault_cause status p says
-    cause (faults.LogBad block byte) status p says = by_status status _ says tt
-    cause _ status p says = absurd p
+    pub cause : (v v' : ℕ) (fault : Fault) (status : Status) → FailsOver opens v v' x y fault → FailsAs before now fault status → LifeCause x.calls.own y.calls.own status
+    cause v v' faults.Memory status p says = by_status status _ says tt
+    cause v v' faults.LogFault status p says = fault_cause status p says
+    cause v v' faults.VaultFault status p says = by_status status _ says tt
+    cause v v' (faults.LogBad block byte) status p says = by_status status _ says tt
+    cause v v' (faults.VaultBad object byte) status p says = by_status status _ says tt
+    cause v v' _ status p says = absurd p
 
-    pub answer_cause : (may : Fault → Type 0) (fault : Fault) (status : Status) → FailsToAnswer may opens x y fault → FailsAs before now fault status → LifeCause x.calls.own y.calls.own status
-    answer_cause may (faults.Conflict holder range at) status p says = by_status status _ says tt
-    answer_cause may (faults.Full pages pending at) status p says = by_status status _ says tt
-    answer_cause may (faults.OpRefused at) status p says = by_status status _ says tt
-    answer_cause may faults.Memory status p says = by_status status _ says tt
-    answer_cause may faults.LogFault status p says = fault_cause status p says
-    answer_cause may (faults.LogBad block byte) status p says = by_status status _ says tt
-    answer_cause may _ status p says = absurd p
+    pub answer_cause : (v v' : ℕ) (may : Fault → Type 0) (fault : Fault) (status : Status) → FailsToAnswer may opens v v' x y fault → FailsAs before now fault status → LifeCause x.calls.own y.calls.own status
+    answer_cause v v' may (faults.Conflict holder range at) status p says = by_status status _ says tt
+    answer_cause v v' may (faults.Full pages pending at) status p says = by_status status _ says tt
+    answer_cause v v' may (faults.OpRefused at) status p says = by_status status _ says tt
+    answer_cause v v' may faults.Memory status p says = by_status status _ says tt
+    answer_cause v v' may faults.LogFault status p says = fault_cause status p says
+    answer_cause v v' may faults.VaultFault status p says = by_status status _ says tt
+    answer_cause v v' may (faults.LogBad block byte) status p says = by_status status _ says tt
+    answer_cause v v' may (faults.VaultBad object byte) status p says = by_status status _ says tt
+    answer_cause v v' may _ status p says = absurd p
 
 -- a refusal that is carried on as want of memory
 pub by_memory : {T : Type 0} (r : Result T Status) (P : Status → Type 0) → IsErrAnd r (λ status. status ≡ statuses.Memory) → P statuses.Memory → IfErr r P

@@ -1,16 +1,20 @@
--- Images of the data device, in the logs that may be found.
+-- Images of the data device and objects of the vault, in the logs that may be found.
 use Rattle.std.proofs.Common.{◌≡◌, ℕ, ◌≤◌, List, [], ◌∷◌, ◌++◌, refl, sym, ap, subst, ◌∙◌, append-nil, append_assoc, arith, length, take}
 use Rattle.std.proofs.lemmas.List.{length-append, take-append-le}
+use Rattle.media.specs.Objects.{Stored}
 use Rattle.media.specs.declared.pages.PageDevice as pages
+use Rattle.media.specs.declared.vault.Vault as vaults
+use Rattle.store_model.specs.declared.object.ObjectName.{ObjectName}
 use Rattle.page_repair.specs.Images.{IsImage}
 use Rattle.page_repair.specs.Supplies.{IsSealed}
 use Rattle.wal_record.specs.History.{life_log}
 use Rattle.wal_record.specs.declared.record.Record.{Record}
 use Rattle.wal_record.specs.declared.entry.Entry.{Entry}
+use Rattle.named_objects.specs.Named.{Names, record_of}
 use Rattle.own_life.specs.State.{LifeState}
-use Rattle.life_commands.specs.Images.{AreImagesOf, AreSealed}
-use Rattle.life_commands.specs.Living.{IsDeviceOf}
-use Rattle.life_commands.specs.Turns.{Found, IsLeftBy, Last, LeftBy, Life, Stopped}
+use Rattle.life_commands.specs.Living.{AreBeside}
+use Rattle.life_commands.specs.Stores.{AreOf, AreStored, stores}
+use Rattle.life_commands.specs.Turns.{Found, IsLeftBy, LeftBy, Life}
 
 -- ---- the first part of a log
 
@@ -50,28 +54,43 @@ module _ (l : Life) (kept : ℕ) (rs : List Record) (h : IsLeftBy l kept rs) whe
   pub sealed_left : (page : ℕ) (bytes : List ℕ) → IsImage log kept page bytes → IsSealed rs page bytes
   sealed_left page bytes i = sealed_first log rs h.1.lost page bytes i.sealed left_first (let upto = i.durable_upto in let more = h.3 in omega (arith, upto, more))
 
--- ---- what the device of a life that is over has images of
+-- ---- what stands beside the log disk of a life that is over
 
-module _ {E : Type 0} (P : pages.Ghosts E) (opens : List Record → Type 0) (x : LifeState) (l : Life) (kept : ℕ) (device : E) (may : opens l.opening) (same : l.history ≡ x.history) (of : IsDeviceOf P opens x kept device) (tells : P.tells) where
-  image_here : (page : ℕ) (bytes : List ℕ) → P.told device page bytes → IsImage (life_log l.opening l.history) kept page bytes
-  image_here page bytes told = subst (λ (h : List Entry). IsImage (life_log l.opening h) kept page bytes) (sym same) (of tells page bytes told l.opening may)
+-- what a log names each longer one names
+pub names_more : (log more : List Record) (name : ObjectName) (bytes : List ℕ) → Names log name bytes → Names (log ++ more) name bytes
+names_more log more name bytes n = record {
+  before = n.before;
+  naming = n.naming;
+  behind = n.behind ++ more;
+  is = ap (λ (l : List Record). l ++ more) n.is ∙ append_assoc n.before (record_of n.naming ∷ n.behind) more;
+  named = n.named;
+  tells = n.tells;
+}
 
-  -- of each log that a stop may leave
-  pub images_left : AreImagesOf (P.told device) (LeftBy l kept)
-  images_left = record {
-    found = λ rs h page bytes told. sealed_left l kept rs h page bytes (image_here page bytes told);
-    left = λ rs h page bytes told. sealed_left l kept rs h page bytes (image_here page bytes told);
-  }
+pub stored_first : (told : ObjectName → Stored) (log first rest : List Record) → log ≡ first ++ rest → AreStored told log → AreStored told first
+stored_first told log first rest is all name bytes names = all name bytes (subst (λ (l : List Record). Names l name bytes) (sym is) (names_more first rest name bytes names))
+
+module _ {E F : Type 0} (P : pages.Ghosts E) (V : vaults.Ghosts F) (opens : List Record → Type 0) (x : LifeState) (l : Life) (kept : ℕ) (beside : E × F) (may : opens l.opening) (same : l.history ≡ x.history) (of : AreBeside P V opens x kept beside)
+    (tells : (stores P V).tells) where
+  image_here : (page : ℕ) (bytes : List ℕ) → P.told beside.0 page bytes → IsImage (life_log l.opening l.history) kept page bytes
+  image_here page bytes told = subst (λ (h : List Entry). IsImage (life_log l.opening h) kept page bytes) (sym same) (of.images tells.0 page bytes told l.opening may)
+
+  objects_here : AreStored (V.told beside.1) (life_log l.opening l.history)
+  objects_here name bytes names = of.objects tells.1 l.opening name bytes may (subst (λ (h : List Entry). Names (life_log l.opening h) name bytes) same names)
+
+  of_left : (rs : List Record) → IsLeftBy l kept rs → (stores P V).are_of beside rs
+  of_left rs h = (
+    λ page bytes told. sealed_left l kept rs h page bytes (image_here page bytes told),
+    stored_first (V.told beside.1) (life_log l.opening l.history) rs h.1.lost (left_first l kept rs h) objects_here,
+  )
+
+  -- it is of each log that a stop may leave
+  pub stores_left : AreOf ((stores P V).are_of beside) (LeftBy l kept)
+  stores_left = record { found = of_left; left = of_left }
 
   -- of the whole log
-  pub images_found : AreImagesOf (P.told device) (Found (life_log l.opening l.history))
-  images_found = record { found = sealed_in; left = sealed_in }
+  pub stores_found : AreOf ((stores P V).are_of beside) (Found (life_log l.opening l.history))
+  stores_found = record { found = of_whole; left = of_whole }
     where
-      sealed_in : (rs : List Record) → rs ≡ life_log l.opening l.history → AreSealed (P.told device) rs
-      sealed_in rs is page bytes told = subst (λ (z : List Record). IsSealed z page bytes) (sym is) (image_here page bytes told).sealed
-
--- ---- a stop
-
--- behind a stop they are images of each log that may be found then
-pub images_stopped : (told : ℕ → List ℕ → Type 0) (last : Last) → AreImagesOf told last → AreImagesOf told (Stopped last)
-images_stopped told last are = record { found = are.left; left = are.left }
+      of_whole : (rs : List Record) → rs ≡ life_log l.opening l.history → (stores P V).are_of beside rs
+      of_whole rs is = subst (λ (z : List Record). (stores P V).are_of beside z) (sym is) ((λ page bytes told. (image_here page bytes told).sealed), objects_here)

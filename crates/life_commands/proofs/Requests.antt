@@ -109,8 +109,8 @@ module _ {D : Type 0} (L : Ghosts D) (opens : List Record → Type 0) (x y : Lif
     named : is_active x.active name ≡ true
     named = ap is_some act
 
-    module _ (may : Fault → Type 0) (failed : List ℕ) (failed_is : failed ≡ failed_line (request_head name request) Log) (before now : ℕ) (more : before < now → x.calls.refused < y.calls.refused) where
-      declined : (fault : Fault) (asks : AsksFor (Err fault)) → FailsToAnswer may opens x y fault → (out : List ℕ) → IsRefusedLine y.active name request failed before now fault out → DidNow out
+    module _ (w w' : ℕ) (may : Fault → Type 0) (failed : List ℕ) (failed_is : failed ≡ failed_line (request_head name request) Log) (before now : ℕ) (more : before < now → x.calls.refused < y.calls.refused) where
+      declined : (fault : Fault) (asks : AsksFor (Err fault)) → FailsToAnswer may opens w w' x y fault → (out : List ℕ) → IsRefusedLine y.active name request failed before now fault out → DidNow out
       declined (faults.Conflict holder range at) asks p out (other, by, text) =
           answered (Err (faults.Conflict holder range at)) asks (outcomes.Conflict holder range) asks.are (Refused a.tx (lock_of request).range (lock_of request).mode holder) [] asks.are
           (room_by asks.own asks.entries _ asks.are (room_refused (IsWhole v) s.life name request a.tx holder (lock_of request).range (lock_of request).mode asks.entries))
@@ -128,7 +128,7 @@ module _ {D : Type 0} (L : Ghosts D) (opens : List Record → Type 0) (x y : Lif
           c.did_fail (seen L v) opens x s h y asks.entries asks.added right (commands.Ask name request) tt refl (c.is_named (seen L v) opens x s h name true named) (cut faults.LogFault asks asks.are) tt p names (more rose) out (is ∙ failed_is)
       declined _ asks p out line = absurd line
 
-      ends : (fault : Fault) (asks : AsksFor (Err fault)) → FailsToAnswer may opens x y fault → (status : Status) → FailsAs before now fault status → (kept : ℕ) (disk : D) → IsDiskOf (seen L v) opens y kept disk → (line : ℕ)
+      ends : (fault : Fault) (asks : AsksFor (Err fault)) → FailsToAnswer may opens w w' x y fault → (status : Status) → FailsAs before now fault status → (kept : ℕ) (disk : D) → IsDiskOf (seen L v) opens y kept disk → (line : ℕ)
           → RefusesAt (seen L v) kept disk opens y.history s (commands.Ask name request) line status
       ends (faults.Conflict holder range at) asks p status says kept disk of line = subst (λ (z : Status). RefusesAt (seen L v) kept disk opens y.history s (commands.Ask name request) line z) (sym says)
           (lacking (Err (faults.Conflict holder range at)) asks (outcomes.Conflict holder range) asks.are (Refused a.tx (lock_of request).range (lock_of request).mode holder) [] asks.are
@@ -143,6 +143,10 @@ module _ {D : Type 0} (L : Ghosts D) (opens : List Record → Type 0) (x y : Lif
           (c.cut_fault (seen L v) opens x s h y asks.entries asks.added right (commands.Ask name request) tt refl (c.is_named (seen L v) opens x s h name true named) (cut faults.LogFault asks asks.are) kept disk of line)
       ends (faults.LogBad block byte) asks p status says kept disk of line = subst (λ (z : Status). RefusesAt (seen L v) kept disk opens y.history s (commands.Ask name request) line z) (sym says)
           (c.cut_bad (seen L v) opens x s h y asks.entries asks.added right (commands.Ask name request) tt refl (c.is_named (seen L v) opens x s h name true named) (cut (faults.LogBad block byte) asks asks.are) kept disk of line block byte p.1)
+      ends faults.VaultFault asks p status says kept disk of line = subst (λ (z : Status). RefusesAt (seen L v) kept disk opens y.history s (commands.Ask name request) line z) (sym says)
+          (c.cut_vault (seen L v) opens x s h y asks.entries asks.added right (commands.Ask name request) tt refl (c.is_named (seen L v) opens x s h name true named) (cut faults.VaultFault asks asks.are) kept disk of line)
+      ends (faults.VaultBad object byte) asks p status says kept disk of line = subst (λ (z : Status). RefusesAt (seen L v) kept disk opens y.history s (commands.Ask name request) line z) (sym says)
+          (c.cut_object (seen L v) opens x s h y asks.entries asks.added right (commands.Ask name request) tt refl (c.is_named (seen L v) opens x s h name true named) (cut (faults.VaultBad object byte) asks asks.are) kept disk of line object byte p.1)
       ends faults.Memory asks p status says kept disk of line = subst (λ (z : Status). RefusesAt (seen L v) kept disk opens y.history s (commands.Ask name request) line z) (sym says)
           (c.cut_memory (seen L v) opens x s h y asks.entries asks.added right (commands.Ask name request) tt refl (c.is_named (seen L v) opens x s h name true named) (cut faults.Memory asks asks.are) kept disk of line)
       ends _ asks p status says kept disk of line = absurd p
@@ -159,12 +163,12 @@ module _ {D : Type 0} (L : Ghosts D) (opens : List Record → Type 0) (x y : Lif
         → ((a : Active) → active_of x.active name ≡ Some a → IsTold opens a.session a.tx request y.history answer) → (line : ℕ) → IsRefused L opens x y (commands.Ask name request) line statuses.Memory
     ask_lacks answer asks told line = λ v s h kept disk of. let p = some_of (active_of x.active name) on in reply_lacks p.0 p.1 v s h answer (asks p.0 p.1) (told p.0 p.1) kept disk (disk_seen L v opens y kept disk of) line
 
-    pub ask_declined : (may : Fault → Type 0) (failed : List ℕ) → failed ≡ failed_line (request_head name request) Log → (before now : ℕ) → (before < now → x.calls.refused < y.calls.refused) → (fault : Fault)
-        → ((a : Active) → active_of x.active name ≡ Some a → Asks opens a.session a.tx request (Err fault) x.history y.history) → FailsToAnswer may opens x y fault
+    pub ask_declined : (w w' : ℕ) (may : Fault → Type 0) (failed : List ℕ) → failed ≡ failed_line (request_head name request) Log → (before now : ℕ) → (before < now → x.calls.refused < y.calls.refused) → (fault : Fault)
+        → ((a : Active) → active_of x.active name ≡ Some a → Asks opens a.session a.tx request (Err fault) x.history y.history) → FailsToAnswer may opens w w' x y fault
         → (out : List ℕ) → IsRefusedLine y.active name request failed before now fault out → Did L opens x y (commands.Ask name request) out
-    ask_declined may failed failed_is before now more fault asks p out line = λ v s h. let q = some_of (active_of x.active name) on in declined q.0 q.1 v s h may failed failed_is before now more fault (asks q.0 q.1) p out line
+    ask_declined w w' may failed failed_is before now more fault asks p out line = λ v s h. let q = some_of (active_of x.active name) on in declined q.0 q.1 v s h w w' may failed failed_is before now more fault (asks q.0 q.1) p out line
 
-    pub ask_ends : (may : Fault → Type 0) (failed : List ℕ) → failed ≡ failed_line (request_head name request) Log → (before now : ℕ) → (before < now → x.calls.refused < y.calls.refused) → (fault : Fault)
-        → ((a : Active) → active_of x.active name ≡ Some a → Asks opens a.session a.tx request (Err fault) x.history y.history) → FailsToAnswer may opens x y fault
+    pub ask_ends : (w w' : ℕ) (may : Fault → Type 0) (failed : List ℕ) → failed ≡ failed_line (request_head name request) Log → (before now : ℕ) → (before < now → x.calls.refused < y.calls.refused) → (fault : Fault)
+        → ((a : Active) → active_of x.active name ≡ Some a → Asks opens a.session a.tx request (Err fault) x.history y.history) → FailsToAnswer may opens w w' x y fault
         → (status : Status) → FailsAs before now fault status → (line : ℕ) → IsRefused L opens x y (commands.Ask name request) line status
-    ask_ends may failed failed_is before now more fault asks p status says line = λ v s h kept disk of. let q = some_of (active_of x.active name) on in ends q.0 q.1 v s h may failed failed_is before now more fault (asks q.0 q.1) p status says kept disk (disk_seen L v opens y kept disk of) line
+    ask_ends w w' may failed failed_is before now more fault asks p status says line = λ v s h kept disk of. let q = some_of (active_of x.active name) on in ends q.0 q.1 v s h w w' may failed failed_is before now more fault (asks q.0 q.1) p status says kept disk (disk_seen L v opens y kept disk of) line

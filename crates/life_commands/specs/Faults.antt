@@ -15,7 +15,9 @@ use Rattle.life_commands.specs.declared.status.Status.TheVariants as statuses
 -- The status of a fault that no line tells. So many calls the log disk's fuse had refused before the call, and so many now.
 abbrev pub FailsAs : ℕ → ℕ → Fault → Status → Type 0
 FailsAs before now faults.LogFault status = (status ≡ statuses.LogFault) × (now ≤ before)
+FailsAs before now faults.VaultFault status = status ≡ statuses.VaultFault
 FailsAs before now (faults.LogBad block byte) status = status ≡ statuses.BlockBad block byte
+FailsAs before now (faults.VaultBad object byte) status = status ≡ statuses.VaultBad object byte
 FailsAs before now fault status = status ≡ statuses.Memory
 
 -- the line of a request that was refused, where active transactions have these names

@@ -2,6 +2,7 @@ pub mod Bytes
 pub mod Turns
 pub mod Figures
 pub mod Images
+pub mod Stores
 pub mod Rows
 pub mod Text
 pub mod Status

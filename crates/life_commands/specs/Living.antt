@@ -3,9 +3,11 @@ use Rattle.std.specs.Prelude.{◌≡◌, ℕ, List, [], Option, Some, None, Bool
 use Rattle.std.specs.List.{All}
 use Rattle.media.specs.declared.disk.Disk.{Ghosts}
 use Rattle.media.specs.declared.pages.PageDevice as pages
+use Rattle.media.specs.declared.vault.Vault as vaults
 use Rattle.wal_record.specs.declared.record.Record.{Record}
 use Rattle.page_ops.specs.Seeing.{Calls}
 use Rattle.page_repair.specs.Images.{AreWritten}
+use Rattle.named_objects.specs.Named.{AreNamed}
 use Rattle.command_laws.specs.Names.{Active}
 use Rattle.journal.specs.State.{calls_of}
 use Rattle.journal.specs.Stops as stops
@@ -41,9 +43,11 @@ pub record IsDiskOf {D : Type 0} (L : Ghosts D) (opens : List Record → Type 0)
   pub left : stops.Leaves opens L.told L.may_leave x.history kept disk
   pub calls : calls_of L.passes L.refused L.own disk ≡ x.calls
 
--- and the data device: each image that it may give is sealed in the log up to one of these records
-abbrev pub IsDeviceOf : {E : Type 0} → pages.Ghosts E → (List Record → Type 0) → LifeState → ℕ → E → Type 0
-IsDeviceOf P opens x kept device = P.tells → AreWritten opens P.told (record { log = x.history; durable = kept }) device
+-- and the devices beside it: each image that the data device may give is sealed in the log up to one of these records, and each
+-- object that the log names is synced in the vault
+pub record AreBeside {E F : Type 0} (P : pages.Ghosts E) (V : vaults.Ghosts F) (opens : List Record → Type 0) (x : LifeState) (kept : ℕ) (beside : E × F) : Type 0 where
+  pub images : P.tells → AreWritten opens P.told (record { log = x.history; durable = kept }) beside.0
+  pub objects : V.tells → AreNamed opens V.told x.history beside.1
 
 -- each life is right, the disk keeps a log that may be found, and what is known of it is so
 pub record Safe {D : Type 0} (tells : Type 0) (L : Ghosts D) (kept : ℕ) (disk : D) (s : Stage) : Type 0 where

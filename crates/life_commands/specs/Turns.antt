@@ -123,8 +123,6 @@ pub record Stage : Type 0 where
   pub life : Option Life
   -- the active transactions, in the order of their beginning
   pub active : List Active
-  -- whether the machine has stopped
-  pub cycled : Bool
   -- whose fuse is armed
   pub armed : Fuses
   -- up to which LSN the log was durable when the life ended, if it has
@@ -134,7 +132,7 @@ pub record Stage : Type 0 where
 
 -- the log disk was handed in so
 abbrev pub begin_stage : Start → Stage
-begin_stage start = record { last = start.last; bytes = start.bytes; past = []; life = None; active = []; cycled = false; armed = renewed; ended = None; cut = false }
+begin_stage start = record { last = start.last; bytes = start.bytes; past = []; life = None; active = []; armed = renewed; ended = None; cut = false }
 
 -- pages and writes that may be undone, together, of a format
 abbrev pub room_of : Option ℕ → ℕ
@@ -164,7 +162,6 @@ over s last = record {
   past = lives_of s.life s.past;
   life = None;
   active = [];
-  cycled = s.cycled;
   armed = s.armed;
   ended = None;
   cut = s.cut;
@@ -176,7 +173,7 @@ closed s = over s (Found (log_of_life s.life))
 
 -- a stop ends the life, and renews the fuses
 abbrev pub stopped : Stage → ℕ → Stage
-stopped s kept = record (over s (Stopped (last_after s.life s.last kept))) { cycled = true; armed = renewed }
+stopped s kept = record (over s (Stopped (last_after s.life s.last kept))) { armed = renewed }
 
 -- Behind a command that is done. Those of words that aren't built, here and below, are done nowhere.
 abbrev pub done_stage : Stage → Command → List Entry → List Record → ℕ → Stage

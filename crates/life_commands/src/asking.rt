@@ -2,14 +2,13 @@
 ghost use Rattle.std.specs.Prelude.{◌≡◌, ◌≤◌, ◌<◌, ◌^◌, ℕ, None, true, IfErr, IfOk};
 ghost use Rattle.command_laws.specs.Names.{is_active};
 ghost use Rattle.script.specs.declared.command.Command.TheVariants as commands;
-ghost use Rattle.own_life.specs.Pages.{IsIdle};
 ghost use Rattle.life_commands.specs.Causes.{LifeCause};
 ghost use Rattle.life_commands.specs.Faults.{FailsAs, IsRefusedLine};
 ghost use Rattle.life_commands.specs.Promises.{Did, Refused};
 
 use crate::failing::{MOST, fail};
 use crate::status::Status;
-use media::{Disk, PageDevice};
+use media::{Disk, PageDevice, Vault};
 use own_life::{OwnLife, StorePages};
 use page_ops::Life;
 use script::{Device, Name};
@@ -18,18 +17,16 @@ use std::sync::Wait;
 use store_model::{Fault, Request};
 
 /// A request of an active transaction.
-pub fn ask_open<'a, N: Life, L: Disk, D: PageDevice, R: Wait>(
+pub fn ask_open<'a, N: Life, L: Disk, D: PageDevice, V: Vault, R: Wait>(
     rt: &R,
     alloc: Global,
     life: &mut OwnLife<'a, L, N>,
-    pages: &mut StorePages<'a, D, N>,
+    pages: &mut StorePages<'a, D, V, N>,
     name: &Name,
     request: &Request,
 ) -> Result<Vec<u8>, Status>
     requires active { is_active life.old.active name.now ≡ true }
     requires goes { life.old.ended ≡ None }
-    requires idle { IsIdle pages.old.pool.out pages.old.pool.reserves }
-    ensures idle { IsIdle pages.new.pool.out pages.new.pool.reserves }
     ensures ok { IfOk result (λ lines. Did L.Disk N.opens life.old life.new (commands.Ask name.now request.now) lines.items) }
     ensures err { IfErr result (λ status. (line : ℕ) → Refused L.Disk N.opens life.old life.new (commands.Ask name.now request.now) line status) }
     ensures cause { IfErr result (LifeCause life.old.calls.own life.new.calls.own) }

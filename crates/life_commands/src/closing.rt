@@ -1,13 +1,12 @@
 //! A life is closed.
 ghost use Rattle.std.specs.Prelude.{◌≡◌, ◌≤◌, ℕ, None, [], IfErr, IfOk};
 ghost use Rattle.script.specs.declared.command.Command.TheVariants as commands;
-ghost use Rattle.own_life.specs.Pages.{IsIdle};
 ghost use Rattle.life_commands.specs.Causes.{LifeCause};
 ghost use Rattle.life_commands.specs.Promises.{Closed, Refused};
 
 use crate::failing::{MOST, fail};
 use crate::status::Status;
-use media::{Disk, PageDevice};
+use media::{Disk, PageDevice, Vault};
 use own_life::{OwnLife, StorePages};
 use page_ops::Life;
 use script::Device;
@@ -17,16 +16,14 @@ use transcript::Upkeep;
 
 /// Closes a life in which no name is active: its dirty pages are written, and then the whole log is durable. Also where the log fails
 /// in it, or had ended the life before, the life is over with the line that is given.
-pub fn close<'a, N: Life, L: Disk, D: PageDevice, R: Wait>(
+pub fn close<'a, N: Life, L: Disk, D: PageDevice, V: Vault, R: Wait>(
     rt: &R,
     alloc: Global,
     life: &mut OwnLife<'a, L, N>,
-    pages: &mut StorePages<'a, D, N>,
+    pages: &mut StorePages<'a, D, V, N>,
     line: u64,
 ) -> Result<Vec<u8>, Status>
-    requires idle { IsIdle pages.old.pool.out pages.old.pool.reserves }
-    ensures idle { IsIdle pages.new.pool.out pages.new.pool.reserves }
-    ensures ok { IfOk result (λ lines. Closed L.Disk D.PageDevice N.opens life.old life.new lines.items) }
+    ensures ok { IfOk result (λ lines. Closed L.Disk D.PageDevice V.Vault N.opens life.old life.new lines.items) }
     ensures err { IfErr result (Refused L.Disk N.opens life.old life.new commands.Close line) }
     ensures cause { IfErr result (LifeCause life.old.calls.own life.new.calls.own) }
     ensures later { life.old.calls.own ≤ life.new.calls.own }
@@ -41,17 +38,15 @@ pub fn close<'a, N: Life, L: Disk, D: PageDevice, R: Wait>(
 }
 
 /// Closes a life that goes on.
-fn close_open<'a, N: Life, L: Disk, D: PageDevice, R: Wait>(
+fn close_open<'a, N: Life, L: Disk, D: PageDevice, V: Vault, R: Wait>(
     rt: &R,
     alloc: Global,
     life: &mut OwnLife<'a, L, N>,
-    pages: &mut StorePages<'a, D, N>,
+    pages: &mut StorePages<'a, D, V, N>,
 ) -> Result<Vec<u8>, Status>
     requires goes { life.old.ended ≡ None }
     requires active { life.old.active ≡ [] }
-    requires idle { IsIdle pages.old.pool.out pages.old.pool.reserves }
-    ensures idle { IsIdle pages.new.pool.out pages.new.pool.reserves }
-    ensures ok { IfOk result (λ lines. Closed L.Disk D.PageDevice N.opens life.old life.new lines.items) }
+    ensures ok { IfOk result (λ lines. Closed L.Disk D.PageDevice V.Vault N.opens life.old life.new lines.items) }
     ensures err { IfErr result (λ status. (line : ℕ) → Refused L.Disk N.opens life.old life.new commands.Close line status) }
     ensures cause { IfErr result (LifeCause life.old.calls.own life.new.calls.own) }
     ensures later { life.old.calls.own ≤ life.new.calls.own }

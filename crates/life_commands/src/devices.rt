@@ -6,13 +6,12 @@ ghost use Rattle.media.specs.Cause.{Rose};
 ghost use Rattle.media.specs.Counted.{Armed};
 ghost use Rattle.script.specs.declared.command.Command.TheVariants as commands;
 ghost use Rattle.script.specs.declared.command.Device.TheVariants.{Data, Log};
-ghost use Rattle.own_life.specs.Pages.{IsIdle};
 ghost use Rattle.life_commands.specs.Causes.{LifeCause};
 ghost use Rattle.life_commands.specs.Promises.{Did, Refused};
 ghost use Rattle.life_commands.specs.declared.status.Status.TheVariants as statuses;
 
 use crate::status::Status;
-use media::{Disk, PageDevice};
+use media::{Disk, PageDevice, Vault};
 use own_life::{OwnLife, StorePages};
 use page_ops::Life;
 use script::Device;
@@ -21,13 +20,11 @@ use store_model::PageNo;
 
 /// Reads of the page from the data device fail verification until its next write. That the device fails to be spoiled is told
 /// nowhere.
-pub fn damage<'a, N: Life, D: PageDevice>(
+pub fn damage<'a, N: Life, D: PageDevice, V: Vault>(
     alloc: Global,
-    pages: &mut StorePages<'a, D, N>,
+    pages: &mut StorePages<'a, D, V, N>,
     page: PageNo,
 ) -> Result<Vec<u8>, Status>
-    requires idle { IsIdle pages.old.pool.out pages.old.pool.reserves }
-    ensures idle { IsIdle pages.new.pool.out pages.new.pool.reserves }
     ensures line { IfOk result (λ out. out.items ≡ codes "damage " ++ decimal page ++ codes "\n") }
     ensures memory { IfErr result (λ status. status ≡ statuses.Memory) }
     ensures damaged { OnOk result (D.tells → D.spoiled pages.new.pool.images page ⊎ Rose (D.faults pages.old.pool.images) (D.faults pages.new.pool.images)) }
@@ -38,16 +35,14 @@ pub fn damage<'a, N: Life, D: PageDevice>(
 }
 
 /// Arms a device's fuse, which lets so many more calls pass.
-pub fn fuse<'a, N: Life, L: Disk, D: PageDevice>(
+pub fn fuse<'a, N: Life, L: Disk, D: PageDevice, V: Vault>(
     alloc: Global,
     life: &mut OwnLife<'a, L, N>,
-    pages: &mut StorePages<'a, D, N>,
+    pages: &mut StorePages<'a, D, V, N>,
     device: Device,
     calls: u64,
     line: u64,
 ) -> Result<Vec<u8>, Status>
-    requires idle { IsIdle pages.old.pool.out pages.old.pool.reserves }
-    ensures idle { IsIdle pages.new.pool.out pages.new.pool.reserves }
     ensures ok { IfOk result (λ lines. Did L.Disk N.opens life.old life.new (commands.Fuse device calls) lines.items) }
     ensures err { IfErr result (Refused L.Disk N.opens life.old life.new (commands.Fuse device calls) line) }
     ensures data { OnOk result (device ≡ Data → Armed D.fuses D.passes D.refused D.own (Some calls) pages.old.pool.images pages.new.pool.images) }
@@ -63,15 +58,13 @@ pub fn fuse<'a, N: Life, L: Disk, D: PageDevice>(
 }
 
 /// Renews a device's fuse.
-pub fn renew<'a, N: Life, L: Disk, D: PageDevice>(
+pub fn renew<'a, N: Life, L: Disk, D: PageDevice, V: Vault>(
     alloc: Global,
     life: &mut OwnLife<'a, L, N>,
-    pages: &mut StorePages<'a, D, N>,
+    pages: &mut StorePages<'a, D, V, N>,
     device: Device,
     line: u64,
 ) -> Result<Vec<u8>, Status>
-    requires idle { IsIdle pages.old.pool.out pages.old.pool.reserves }
-    ensures idle { IsIdle pages.new.pool.out pages.new.pool.reserves }
     ensures ok { IfOk result (λ lines. Did L.Disk N.opens life.old life.new (commands.Renew device) lines.items) }
     ensures err { IfErr result (Refused L.Disk N.opens life.old life.new (commands.Renew device) line) }
     ensures data { OnOk result (device ≡ Data → Armed D.fuses D.passes D.refused D.own None pages.old.pool.images pages.new.pool.images) }
@@ -87,14 +80,12 @@ pub fn renew<'a, N: Life, L: Disk, D: PageDevice>(
 }
 
 /// Arms the fuse of a device that a life calls, or renews it. The vault is none.
-fn arm<'a, N: Life, L: Disk, D: PageDevice>(
+fn arm<'a, N: Life, L: Disk, D: PageDevice, V: Vault>(
     life: &mut OwnLife<'a, L, N>,
-    pages: &mut StorePages<'a, D, N>,
+    pages: &mut StorePages<'a, D, V, N>,
     device: Device,
     n: Option<u64>,
 )
-    requires idle { IsIdle pages.old.pool.out pages.old.pool.reserves }
-    ensures idle { IsIdle pages.new.pool.out pages.new.pool.reserves }
     ensures same { (life.new.history ≡ life.old.history) × (life.new.active ≡ life.old.active) × (life.new.ended ≡ life.old.ended) }
     ensures own { life.new.calls.own ≡ life.old.calls.own }
     ensures log { device ≡ Log → ArmsDisk L.fuses n life.old.calls life.new.calls }

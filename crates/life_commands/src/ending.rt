@@ -2,13 +2,12 @@
 ghost use Rattle.std.specs.Prelude.{◌≡◌, ◌≤◌, ℕ, None, true, IfErr, IfOk};
 ghost use Rattle.command_laws.specs.Names.{is_active};
 ghost use Rattle.script.specs.declared.command.Command.TheVariants as commands;
-ghost use Rattle.own_life.specs.Pages.{IsIdle};
 ghost use Rattle.life_commands.specs.Causes.{LifeCause};
 ghost use Rattle.life_commands.specs.Promises.{Did, Refused};
 
 use crate::failing::{MOST, fail};
 use crate::status::Status;
-use media::{Disk, PageDevice};
+use media::{Disk, PageDevice, Vault};
 use own_life::{OwnLife, StorePages};
 use page_ops::Life;
 use script::{Device, Name};
@@ -43,17 +42,15 @@ pub fn commit_open<'a, N: Life, L: Disk, R: Wait>(
 }
 
 /// An active transaction is undone, and ends.
-pub fn abort_open<'a, N: Life, L: Disk, D: PageDevice, R: Wait>(
+pub fn abort_open<'a, N: Life, L: Disk, D: PageDevice, V: Vault, R: Wait>(
     rt: &R,
     alloc: Global,
     life: &mut OwnLife<'a, L, N>,
-    pages: &mut StorePages<'a, D, N>,
+    pages: &mut StorePages<'a, D, V, N>,
     name: &Name,
 ) -> Result<Vec<u8>, Status>
     requires active { is_active life.old.active name.now ≡ true }
     requires goes { life.old.ended ≡ None }
-    requires idle { IsIdle pages.old.pool.out pages.old.pool.reserves }
-    ensures idle { IsIdle pages.new.pool.out pages.new.pool.reserves }
     ensures ok { IfOk result (λ lines. Did L.Disk N.opens life.old life.new (commands.Abort name.now) lines.items) }
     ensures err { IfErr result (λ status. (line : ℕ) → Refused L.Disk N.opens life.old life.new (commands.Abort name.now) line status) }
     ensures cause { IfErr result (LifeCause life.old.calls.own life.new.calls.own) }

@@ -22,7 +22,9 @@ pub fn fail(fault: Fault, failed: Vec<u8>, before: u64, now: u64) -> Result<Vec<
                 Err(Status::LogFault)
             }
         }
+        Fault::VaultFault => Err(Status::VaultFault),
         Fault::LogBad { block, byte } => Err(Status::BlockBad { block, byte }),
+        Fault::VaultBad { object, byte } => Err(Status::VaultBad { object, byte }),
         _ => Err(Status::Memory),
     }
 }

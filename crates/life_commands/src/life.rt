@@ -3,7 +3,6 @@ ghost use Rattle.std.specs.Prelude.{◌≡◌, ◌≤◌, ◌<◌, ◌^◌, ℕ,
 ghost use Rattle.command_laws.specs.Names.{is_active};
 ghost use Rattle.script.specs.declared.command.Command.TheVariants as commands;
 ghost use Rattle.store_model.specs.declared.fault.Fault.TheVariants as faults;
-ghost use Rattle.own_life.specs.Pages.{IsIdle};
 ghost use Rattle.life_commands.specs.Causes.{LifeCause};
 ghost use Rattle.life_commands.specs.Promises.{Did, Refused};
 ghost use Rattle.life_commands.specs.Rows.{IsNoClose, IsNoStop};
@@ -14,7 +13,7 @@ use crate::devices::{damage, fuse, renew};
 use crate::ending::{abort_open, commit_open};
 use crate::status::Status;
 use crate::upkeep::{checkpoint_open, help_open, lose_open, stat_open};
-use media::{Disk, PageDevice};
+use media::{Disk, PageDevice, Vault};
 use own_life::{OwnLife, StorePages};
 use page_ops::Life;
 use script::{Command, Name};
@@ -24,18 +23,16 @@ use store_model::{Fault, Request};
 use transcript::Upkeep;
 
 /// Carries a command out, and gives the lines that answer it.
-pub fn step<'a, N: Life, L: Disk, D: PageDevice, R: Wait>(
+pub fn step<'a, N: Life, L: Disk, D: PageDevice, V: Vault, R: Wait>(
     rt: &R,
     alloc: Global,
     life: &mut OwnLife<'a, L, N>,
-    pages: &mut StorePages<'a, D, N>,
+    pages: &mut StorePages<'a, D, V, N>,
     command: &Command,
     line: u64,
 ) -> Result<Vec<u8>, Status>
     requires stop { IsNoStop command.now }
     requires close { IsNoClose command.now }
-    requires idle { IsIdle pages.old.pool.out pages.old.pool.reserves }
-    ensures idle { IsIdle pages.new.pool.out pages.new.pool.reserves }
     ensures ok { IfOk result (λ lines. Did L.Disk N.opens life.old life.new command.now lines.items) }
     ensures err { IfErr result (Refused L.Disk N.opens life.old life.new command.now line) }
     ensures cause { IfErr result (LifeCause life.old.calls.own life.new.calls.own) }
@@ -114,17 +111,15 @@ fn refuse_begin(fault: Fault, refused: Vec<u8>) -> Result<Vec<u8>, Status>
     }
 }
 
-fn ask<'a, N: Life, L: Disk, D: PageDevice, R: Wait>(
+fn ask<'a, N: Life, L: Disk, D: PageDevice, V: Vault, R: Wait>(
     rt: &R,
     alloc: Global,
     life: &mut OwnLife<'a, L, N>,
-    pages: &mut StorePages<'a, D, N>,
+    pages: &mut StorePages<'a, D, V, N>,
     name: &Name,
     request: &Request,
     line: u64,
 ) -> Result<Vec<u8>, Status>
-    requires idle { IsIdle pages.old.pool.out pages.old.pool.reserves }
-    ensures idle { IsIdle pages.new.pool.out pages.new.pool.reserves }
     ensures ok { IfOk result (λ lines. Did L.Disk N.opens life.old life.new (commands.Ask name.now request.now) lines.items) }
     ensures err { IfErr result (Refused L.Disk N.opens life.old life.new (commands.Ask name.now request.now) line) }
     ensures cause { IfErr result (LifeCause life.old.calls.own life.new.calls.own) }
@@ -160,16 +155,14 @@ fn commit<'a, N: Life, L: Disk, R: Wait>(
     }
 }
 
-fn abort<'a, N: Life, L: Disk, D: PageDevice, R: Wait>(
+fn abort<'a, N: Life, L: Disk, D: PageDevice, V: Vault, R: Wait>(
     rt: &R,
     alloc: Global,
     life: &mut OwnLife<'a, L, N>,
-    pages: &mut StorePages<'a, D, N>,
+    pages: &mut StorePages<'a, D, V, N>,
     name: &Name,
     line: u64,
 ) -> Result<Vec<u8>, Status>
-    requires idle { IsIdle pages.old.pool.out pages.old.pool.reserves }
-    ensures idle { IsIdle pages.new.pool.out pages.new.pool.reserves }
     ensures ok { IfOk result (λ lines. Did L.Disk N.opens life.old life.new (commands.Abort name.now) lines.items) }
     ensures err { IfErr result (Refused L.Disk N.opens life.old life.new (commands.Abort name.now) line) }
     ensures cause { IfErr result (LifeCause life.old.calls.own life.new.calls.own) }
@@ -200,14 +193,12 @@ fn checkpoint<'a, N: Life, L: Disk, R: Wait>(
     }
 }
 
-fn lose<'a, N: Life, L: Disk, D: PageDevice, R: Wait>(
+fn lose<'a, N: Life, L: Disk, D: PageDevice, V: Vault, R: Wait>(
     rt: &R,
     alloc: Global,
     life: &mut OwnLife<'a, L, N>,
-    pages: &mut StorePages<'a, D, N>,
+    pages: &mut StorePages<'a, D, V, N>,
 ) -> Result<Vec<u8>, Status>
-    requires idle { IsIdle pages.old.pool.out pages.old.pool.reserves }
-    ensures idle { IsIdle pages.new.pool.out pages.new.pool.reserves }
     ensures ok { IfOk result (λ lines. Did L.Disk N.opens life.old life.new commands.Lose lines.items) }
     ensures err { IfErr result (λ status. (line : ℕ) → Refused L.Disk N.opens life.old life.new commands.Lose line status) }
     ensures cause { IfErr result (LifeCause life.old.calls.own life.new.calls.own) }
@@ -219,15 +210,13 @@ fn lose<'a, N: Life, L: Disk, D: PageDevice, R: Wait>(
     }
 }
 
-fn help<'a, N: Life, L: Disk, D: PageDevice, R: Wait>(
+fn help<'a, N: Life, L: Disk, D: PageDevice, V: Vault, R: Wait>(
     rt: &R,
     alloc: Global,
     life: &mut OwnLife<'a, L, N>,
-    pages: &mut StorePages<'a, D, N>,
+    pages: &mut StorePages<'a, D, V, N>,
     steps: u32,
 ) -> Result<Vec<u8>, Status>
-    requires idle { IsIdle pages.old.pool.out pages.old.pool.reserves }
-    ensures idle { IsIdle pages.new.pool.out pages.new.pool.reserves }
     ensures ok { IfOk result (λ lines. Did L.Disk N.opens life.old life.new (commands.Help steps) lines.items) }
     ensures err { IfErr result (λ status. (line : ℕ) → Refused L.Disk N.opens life.old life.new (commands.Help steps) line status) }
     ensures cause { IfErr result (LifeCause life.old.calls.own life.new.calls.own) }

@@ -5,6 +5,7 @@ ghost use Rattle.life_commands.specs.declared.status.Status.TheVariants as statu
 
 use std::alloc::AllocError;
 use std::fmt;
+use store_model::{ObjectKind, ObjectName};
 
 /// How a run ends. Lines are counted from 1.
 #[derive(Clone, Copy, Debug, PartialEq, Eq)]
@@ -30,6 +31,11 @@ pub enum Status {
     /// A block of the log can't be read where a page or a transaction of an open life needs it. It comes only where the log disk
     /// tells nothing, or stood for no log as it was opened.
     BlockBad { block: u64, byte: u64 },
+    /// The vault failed.
+    VaultFault,
+    /// An object of the vault can't be read where a page of an open life needs it, or isn't what the log says of it. It comes only
+    /// where a device tells nothing, or stood for no log as it was opened.
+    VaultBad { object: ObjectName, byte: u64 },
     /// The log is empty.
     NotFormatted,
     /// The log disk holds a log already.
@@ -52,8 +58,10 @@ impl Status {
             Status::SourceFault => 4,
             Status::SinkFault => 5,
             Status::LogFault => 6,
+            Status::VaultFault => 7,
             Status::LogBad { block: _, byte: _ } => 8,
             Status::BlockBad { block: _, byte: _ } => 8,
+            Status::VaultBad { object: _, byte: _ } => 9,
             Status::NotFormatted => 10,
             Status::AlreadyFormatted => 11,
             Status::NotBuilt { line: _ } => 12,
@@ -82,6 +90,14 @@ impl fmt::Display for Status {
             Status::LogFault => f.write_str("log failed"),
             Status::LogBad { block, byte } => write!(f, "log block {block} bad at byte {byte}"),
             Status::BlockBad { block, byte } => write!(f, "log block {block} bad at byte {byte}"),
+            Status::VaultFault => f.write_str("vault failed"),
+            Status::VaultBad { object, byte } => {
+                let ObjectName { kind, id, part } = object;
+                match kind {
+                    ObjectKind::Run => write!(f, "object run-{id} bad at byte {byte}"),
+                    ObjectKind::Backup => write!(f, "object bak-{id}-{part} bad at byte {byte}"),
+                }
+            }
             Status::NotFormatted => f.write_str("not formatted"),
             Status::AlreadyFormatted => f.write_str("already formatted"),
             Status::NotBuilt { line } => write!(f, "not built in line {line}"),

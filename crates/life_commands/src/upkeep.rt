@@ -1,14 +1,13 @@
 //! Words without a transaction, in a life that goes on.
 ghost use Rattle.std.specs.Prelude.{◌≡◌, ◌≤◌, ℕ, None, IfErr, IfOk};
 ghost use Rattle.script.specs.declared.command.Command.TheVariants as commands;
-ghost use Rattle.own_life.specs.Pages.{IsIdle};
 ghost use Rattle.life_commands.specs.Causes.{LifeCause};
 ghost use Rattle.life_commands.specs.Faults.{counts_of};
 ghost use Rattle.life_commands.specs.Promises.{Did, Refused};
 
 use crate::failing::{MOST, fail};
 use crate::status::Status;
-use media::{Disk, PageDevice};
+use media::{Disk, PageDevice, Vault};
 use own_life::{OwnLife, StorePages};
 use page_ops::{Life, Survey};
 use script::Device;
@@ -44,15 +43,13 @@ pub fn checkpoint_open<'a, N: Life, L: Disk, R: Wait>(
 }
 
 /// The data device is lost.
-pub fn lose_open<'a, N: Life, L: Disk, D: PageDevice, R: Wait>(
+pub fn lose_open<'a, N: Life, L: Disk, D: PageDevice, V: Vault, R: Wait>(
     rt: &R,
     alloc: Global,
     life: &mut OwnLife<'a, L, N>,
-    pages: &mut StorePages<'a, D, N>,
+    pages: &mut StorePages<'a, D, V, N>,
 ) -> Result<Vec<u8>, Status>
     requires goes { life.old.ended ≡ None }
-    requires idle { IsIdle pages.old.pool.out pages.old.pool.reserves }
-    ensures idle { IsIdle pages.new.pool.out pages.new.pool.reserves }
     ensures ok { IfOk result (λ lines. Did L.Disk N.opens life.old life.new commands.Lose lines.items) }
     ensures err { IfErr result (λ status. (line : ℕ) → Refused L.Disk N.opens life.old life.new commands.Lose line status) }
     ensures cause { IfErr result (LifeCause life.old.calls.own life.new.calls.own) }
@@ -73,16 +70,14 @@ pub fn lose_open<'a, N: Life, L: Disk, D: PageDevice, R: Wait>(
 }
 
 /// Help takes so many steps, or fewer where no step has work.
-pub fn help_open<'a, N: Life, L: Disk, D: PageDevice, R: Wait>(
+pub fn help_open<'a, N: Life, L: Disk, D: PageDevice, V: Vault, R: Wait>(
     rt: &R,
     alloc: Global,
     life: &mut OwnLife<'a, L, N>,
-    pages: &mut StorePages<'a, D, N>,
+    pages: &mut StorePages<'a, D, V, N>,
     steps: u32,
 ) -> Result<Vec<u8>, Status>
     requires goes { life.old.ended ≡ None }
-    requires idle { IsIdle pages.old.pool.out pages.old.pool.reserves }
-    ensures idle { IsIdle pages.new.pool.out pages.new.pool.reserves }
     ensures ok { IfOk result (λ lines. Did L.Disk N.opens life.old life.new (commands.Help steps) lines.items) }
     ensures err { IfErr result (λ status. (line : ℕ) → Refused L.Disk N.opens life.old life.new (commands.Help steps) line status) }
     ensures cause { IfErr result (LifeCause life.old.calls.own life.new.calls.own) }

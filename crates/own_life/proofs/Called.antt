@@ -9,14 +9,14 @@ use Rattle.wal_record.specs.declared.record.Record.{Record}
 use Rattle.page_ops.specs.Causes.{Ends, EndsBy, FailsToBring, FailsToEnter, FailsToFlush as MayFlush, FailsToReserve, FindsEnd, IsOpen, MeetsNoEnd, NoOther, OrTooMany}
 use Rattle.page_ops.specs.Names.{LedgerName}
 use Rattle.page_ops.specs.Seeing.{Account, Calls, Keeps}
-use Rattle.buffer_pool.specs.Writes.{no_faults}
+use Rattle.segment_restore.specs.Faults.{no_faults, of_vault}
 use Rattle.engine.specs.Answers.{FailsToAsk}
 use Rattle.maintenance.specs.Marks.{FailsToMark}
 use Rattle.journal.specs.Stops.{IsDurableUpto}
 use Rattle.life_history.specs.Kept.{HasCause}
 use Rattle.own_journal.specs.Told.{told}
-use Rattle.own_life.specs.Kept.{without_crowd, without_vault}
-use Rattle.own_life.specs.State.{BreaksOff, CallsGoOn, Fails, FailsToAnswer, FailsToBegin, FailsToCommit, FailsToFlush, FailsToLook, GoesOn, LifeState}
+use Rattle.own_life.specs.Kept.{without_crowd}
+use Rattle.own_life.specs.State.{BreaksOff, CallsGoOn, Fails, FailsToAnswer, FailsToBegin, FailsToCommit, FailsToFlush, FailsToLook, FailsOver, GoesOn, LifeState}
 
 -- The thread's counts and the calls of the log disk before and behind a call, in a life that went on and whose faults of the log
 -- disk are all counted here.
@@ -91,47 +91,47 @@ module _ {opens : List Record → Type 0} {log_faults : LedgerName} {old new : L
     counted (inl less) = absurd (omega (arith, less))
     counted (inr more) = more
 
-    brings_fault : (f : Fault) → FailsToBring opens log_faults made no_faults no_faults (told a c) (told b d) h f → GoesOrFails a b
-    brings_fault faults.Memory e = inl (still e)
-    brings_fault faults.LogFault e = inr (e.0, counted e.1)
-    brings_fault faults.VaultFault e = absurd (let no = e.1 in omega (arith, no))
-    brings_fault (faults.Ended at) e = absurd (never made h at e)
-    brings_fault (faults.LogBad block byte) e = inl (still e.0)
-    brings_fault (faults.VaultBad object byte) e = inl (still e.0)
-    brings_fault _ e = absurd e
+    brings_fault : (v v' : ℕ) (f : Fault) → FailsToBring opens log_faults made (of_vault v) (of_vault v') (told a c) (told b d) h f → GoesOrFails a b
+    brings_fault v v' faults.Memory e = inl (still e)
+    brings_fault v v' faults.LogFault e = inr (e.0, counted e.1)
+    brings_fault v v' faults.VaultFault e = inl (still e.0)
+    brings_fault v v' (faults.Ended at) e = absurd (never made h at e)
+    brings_fault v v' (faults.LogBad block byte) e = inl (still e.0)
+    brings_fault v v' (faults.VaultBad object byte) e = inl (still e.0)
+    brings_fault v v' _ e = absurd e
 
-    pub brings : {T : Type 0} (r : Result T Fault) → OnOk r (MeetsNoEnd (told a c) (told b d)) → IfErr r (FailsToBring opens log_faults made no_faults no_faults (told a c) (told b d) h) → GoesOrFails a b
-    brings (Ok x) o e = inl (still o)
-    brings (Err f) o e = brings_fault f e
+    pub brings : {T : Type 0} (v v' : ℕ) (r : Result T Fault) → OnOk r (MeetsNoEnd (told a c) (told b d)) → IfErr r (FailsToBring opens log_faults made (of_vault v) (of_vault v') (told a c) (told b d) h) → GoesOrFails a b
+    brings v v' (Ok x) o e = inl (still o)
+    brings v v' (Err f) o e = brings_fault v v' f e
 
     reserves_fault : (f : Fault) → FailsToReserve opens log_faults made no_faults no_faults (told a c) (told b d) h f → GoesOrFails a b
     reserves_fault faults.VaultFault e = absurd e
     reserves_fault (faults.LogBad block byte) e = absurd e
     reserves_fault (faults.VaultBad object byte) e = absurd e
-    reserves_fault faults.Memory e = brings_fault faults.Memory e
-    reserves_fault faults.LogFault e = brings_fault faults.LogFault e
-    reserves_fault (faults.Ended at) e = brings_fault (faults.Ended at) e
+    reserves_fault faults.Memory e = brings_fault 0 0 faults.Memory e
+    reserves_fault faults.LogFault e = brings_fault 0 0 faults.LogFault e
+    reserves_fault (faults.Ended at) e = brings_fault 0 0 (faults.Ended at) e
     reserves_fault _ e = absurd e
 
     pub reserves : {T : Type 0} (r : Result T Fault) → OnOk r (MeetsNoEnd (told a c) (told b d)) → IfErr r (FailsToReserve opens log_faults made no_faults no_faults (told a c) (told b d) h) → GoesOrFails a b
     reserves (Ok x) o e = inl (still o)
     reserves (Err f) o e = reserves_fault f e
 
-    asks_fault : (may : Fault → Type 0) (f : Fault) → FailsToAsk may opens log_faults made no_faults no_faults (told a c) (told b d) h f → GoesOrFails a b
-    asks_fault may (faults.Conflict holder range at) e = inl e.2
-    asks_fault may (faults.Full pages pending at) e = inl e.2
-    asks_fault may (faults.OpRefused at) e = inl e.2
-    asks_fault may faults.Memory e = brings_fault faults.Memory e
-    asks_fault may faults.LogFault e = brings_fault faults.LogFault e
-    asks_fault may faults.VaultFault e = brings_fault faults.VaultFault e
-    asks_fault may (faults.Ended at) e = brings_fault (faults.Ended at) e
-    asks_fault may (faults.LogBad block byte) e = brings_fault (faults.LogBad block byte) e
-    asks_fault may (faults.VaultBad object byte) e = brings_fault (faults.VaultBad object byte) e
-    asks_fault may _ e = absurd e
+    asks_fault : (v v' : ℕ) (may : Fault → Type 0) (f : Fault) → FailsToAsk may opens log_faults made (of_vault v) (of_vault v') (told a c) (told b d) h f → GoesOrFails a b
+    asks_fault v v' may (faults.Conflict holder range at) e = inl e.2
+    asks_fault v v' may (faults.Full pages pending at) e = inl e.2
+    asks_fault v v' may (faults.OpRefused at) e = inl e.2
+    asks_fault v v' may faults.Memory e = brings_fault v v' faults.Memory e
+    asks_fault v v' may faults.LogFault e = brings_fault v v' faults.LogFault e
+    asks_fault v v' may faults.VaultFault e = brings_fault v v' faults.VaultFault e
+    asks_fault v v' may (faults.Ended at) e = brings_fault v v' (faults.Ended at) e
+    asks_fault v v' may (faults.LogBad block byte) e = brings_fault v v' (faults.LogBad block byte) e
+    asks_fault v v' may (faults.VaultBad object byte) e = brings_fault v v' (faults.VaultBad object byte) e
+    asks_fault v v' may _ e = absurd e
 
-    pub asks : {T : Type 0} (may : Fault → Type 0) (r : Result T Fault) → OnOk r (MeetsNoEnd (told a c) (told b d)) → IfErr r (FailsToAsk may opens log_faults made no_faults no_faults (told a c) (told b d) h) → GoesOrFails a b
-    asks may (Ok x) o e = inl (still o)
-    asks may (Err f) o e = asks_fault may f e
+    pub asks : {T : Type 0} (v v' : ℕ) (may : Fault → Type 0) (r : Result T Fault) → OnOk r (MeetsNoEnd (told a c) (told b d)) → IfErr r (FailsToAsk may opens log_faults made (of_vault v) (of_vault v') (told a c) (told b d) h) → GoesOrFails a b
+    asks v v' may (Ok x) o e = inl (still o)
+    asks v v' may (Err f) o e = asks_fault v v' may f e
 
     pub meets_done : {T : Type 0} (r : Result T Fault) → OnOk r (MeetsNoEnd (told a c) (told b d)) → OnOk r (GoesOn old new)
     meets_done (Ok x) o = goes (still o)
@@ -199,31 +199,31 @@ module _ {opens : List Record → Type 0} {log_faults : LedgerName} {old new : L
     commit_refused (Ok x) may e = tt
     commit_refused (Err f) may e = commit_fault f may e
 
-    bring_fault : (T : Type 0) (f : Fault) → FailsToBring opens log_faults made no_faults no_faults (told a c) (told b d) h f → IfErr (without_vault {T = T} (Err f)) (Fails opens old new)
-    bring_fault T faults.Memory e = goes (still e)
-    bring_fault T faults.LogFault e = breaks e.0 (counted e.1)
-    bring_fault T faults.VaultFault e = absurd (let no = e.1 in omega (arith, no))
-    bring_fault T (faults.Ended at) e = absurd (never made h at e)
-    bring_fault T (faults.LogBad block byte) e = (goes (still e.0), e.1)
-    bring_fault T (faults.VaultBad object byte) e = goes (still e.0)
-    bring_fault T _ e = absurd e
+    bring_fault : (v v' : ℕ) (f : Fault) → FailsToBring opens log_faults made (of_vault v) (of_vault v') (told a c) (told b d) h f → FailsOver opens v v' old new f
+    bring_fault v v' faults.Memory e = goes (still e)
+    bring_fault v v' faults.LogFault e = breaks e.0 (counted e.1)
+    bring_fault v v' faults.VaultFault e = (goes (still e.0), e.1)
+    bring_fault v v' (faults.Ended at) e = absurd (never made h at e)
+    bring_fault v v' (faults.LogBad block byte) e = (goes (still e.0), e.1)
+    bring_fault v v' (faults.VaultBad object byte) e = (goes (still e.0), e.1)
+    bring_fault v v' _ e = absurd e
 
-    pub bring_refused : {T : Type 0} (r : Result T Fault) → IfErr r (FailsToBring opens log_faults made no_faults no_faults (told a c) (told b d) h) → IfErr (without_vault r) (Fails opens old new)
-    bring_refused (Ok x) e = tt
-    bring_refused {T = T} (Err f) e = bring_fault T f e
+    pub bring_refused : {T : Type 0} (v v' : ℕ) (r : Result T Fault) → IfErr r (FailsToBring opens log_faults made (of_vault v) (of_vault v') (told a c) (told b d) h) → IfErr r (FailsOver opens v v' old new)
+    bring_refused v v' (Ok x) e = tt
+    bring_refused v v' (Err f) e = bring_fault v v' f e
 
-    answer_fault : (T : Type 0) (may : Fault → Type 0) (f : Fault) → FailsToAsk may opens log_faults made no_faults no_faults (told a c) (told b d) h f → IfErr (without_vault {T = T} (Err f)) (FailsToAnswer may opens old new)
-    answer_fault T may (faults.Conflict holder range at) e = (e.0, goes e.2)
-    answer_fault T may (faults.Full pages pending at) e = (e.0, goes e.2)
-    answer_fault T may (faults.OpRefused at) e = (e.0, goes e.2)
-    answer_fault T may faults.Memory e = goes (still e)
-    answer_fault T may faults.LogFault e = breaks e.0 (counted e.1)
-    answer_fault T may faults.VaultFault e = absurd (let no = e.1 in omega (arith, no))
-    answer_fault T may (faults.Ended at) e = absurd (never made h at e)
-    answer_fault T may (faults.LogBad block byte) e = (goes (still e.0), e.1)
-    answer_fault T may (faults.VaultBad object byte) e = goes (still e.0)
-    answer_fault T may _ e = absurd e
+    answer_fault : (v v' : ℕ) (may : Fault → Type 0) (f : Fault) → FailsToAsk may opens log_faults made (of_vault v) (of_vault v') (told a c) (told b d) h f → FailsToAnswer may opens v v' old new f
+    answer_fault v v' may (faults.Conflict holder range at) e = (e.0, goes e.2)
+    answer_fault v v' may (faults.Full pages pending at) e = (e.0, goes e.2)
+    answer_fault v v' may (faults.OpRefused at) e = (e.0, goes e.2)
+    answer_fault v v' may faults.Memory e = goes (still e)
+    answer_fault v v' may faults.LogFault e = breaks e.0 (counted e.1)
+    answer_fault v v' may faults.VaultFault e = (goes (still e.0), e.1)
+    answer_fault v v' may (faults.Ended at) e = absurd (never made h at e)
+    answer_fault v v' may (faults.LogBad block byte) e = (goes (still e.0), e.1)
+    answer_fault v v' may (faults.VaultBad object byte) e = (goes (still e.0), e.1)
+    answer_fault v v' may _ e = absurd e
 
-    pub answer_refused : {T : Type 0} (may : Fault → Type 0) (r : Result T Fault) → IfErr r (FailsToAsk may opens log_faults made no_faults no_faults (told a c) (told b d) h) → IfErr (without_vault r) (FailsToAnswer may opens old new)
-    answer_refused may (Ok x) e = tt
-    answer_refused {T = T} may (Err f) e = answer_fault T may f e
+    pub answer_refused : {T : Type 0} (v v' : ℕ) (may : Fault → Type 0) (r : Result T Fault) → IfErr r (FailsToAsk may opens log_faults made (of_vault v) (of_vault v') (told a c) (told b d) h) → IfErr r (FailsToAnswer may opens v v' old new)
+    answer_refused v v' may (Ok x) e = tt
+    answer_refused v v' may (Err f) e = answer_fault v v' may f e

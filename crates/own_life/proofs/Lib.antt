@@ -1,3 +1,4 @@
+pub mod Backed
 pub mod Called
 pub mod Sequences
 pub mod Committed

@@ -14,44 +14,6 @@ use Rattle.store_life.specs.Turns.{Asks, EndsBy}
 use Rattle.own_life.specs.Kept.{without_crowd, without_vault}
 use Rattle.own_life.specs.State.{BeginsAs, LifeState}
 
--- ---- an object of the vault
-
-pub vault_ok : {T : Type 0} (P : T → Type 0) (r : Result T Fault) → IfOk r P → IfOk (without_vault r) P
-vault_ok P (Ok x) p = p
-vault_ok P (Err (faults.VaultBad object byte)) p = tt
-vault_ok P (Err _) p = tt
-
-pub vault_on_ok : {T : Type 0} (P : Type 0) (r : Result T Fault) → OnOk r P → OnOk (without_vault r) P
-vault_on_ok P (Ok x) p = p
-vault_on_ok P (Err (faults.VaultBad object byte)) p = tt
-vault_on_ok P (Err _) p = tt
-
-pub vault_err : {T : Type 0} (P : Fault → Type 0) (r : Result T Fault) → P faults.Memory → IfErr r P → IfErr (without_vault r) P
-vault_err P (Ok x) memory p = tt
-vault_err P (Err (faults.VaultBad object byte)) memory p = memory
-vault_err P (Err _) memory p = p
-
-pub vault_asks : (opens : List Record → Type 0) (session tx : ℕ) (request : Request) (r : Result Answered Fault) (h h' : List Entry) → Asks opens session tx request r h h' → Asks opens session tx request (without_vault r) h h'
-vault_asks opens session tx request (Ok x) h h' a = a
-vault_asks opens session tx request (Err (faults.VaultBad object byte)) h h' a = record { entries = a.entries; added = a.added; own = a.own; are = a.are; among = a.among }
-vault_asks opens session tx request (Err _) h h' a = a
-
-pub vault_aborts : (opens : List Record → Type 0) (tx : ℕ) (r : Result ℕ Fault) (h h' : List Entry) → EndsBy opens tx r h h' → EndsBy opens tx (without_vault r) h h'
-vault_aborts opens tx (Ok x) h h' e = e
-vault_aborts opens tx (Err (faults.VaultBad object byte)) h h' e = e
-vault_aborts opens tx (Err _) h h' e = e
-
-pub vault_steps : (opens : List Record → Type 0) (r : Result Bool Fault) (h h' : List Entry) → StepsBack opens r h h' → StepsBack opens (without_vault r) h h'
-vault_steps opens (Ok true) h h' s = s
-vault_steps opens (Ok false) h h' s = s
-vault_steps opens (Err (faults.VaultBad object byte)) h h' s = s
-vault_steps opens (Err _) h h' s = s
-
-pub vault_left : {T : Type 0} (r : Result T Fault) (active : List Active) (name : List ℕ) → left_by (without_vault r) active name ≡ left_by r active name
-vault_left (Ok x) active name = refl
-vault_left (Err (faults.VaultBad object byte)) active name = refl
-vault_left (Err _) active name = refl
-
 -- ---- a crowd
 
 pub crowd_on_ok : {T : Type 0} (P : Type 0) (r : Result T Fault) → OnOk r P → OnOk (without_crowd r) P

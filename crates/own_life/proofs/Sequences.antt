@@ -12,7 +12,7 @@ use Rattle.page_ops.specs.Seeing.{Calls}
 use Rattle.log_laws.proofs.Central.{eqb_self}
 use Rattle.store_model.proofs.Bools.{or_left, or_right}
 use Rattle.own_life.specs.Pages.{AllBut, IsNextRedone, IsNextWritten, OneLess, OthersStay}
-use Rattle.own_life.specs.State.{BreaksOff, CallsGoOn, Fails, FailsToFlush, GoesOn, LifeState}
+use Rattle.own_life.specs.State.{BreaksOff, CallsGoOn, Fails, FailsOver, FailsToFlush, GoesOn, LifeState}
 
 -- ---- how they leave the life
 
@@ -61,6 +61,22 @@ module _ (opens : List Record → Type 0) (x y z : LifeState) (a : GoesOn x y) w
   fails_then faults.LogFault b = breaks_then b
   fails_then (faults.LogBad block byte) b = (goes_then x y z a b.0, b.1)
   fails_then _ b = absurd b
+
+  -- of faults of the vault too, of which so many were counted
+  pub over_then : (v w u : ℕ) → v ≤ w → (f : Fault) → FailsOver opens w u y z f → FailsOver opens v u x z f
+  over_then v w u low faults.Memory b = goes_then x y z a b
+  over_then v w u low faults.LogFault b = breaks_then b
+  over_then v w u low faults.VaultFault b = (goes_then x y z a b.0, let more = b.1 in omega (arith, low, more))
+  over_then v w u low (faults.LogBad block byte) b = (goes_then x y z a b.0, b.1)
+  over_then v w u low (faults.VaultBad object byte) b = (goes_then x y z a b.0, b.1)
+  over_then v w u low _ b = absurd b
+
+  -- of a call that reads no vault
+  pub plain_then : (v u : ℕ) (f : Fault) → Fails opens y z f → FailsOver opens v u x z f
+  plain_then v u faults.Memory b = goes_then x y z a b
+  plain_then v u faults.LogFault b = breaks_then b
+  plain_then v u (faults.LogBad block byte) b = (goes_then x y z a b.0, b.1)
+  plain_then v u _ b = absurd b
 
   flush_fails : (f : Fault) → FailsToFlush opens y z f → Fails opens x z f
   flush_fails faults.Memory b = goes_then x y z a b

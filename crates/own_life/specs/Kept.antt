@@ -35,13 +35,7 @@ pub record Sees {N : Type 0} (opens : List Record → Type 0) (entries log_fault
   pub durable : (opening : List Record) → opens opening → IfSome old_counts.ended (IsDurableUpto opening new_life.pass.log)
   pub cause : IfSome old_counts.ended (λ at. HasCause log_faults old_counts.log_faults)
 
--- an object of the vault, which is not read, is told as want of memory
-abbrev pub without_vault : {T : Type 0} → Result T Fault → Result T Fault
-without_vault (Ok x) = Ok x
-without_vault (Err (faults.VaultBad object byte)) = Err faults.Memory
-without_vault (Err fault) = Err fault
-
--- so is a crowd of transactions without names
+-- a crowd of transactions without names is told as want of memory
 abbrev pub without_crowd : {T : Type 0} → Result T Fault → Result T Fault
 without_crowd (Ok x) = Ok x
 without_crowd (Err faults.TooManyActive) = Err faults.Memory

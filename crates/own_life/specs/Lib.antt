@@ -1,3 +1,4 @@
+pub mod Backed
 pub mod Helps
 pub mod Kept
 pub mod Pages

@@ -1,10 +1,11 @@
 -- A life as contracts see it, and what its calls make of it.
-use Rattle.std.specs.Prelude.{◌≡◌, ◌⊎◌, ◌==◌, ◌≤◌, ℕ, List, [], ◌∷◌, ◌++◌, length, Option, Some, None, Result, Ok, Err}
+use Rattle.std.specs.Prelude.{◌≡◌, ◌⊎◌, ◌==◌, ◌<◌, ◌≤◌, ℕ, List, [], ◌∷◌, ◌++◌, length, Option, Some, None, Result, Ok, Err}
 use Rattle.std.specs.List.{find}
 use Rattle.std.specs.Option.{option_map}
 use Rattle.media.specs.Cause.{Rose}
 use Rattle.media.specs.declared.disk.Disk as disks
 use Rattle.media.specs.declared.pages.PageDevice as pages
+use Rattle.media.specs.declared.vault.Vault as vaults
 use Rattle.store_model.specs.declared.fault.Fault.{Fault}
 use Rattle.store_model.specs.declared.fault.Fault.TheVariants as faults
 use Rattle.wal_record.specs.Checkpoints.{commits}
@@ -16,6 +17,7 @@ use Rattle.page_ops.specs.Causes.{IsUntold}
 use Rattle.page_ops.specs.Seeing.{Calls}
 use Rattle.page_ops.specs.declared.outcome.Committed.{Committed}
 use Rattle.page_repair.specs.Images.{AreWritten}
+use Rattle.named_objects.specs.Named.{AreNamed}
 use Rattle.journal.specs.State.{calls_of}
 use Rattle.journal.specs.Stops.{IsDurableUpto, Leaves}
 use Rattle.command_laws.specs.Commands.{Begins, Commits, commit_record}
@@ -76,12 +78,19 @@ Fails opens old new faults.LogFault = BreaksOff opens old new
 Fails opens old new (faults.LogBad block byte) = GoesOn old new × IsUntold opens
 Fails opens old new fault = ⊥
 
+-- The same of a call that may read the vault, of whose faults so many were counted before it, and so many behind it: one was
+-- counted; or an object can't be read, which comes only where no log is known with which the life may have begun.
+abbrev pub FailsOver : (List Record → Type 0) → ℕ → ℕ → LifeState → LifeState → Fault → Type 0
+FailsOver opens before now old new faults.VaultFault = GoesOn old new × (before < now)
+FailsOver opens before now old new (faults.VaultBad object byte) = GoesOn old new × IsUntold opens
+FailsOver opens before now old new fault = Fails opens old new fault
+
 -- the same of a request, which may be refused by its answer
-abbrev pub FailsToAnswer : (Fault → Type 0) → (List Record → Type 0) → LifeState → LifeState → Fault → Type 0
-FailsToAnswer may opens old new (faults.Conflict holder range at) = may (faults.Conflict holder range at) × GoesOn old new
-FailsToAnswer may opens old new (faults.Full pages pending at) = may (faults.Full pages pending at) × GoesOn old new
-FailsToAnswer may opens old new (faults.OpRefused at) = may (faults.OpRefused at) × GoesOn old new
-FailsToAnswer may opens old new fault = Fails opens old new fault
+abbrev pub FailsToAnswer : (Fault → Type 0) → (List Record → Type 0) → ℕ → ℕ → LifeState → LifeState → Fault → Type 0
+FailsToAnswer may opens before now old new (faults.Conflict holder range at) = may (faults.Conflict holder range at) × GoesOn old new
+FailsToAnswer may opens before now old new (faults.Full pages pending at) = may (faults.Full pages pending at) × GoesOn old new
+FailsToAnswer may opens before now old new (faults.OpRefused at) = may (faults.OpRefused at) × GoesOn old new
+FailsToAnswer may opens before now old new fault = FailsOver opens before now old new fault
 
 -- of a begin: so many names are active that no more may be, or memory is wanted
 abbrev pub FailsToBegin : LifeState → LifeState → Fault → Type 0
@@ -133,11 +142,12 @@ IsCommitted opens session tx (Err fault) h h' = MayBeDone tx h h'
 -- ---- what a life leaves
 
 -- What the log disk keeps as the life ends, and what it keeps after a crash that comes then, stands for a log that a stop may
--- leave of the life, with so many records at least; and each image of the data device is made of so many of the life's
--- records at most. So it is in each such log.
-pub record AreLeft {D E : Type 0} (L : disks.Ghosts D) (P : pages.Ghosts E) (opens : List Record → Type 0) (x : LifeState) (disk : D) (device : E) : Type 0 where
+-- leave of the life, with so many records at least; each image of the data device is made of so many of the life's records at
+-- most; and each object that the life's log names is synced in the vault. So it is in each such log.
+pub record AreLeft {D E F : Type 0} (L : disks.Ghosts D) (P : pages.Ghosts E) (V : vaults.Ghosts F) (opens : List Record → Type 0) (x : LifeState) (disk : D) (device : E) (vault : F) : Type 0 where
   pub kept : ℕ
   pub durable : x.durable ≤ kept
   pub left : Leaves opens L.told L.may_leave x.history kept disk
   pub images : P.tells → AreWritten opens P.told (record { log = x.history; durable = kept }) device
+  pub objects : V.tells → AreNamed opens V.told x.history vault
   pub calls : calls_of L.passes L.refused L.own disk ≡ x.calls

@@ -2,13 +2,13 @@
 ghost use Rattle.std.specs.Prelude.{◌≡◌, ◌<◌, ◌≤◌, ℕ, List, None, IfErr, IfOk, OnOk, length};
 ghost use Rattle.wal_record.specs.History.{life_log};
 ghost use Rattle.wal_record.specs.declared.record.Record.{Record};
-ghost use Rattle.own_life.specs.Pages.{AwaitsRedo, IsIdle, IsNextWritten, Lacks, OneLess, WritesPages, WritesUpto};
+ghost use Rattle.own_life.specs.Pages.{AwaitsRedo, IsNextWritten, Lacks, OneLess, WritesPages, WritesUpto};
 ghost use Rattle.own_life.specs.State.{Fails, FailsToFlush, GoesOn};
 
 use crate::life::OwnLife;
 use crate::seeing::see_whole;
 use crate::store_pages::StorePages;
-use media::{Disk, PageDevice};
+use media::{Disk, PageDevice, Vault};
 use page_ops::{Entering, Life};
 use std::alloc::Global;
 use std::sync::Wait;
@@ -16,16 +16,14 @@ use store_model::{Fault, PageNo};
 
 impl<'a, L: Disk, N: Life> OwnLife<'a, L, N> {
     /// Writes the least dirty page above this one, and gives its number; none where no page above it is dirty.
-    pub(crate) fn write_next<D: PageDevice, R: Wait>(
+    pub(crate) fn write_next<D: PageDevice, V: Vault, R: Wait>(
         &mut self,
         rt: &R,
         alloc: Global,
-        pages: &mut StorePages<'a, D, N>,
+        pages: &mut StorePages<'a, D, V, N>,
         after: PageNo,
     ) -> Result<Option<PageNo>, Fault>
         requires open { self.old.ended ≡ None }
-        requires idle { IsIdle pages.old.pool.out pages.old.pool.reserves }
-        ensures idle { IsIdle pages.new.pool.out pages.new.pool.reserves }
         ensures next { IfOk result (IsNextWritten (Lacks pages.new.pool.frames) after) }
         ensures fewer { (page : ℕ) → Lacks pages.new.pool.frames page → Lacks pages.old.pool.frames page }
         ensures one { IfOk result (OneLess (Lacks pages.old.pool.frames) (Lacks pages.new.pool.frames)) }
@@ -33,6 +31,7 @@ impl<'a, L: Disk, N: Life> OwnLife<'a, L, N> {
         ensures written { WritesUpto 1 self.old.history self.new.history }
         ensures names { self.new.active ≡ self.old.active }
         ensures goes { OnOk result (GoesOn self.old self.new) }
+        ensures counted { pages.new.pool.supply.bases.faults ≡ pages.old.pool.supply.bases.faults }
         ensures refused { IfErr result (Fails N.opens self.old self.new) }
     {
         let OwnLife { journal, life } = self;
@@ -59,15 +58,13 @@ impl<'a, L: Disk, N: Life> OwnLife<'a, L, N> {
 
     /// Writes each dirty page to the data device, and then makes the whole log durable, so that the next life finds it as it is and
     /// its pages on the device. A page that the device fails to take is dropped: the next life rebuilds it from the log.
-    pub fn close<D: PageDevice, R: Wait>(
+    pub fn close<D: PageDevice, V: Vault, R: Wait>(
         &mut self,
         rt: &R,
         alloc: Global,
-        pages: &mut StorePages<'a, D, N>,
+        pages: &mut StorePages<'a, D, V, N>,
     ) -> Result<(), Fault>
         requires open { self.old.ended ≡ None }
-        requires idle { IsIdle pages.old.pool.out pages.old.pool.reserves }
-        ensures idle { IsIdle pages.new.pool.out pages.new.pool.reserves }
         ensures written { WritesPages self.old.history self.new.history }
         ensures clean { OnOk result ((page : ℕ) → 0 < page → Lacks pages.new.pool.frames page → ⊥) }
         ensures names { self.new.active ≡ self.old.active }

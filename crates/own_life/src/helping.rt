@@ -4,13 +4,13 @@ ghost use Rattle.maintenance.specs.Steps.{AreAllOver};
 ghost use Rattle.rollback.specs.Owners.{IsLoserOf};
 ghost use Rattle.store_life.specs.Steps.{AddsUpkeep, StepsBack};
 ghost use Rattle.own_life.specs.Helps.{AddsSteps, Helps, Undoes, UndoesSome};
-ghost use Rattle.own_life.specs.Pages.{AllBut, AreRestored, AwaitsRedo, IsIdle, Lacks, WritesUpto};
-ghost use Rattle.own_life.specs.State.{Fails, GoesOn};
+ghost use Rattle.own_life.specs.Pages.{AllBut, AreRestored, AwaitsRedo, Lacks, WritesUpto};
+ghost use Rattle.own_life.specs.State.{Fails, FailsOver, GoesOn};
 
-use crate::life::{OwnLife, unvaulted};
+use crate::life::OwnLife;
 use crate::seeing::see_whole;
 use crate::store_pages::StorePages;
-use media::{Disk, PageDevice};
+use media::{Disk, PageDevice, Vault};
 use page_ops::Life;
 use std::alloc::Global;
 use std::sync::Wait;
@@ -22,16 +22,14 @@ impl<'a, L: Disk, N: Life> OwnLife<'a, L, N> {
     /// awaits redo is brought; the least dirty page is written, and dropped where the device fails. By one thread no work comes
     /// back of a kind that is done: a page that is brought or written makes no loser and loses no segment, and one that is
     /// written awaits no redo.
-    pub fn help<D: PageDevice, R: Wait>(
+    pub fn help<D: PageDevice, V: Vault, R: Wait>(
         &mut self,
         rt: &R,
         alloc: Global,
-        pages: &mut StorePages<'a, D, N>,
+        pages: &mut StorePages<'a, D, V, N>,
         steps: u32,
     ) -> Result<u32, Fault>
         requires open { self.old.ended ≡ None }
-        requires idle { IsIdle pages.old.pool.out pages.old.pool.reserves }
-        ensures idle { IsIdle pages.new.pool.out pages.new.pool.reserves }
         ensures helps { Helps (IsLoserOf N.opens) steps self.old.history self.new.history }
         ensures taken { IfOk result (λ taken. taken ≤ steps) }
         ensures losers { IfOk result (λ taken. AreAllOver N.opens self.new.history ⊎ ((taken ≡ steps) × AddsSteps steps self.old.history self.new.history)) }
@@ -40,7 +38,8 @@ impl<'a, L: Disk, N: Life> OwnLife<'a, L, N> {
         ensures written { IfOk result (λ taken. taken < steps → (page : ℕ) → 0 < page → Lacks pages.new.pool.frames page → ⊥) }
         ensures names { self.new.active ≡ self.old.active }
         ensures goes { OnOk result (GoesOn self.old self.new) }
-        ensures refused { IfErr result (Fails N.opens self.old self.new) }
+        ensures counted { pages.old.pool.supply.bases.faults ≤ pages.new.pool.supply.bases.faults }
+        ensures refused { IfErr result (FailsOver N.opens pages.old.pool.supply.bases.faults pages.new.pool.supply.bases.faults self.old self.new) }
     {
         let undone = self.undo_losers(rt, alloc, pages, steps)?;
         let brought = self.bring_pages(rt, alloc, pages, steps - undone)?;
@@ -49,23 +48,22 @@ impl<'a, L: Disk, N: Life> OwnLife<'a, L, N> {
     }
 
     /// Undoes losers, the least first, in so many steps at most.
-    fn undo_losers<D: PageDevice, R: Wait>(
+    fn undo_losers<D: PageDevice, V: Vault, R: Wait>(
         &mut self,
         rt: &R,
         alloc: Global,
-        pages: &mut StorePages<'a, D, N>,
+        pages: &mut StorePages<'a, D, V, N>,
         steps: u32,
     ) -> Result<u32, Fault>
         requires open { self.old.ended ≡ None }
-        requires idle { IsIdle pages.old.pool.out pages.old.pool.reserves }
-        ensures idle { IsIdle pages.new.pool.out pages.new.pool.reserves }
         ensures few { IfOk result (λ taken. taken ≤ steps) }
         ensures undoes { IfOk result (λ taken. Undoes (IsLoserOf N.opens) taken self.old.history self.new.history) }
         ensures over { IfOk result (λ taken. taken < steps → AreAllOver N.opens self.new.history) }
         ensures some { OnErr result (UndoesSome (IsLoserOf N.opens) steps self.old.history self.new.history) }
         ensures names { self.new.active ≡ self.old.active }
         ensures goes { OnOk result (GoesOn self.old self.new) }
-        ensures refused { IfErr result (Fails N.opens self.old self.new) }
+        ensures counted { pages.old.pool.supply.bases.faults ≤ pages.new.pool.supply.bases.faults }
+        ensures refused { IfErr result (FailsOver N.opens pages.old.pool.supply.bases.faults pages.new.pool.supply.bases.faults self.old self.new) }
     {
         for taken in 0..steps {
             if !self.undo_next(rt, alloc, pages)? {
@@ -76,23 +74,22 @@ impl<'a, L: Disk, N: Life> OwnLife<'a, L, N> {
     }
 
     /// Brings so many pages ahead of need at most: those of segments that are unrestored, and then those that await redo.
-    fn bring_pages<D: PageDevice, R: Wait>(
+    fn bring_pages<D: PageDevice, V: Vault, R: Wait>(
         &mut self,
         rt: &R,
         alloc: Global,
-        pages: &mut StorePages<'a, D, N>,
+        pages: &mut StorePages<'a, D, V, N>,
         steps: u32,
     ) -> Result<u32, Fault>
         requires open { self.old.ended ≡ None }
-        requires idle { IsIdle pages.old.pool.out pages.old.pool.reserves }
-        ensures idle { IsIdle pages.new.pool.out pages.new.pool.reserves }
         ensures few { IfOk result (λ taken. taken ≤ steps) }
         ensures restored { IfOk result (λ taken. taken < steps → AreRestored N.opens self.new.history) }
         ensures redone { IfOk result (λ taken. taken < steps → (page : ℕ) → AwaitsRedo pages.new.pool.plan page → ⊥) }
         ensures upkeep { AddsUpkeep self.old.history self.new.history }
         ensures names { self.new.active ≡ self.old.active }
         ensures goes { OnOk result (GoesOn self.old self.new) }
-        ensures refused { IfErr result (Fails N.opens self.old self.new) }
+        ensures counted { pages.old.pool.supply.bases.faults ≤ pages.new.pool.supply.bases.faults }
+        ensures refused { IfErr result (FailsOver N.opens pages.old.pool.supply.bases.faults pages.new.pool.supply.bases.faults self.old self.new) }
     {
         for taken in 0..steps {
             if self.bring_next(rt, alloc, pages)?.is_none() {
@@ -103,16 +100,14 @@ impl<'a, L: Disk, N: Life> OwnLife<'a, L, N> {
     }
 
     /// Writes so many dirty pages at most, the least first.
-    fn write_pages<D: PageDevice, R: Wait>(
+    fn write_pages<D: PageDevice, V: Vault, R: Wait>(
         &mut self,
         rt: &R,
         alloc: Global,
-        pages: &mut StorePages<'a, D, N>,
+        pages: &mut StorePages<'a, D, V, N>,
         steps: u32,
     ) -> Result<u32, Fault>
         requires open { self.old.ended ≡ None }
-        requires idle { IsIdle pages.old.pool.out pages.old.pool.reserves }
-        ensures idle { IsIdle pages.new.pool.out pages.new.pool.reserves }
         ensures few { IfOk result (λ taken. taken ≤ steps) }
         ensures stored { OnOk result (AllBut steps (Lacks pages.old.pool.frames) (Lacks pages.new.pool.frames)) }
         ensures clean { IfOk result (λ taken. taken < steps → (page : ℕ) → 0 < page → Lacks pages.new.pool.frames page → ⊥) }
@@ -120,6 +115,7 @@ impl<'a, L: Disk, N: Life> OwnLife<'a, L, N> {
         ensures written { WritesUpto steps self.old.history self.new.history }
         ensures names { self.new.active ≡ self.old.active }
         ensures goes { OnOk result (GoesOn self.old self.new) }
+        ensures counted { pages.new.pool.supply.bases.faults ≡ pages.old.pool.supply.bases.faults }
         ensures refused { IfErr result (Fails N.opens self.old self.new) }
     {
         for taken in 0..steps {
@@ -131,46 +127,44 @@ impl<'a, L: Disk, N: Life> OwnLife<'a, L, N> {
     }
 
     /// Takes a step in undoing the least loser, if any is left.
-    fn undo_next<D: PageDevice, R: Wait>(
+    fn undo_next<D: PageDevice, V: Vault, R: Wait>(
         &mut self,
         rt: &R,
         alloc: Global,
-        pages: &mut StorePages<'a, D, N>,
+        pages: &mut StorePages<'a, D, V, N>,
     ) -> Result<bool, Fault>
         requires open { self.old.ended ≡ None }
-        requires idle { IsIdle pages.old.pool.out pages.old.pool.reserves }
-        ensures idle { IsIdle pages.new.pool.out pages.new.pool.reserves }
         ensures steps { StepsBack N.opens result self.old.history self.new.history }
         ensures names { self.new.active ≡ self.old.active }
         ensures goes { OnOk result (GoesOn self.old self.new) }
-        ensures refused { IfErr result (Fails N.opens self.old self.new) }
+        ensures counted { pages.old.pool.supply.bases.faults ≤ pages.new.pool.supply.bases.faults }
+        ensures refused { IfErr result (FailsOver N.opens pages.old.pool.supply.bases.faults pages.new.pool.supply.bases.faults self.old self.new) }
     {
         let OwnLife { journal, life } = self;
         let undone = pages.undo_next(rt, alloc, journal, life);
         see_whole(journal, life);
-        unvaulted(undone)
+        undone
     }
 
     /// Brings the next page ahead of need, and gives its number; none where no segment is unrestored and no page awaits redo.
-    fn bring_next<D: PageDevice, R: Wait>(
+    fn bring_next<D: PageDevice, V: Vault, R: Wait>(
         &mut self,
         rt: &R,
         alloc: Global,
-        pages: &mut StorePages<'a, D, N>,
+        pages: &mut StorePages<'a, D, V, N>,
     ) -> Result<Option<PageNo>, Fault>
         requires open { self.old.ended ≡ None }
-        requires idle { IsIdle pages.old.pool.out pages.old.pool.reserves }
-        ensures idle { IsIdle pages.new.pool.out pages.new.pool.reserves }
         ensures restored { IfOk result (λ page. IfNone page (AreRestored N.opens self.new.history)) }
         ensures redone { IfOk result (λ page. IfNone page ((q : ℕ) → AwaitsRedo pages.new.pool.plan q → ⊥)) }
         ensures upkeep { AddsUpkeep self.old.history self.new.history }
         ensures names { self.new.active ≡ self.old.active }
         ensures goes { OnOk result (GoesOn self.old self.new) }
-        ensures refused { IfErr result (Fails N.opens self.old self.new) }
+        ensures counted { pages.old.pool.supply.bases.faults ≤ pages.new.pool.supply.bases.faults }
+        ensures refused { IfErr result (FailsOver N.opens pages.old.pool.supply.bases.faults pages.new.pool.supply.bases.faults self.old self.new) }
     {
         let OwnLife { journal, life } = self;
         let brought = pages.bring_next(rt, alloc, journal, life);
         see_whole(journal, life);
-        unvaulted(brought)
+        brought
     }
 }

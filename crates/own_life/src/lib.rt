@@ -29,13 +29,13 @@
 
 mod closing;
 mod helping;
+mod leaving;
 mod life;
 mod opened;
 mod seeing;
 mod store_pages;
-mod supply;
+mod storing;
 
 pub use life::OwnLife;
 pub use opened::{LifeRefused, open_life};
 pub use store_pages::StorePages;
-pub use supply::LogAlone;

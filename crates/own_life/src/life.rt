@@ -16,14 +16,15 @@ ghost use Rattle.wal_record.specs.declared.entry.Entry.{Entry};
 ghost use Rattle.wal_record.specs.declared.record.Record.{Record};
 ghost use Rattle.store_life.specs.SoFar.{left_by};
 ghost use Rattle.store_life.specs.Turns.{Asks, EndsBy, IsCheckpointed, IsLost, IsTold};
-ghost use Rattle.own_life.specs.Kept.{without_crowd, without_vault};
-ghost use Rattle.own_life.specs.Pages.{HasNone, IsIdle, Lacks};
-ghost use Rattle.own_life.specs.State.{AreLeft, BeginsAs, Fails, FailsToAnswer, FailsToBegin, FailsToCommit, FailsToFlush, FailsToLook, GoesOn, IsCommitted, name_by};
+ghost use Rattle.own_life.specs.Kept.{without_crowd};
+ghost use Rattle.own_life.specs.Pages.{HasNone, Lacks};
+ghost use Rattle.own_life.specs.State.{AreLeft, BeginsAs, FailsToAnswer, FailsToBegin, FailsToCommit, FailsToFlush, FailsOver, FailsToLook, GoesOn, IsCommitted, name_by};
 
+use crate::leaving::leave_vault;
 use crate::seeing::see_whole;
 use crate::store_pages::StorePages;
 use engine::Answered;
-use media::{Disk, PageDevice};
+use media::{Disk, PageDevice, Vault};
 use own_journal::OwnJournal;
 use page_ops::{Committed, Life, Survey};
 use script::Name;
@@ -122,18 +123,16 @@ impl<'a, L: Disk, N: Life> OwnLife<'a, L, N> {
     }
 
     /// Asks for the active transaction of this name.
-    pub fn ask<D: PageDevice, R: Wait>(
+    pub fn ask<D: PageDevice, V: Vault, R: Wait>(
         &mut self,
         rt: &R,
         alloc: Global,
-        pages: &mut StorePages<'a, D, N>,
+        pages: &mut StorePages<'a, D, V, N>,
         name: &Name,
         request: Request,
     ) -> Result<Answered, Fault>
         requires open { self.old.ended ≡ None }
         requires active { is_active self.old.active name.now ≡ true }
-        requires idle { IsIdle pages.old.pool.out pages.old.pool.reserves }
-        ensures idle { IsIdle pages.new.pool.out pages.new.pool.reserves }
         ensures asks { (a : Active) → active_of self.old.active name.now ≡ Some a → Asks N.opens a.session a.tx request result self.old.history self.new.history }
         ensures told { (a : Active) → active_of self.old.active name.now ≡ Some a → IfOk result (IsTold N.opens a.session a.tx request self.new.history) }
         ensures names { self.new.active ≡ self.old.active }
@@ -141,12 +140,13 @@ impl<'a, L: Disk, N: Life> OwnLife<'a, L, N> {
         ensures full { IfErr result (LacksRoom N.opens self.new.history) }
         ensures gives_none { IfErr result (GivesNone N.opens request self.new.history) }
         ensures goes { OnOk result (GoesOn self.old self.new) }
-        ensures refused { IfErr result (FailsToAnswer (IsRefusal request) N.opens self.old self.new) }
+        ensures counted { pages.old.pool.supply.bases.faults ≤ pages.new.pool.supply.bases.faults }
+        ensures refused { IfErr result (FailsToAnswer (IsRefusal request) N.opens pages.old.pool.supply.bases.faults pages.new.pool.supply.bases.faults self.old self.new) }
     {
         let OwnLife { journal, life } = self;
         let answered = pages.ask(rt, alloc, journal, life, name, request);
         see_whole(journal, life);
-        unvaulted(answered)
+        answered
     }
 
     /// Commits the active transaction of this name, which is active no more. It takes no memory. Where the log fails the name
@@ -167,26 +167,25 @@ impl<'a, L: Disk, N: Life> OwnLife<'a, L, N> {
 
     /// Undoes the active transaction of this name and ends it: it is active no more. After a refusal what was undone stays so,
     /// the transaction has no End yet, and the name stays active.
-    pub fn abort<D: PageDevice, R: Wait>(
+    pub fn abort<D: PageDevice, V: Vault, R: Wait>(
         &mut self,
         rt: &R,
         alloc: Global,
-        pages: &mut StorePages<'a, D, N>,
+        pages: &mut StorePages<'a, D, V, N>,
         name: &Name,
     ) -> Result<Pos, Fault>
         requires open { self.old.ended ≡ None }
         requires active { is_active self.old.active name.now ≡ true }
-        requires idle { IsIdle pages.old.pool.out pages.old.pool.reserves }
-        ensures idle { IsIdle pages.new.pool.out pages.new.pool.reserves }
         ensures aborts { (a : Active) → active_of self.old.active name.now ≡ Some a → EndsBy N.opens a.tx result self.old.history self.new.history }
         ensures names { self.new.active ≡ left_by result self.old.active name.now }
         ensures goes { OnOk result (GoesOn self.old self.new) }
-        ensures refused { IfErr result (Fails N.opens self.old self.new) }
+        ensures counted { pages.old.pool.supply.bases.faults ≤ pages.new.pool.supply.bases.faults }
+        ensures refused { IfErr result (FailsOver N.opens pages.old.pool.supply.bases.faults pages.new.pool.supply.bases.faults self.old self.new) }
     {
         let OwnLife { journal, life } = self;
         let ended = pages.abort(rt, alloc, journal, life, name);
         see_whole(journal, life);
-        unvaulted(ended)
+        ended
     }
 
     /// Takes a Checkpoint, makes the log durable up to it, and gives its LSN.
@@ -207,15 +206,13 @@ impl<'a, L: Disk, N: Life> OwnLife<'a, L, N> {
     /// The data device is lost, and an empty one takes its place. The log says so first, and is made durable up to that; gives the
     /// LSN of that record. From then on a page is restored from the log as it is wanted, its whole segment with it. Where the log
     /// doesn't say so, the device stays as it is.
-    pub fn lose<D: PageDevice, R: Wait>(
+    pub fn lose<D: PageDevice, V: Vault, R: Wait>(
         &mut self,
         rt: &R,
         alloc: Global,
-        pages: &mut StorePages<'a, D, N>,
+        pages: &mut StorePages<'a, D, V, N>,
     ) -> Result<Lsn, Fault>
         requires open { self.old.ended ≡ None }
-        requires idle { IsIdle pages.old.pool.out pages.old.pool.reserves }
-        ensures idle { IsIdle pages.new.pool.out pages.new.pool.reserves }
         ensures entered { IsLost result self.old.history self.new.history }
         ensures flushed { IfOk result (λ lsn. (opening : List Record) → N.opens opening → lsn ≤ self.new.durable) }
         ensures clean { OnOk result ((page : ℕ) → Lacks pages.new.pool.frames page → ⊥) }
@@ -263,15 +260,20 @@ impl<'a, L: Disk, N: Life> OwnLife<'a, L, N> {
         self.journal.refused()
     }
 
-    /// The life has stopped: its log disk and its data device, as they are. What the log disk keeps, and what it keeps after a crash
-    /// that comes now, stands for a log that a stop may leave of the life, and each image of the data device is made of that log.
-    pub fn into_devices<D: PageDevice>(self, pages: StorePages<'a, D, N>) -> (L, D)
-        ensures left { AreLeft L.Disk D.PageDevice N.opens self.entry result.0 result.1 }
+    /// The life has stopped: its log disk, its data device and its vault, as they are. What the log disk keeps, and what it keeps
+    /// after a crash that comes now, stands for a log that a stop may leave of the life, each image of the data device is made of
+    /// that log, and each object that the life's log names is synced in the vault.
+    pub fn into_devices<D: PageDevice, V: Vault>(self, pages: StorePages<'a, D, V, N>) -> (L, D, V)
+        ensures left { AreLeft L.Disk D.PageDevice V.Vault N.opens self.entry result.0 result.1 result.2 }
     {
-        let OwnLife { journal, mut life } = self;
-        let device = pages.into_device(&mut life.pass);
+        let OwnLife {
+            mut journal,
+            mut life,
+        } = self;
+        let (device, objects) = pages.into_parts(&mut life.pass);
+        let vault = leave_vault(objects, &mut journal, &mut life.pass);
         let log = journal.into_device(&mut life.pass);
-        (log, device)
+        (log, device, vault)
     }
 }
 
@@ -282,16 +284,6 @@ fn place_of<N: Life>(life: &StoreLife<N>, tx: TxId) -> Option<usize>
     life.named
         .iter()
         .position(|named| named.session.transaction() == tx)
-}
-
-/// No vault is read.
-pub(crate) fn unvaulted<T>(answer: Result<T, Fault>) -> Result<T, Fault>
-    ensures { result ≡ without_vault answer }
-{
-    match answer {
-        Err(Fault::VaultBad { .. }) => Err(Fault::Memory),
-        other => other,
-    }
 }
 
 /// Fewer names are active than may be.

@@ -12,13 +12,12 @@ use Rattle.life_commands.specs.declared.status.Status.{Status}
 use Rattle.life_commands.specs.declared.status.Status.TheVariants as statuses
 use Rattle.life_commands.specs.Bytes.{Bytes, Unknown, Gated, Bad, Known}
 use Rattle.runner.specs.Causes.{IsAsked}
-use Rattle.life_commands.specs.Images.{AreImagesOf}
+use Rattle.life_commands.specs.Stores.{AreOf, stores}
 use Rattle.life_commands.specs.Living.{Out}
 use Rattle.life_commands.specs.LogDisk.{View, IsWhole, Whole, seen, Keeps, HoldsOne}
 use Rattle.life_commands.specs.Turns.{Last, Stage, Start, Found, MayFind, IsRightLife, begin_stage, bytes_after, last_after, stage}
 use Rattle.runner.specs.Clause.{HandsBack, Headline}
-use Rattle.runner.specs.Devices.{Imaged}
-use Rattle.runner.proofs.Vaults.{vault_first}
+use Rattle.runner.specs.Devices.{Stored}
 use Rattle.life_commands.proofs.Lives.{keeps_only}
 
 -- what a fuse round a device says
@@ -82,15 +81,17 @@ back_as {start = start} through h = record {
 -- ---- completeness
 
 asked : {tells : Type 0} {start : Start} {B : Stage → Type 0} {left0 left told0 told : Option (List ℕ)} {pending : List ℕ} (status : Status) → Headline tells start B left0 pending left told0 told status → tells
-    → (status ≢ statuses.Usage) × (status ≢ statuses.NoGenerator) → status ≢ statuses.SourceFault → status ≢ statuses.SinkFault → status ≢ statuses.LogFault → IsAsked status
-asked statuses.Usage h t usage source sink fault = usage.0 refl
-asked statuses.NoGenerator h t usage source sink fault = usage.1 refl
-asked statuses.SourceFault h t usage source sink fault = source refl
-asked statuses.SinkFault h t usage source sink fault = sink refl
-asked statuses.LogFault h t usage source sink fault = fault refl
-asked (statuses.LogBad block byte) h t usage source sink fault = h.ended.2 t
-asked (statuses.BlockBad block byte) h t usage source sink fault = h.ended.1 t
-asked _ h t usage source sink fault = tt
+    → (status ≢ statuses.Usage) × (status ≢ statuses.NoGenerator) → status ≢ statuses.SourceFault → status ≢ statuses.SinkFault → status ≢ statuses.LogFault → status ≢ statuses.VaultFault → IsAsked status
+asked statuses.Usage h t usage source sink fault vault = usage.0 refl
+asked statuses.NoGenerator h t usage source sink fault vault = usage.1 refl
+asked statuses.SourceFault h t usage source sink fault vault = source refl
+asked statuses.SinkFault h t usage source sink fault vault = sink refl
+asked statuses.LogFault h t usage source sink fault vault = fault refl
+asked statuses.VaultFault h t usage source sink fault vault = vault refl
+asked (statuses.LogBad block byte) h t usage source sink fault vault = h.ended.2 t
+asked (statuses.BlockBad block byte) h t usage source sink fault vault = h.ended.1 t
+asked (statuses.VaultBad object byte) h t usage source sink fault vault = h.ended.1 t
+asked _ h t usage source sink fault vault = tt
 
 -- what is known of a disk is known of it in its fuse
 known_fused : {D : Type 0} (L : Ghosts D) (e : Fused D) (b : Bytes) → Known L.tells L b e.inner → Known L.tells (fuse_of L) b e
@@ -121,37 +122,36 @@ abbrev pub fresh : {D : Type 0} → D → Fused D
 fresh d = record { inner = d; left = None; refused = 0 }
 
 -- a run round fused devices is one round the devices
-pub begun_fused : {D E : Type 0} (L : Ghosts D) (P : pages.Ghosts E) (v : View L.tells) (e : Fused D) (f : Fused E) (d : D) (device : E) → e ≡ fresh d → f ≡ fresh device → (start : Start) → (IsWhole v → P.tells × Keeps L start.last d × AreImagesOf (P.told device) start.last) → Known L.tells L start.bytes d
-    → Imaged (IsWhole v) (images_fuse P) f (Out L.tells (seen (fuse_of L) v) e) (begin_stage start)
-begun_fused L P v e f d device is same start keeps known = record {
+pub begun_fused : {D E F : Type 0} (L : Ghosts D) (P : pages.Ghosts E) (V : vaults.Ghosts F) (v : View L.tells) (e : Fused D) (f : Fused E) (d : D) (device : E) (vault : F) → e ≡ fresh d → f ≡ fresh device → (start : Start) → (IsWhole v → (stores P V).tells × Keeps L start.last d × AreOf ((stores P V).are_of (device, vault)) start.last) → Known L.tells L start.bytes d
+    → Stored (IsWhole v) (stores (images_fuse P) V) (f, vault) (Out L.tells (seen (fuse_of L) v) e) (begin_stage start)
+begun_fused L P V v e f d device vault is same start keeps known = record {
   here = subst (λ (x : Fused _). Out L.tells (seen (fuse_of L) v) x (begin_stage start)) (sym is) (out_at (IsWhole v) L.tells L (fuse_of L) (fresh d) d refl (λ c m. m) tt refl start (λ w. (keeps w).1) (known_fused L (fresh d) start.bytes known));
   told = λ w. (keeps w).0;
-  images = λ w. subst (λ (x : Fused _). AreImagesOf (P.told x.inner) start.last) (sym same) (keeps w).2;
+  stores = λ w. subst (λ (x : Fused _). AreOf ((stores P V).are_of (x.inner, vault)) start.last) (sym same) (keeps w).2;
 }
 
-pub ended_fused : {D E F : Type 0} (L : Ghosts D) (P : pages.Ghosts E) (V : vaults.Ghosts F) (v : View L.tells) (first vault : F) (e : Fused D) (f : Fused E) (d : D) (device : E) → d ≡ e.inner → device ≡ f.inner → {start : Start} {left0 : Option (List ℕ)} {pending : List ℕ} {left told0 told : Option (List ℕ)} {status : Status}
-    → Headline (IsWhole v) start (HandsBack L.tells (seen (fuse_of L) v) (images_fuse P) V e f first vault) left0 pending left told0 told status → Headline (IsWhole v) start (HandsBack L.tells (seen L v) P V d device first vault) left0 pending left told0 told status
-ended_fused L P V v first vault e f d device is same h = back_as through h
+pub ended_fused : {D E F : Type 0} (L : Ghosts D) (P : pages.Ghosts E) (V : vaults.Ghosts F) (v : View L.tells) (e : Fused D) (f : Fused E) (d : D) (device : E) (vault : F) → d ≡ e.inner → device ≡ f.inner → {start : Start} {left0 : Option (List ℕ)} {pending : List ℕ} {left told0 told : Option (List ℕ)} {status : Status}
+    → Headline (IsWhole v) start (HandsBack L.tells (seen (fuse_of L) v) (stores (images_fuse P) V) e (f, vault)) left0 pending left told0 told status → Headline (IsWhole v) start (HandsBack L.tells (seen L v) (stores P V) d (device, vault)) left0 pending left told0 told status
+ended_fused L P V v e f d device vault is same h = back_as through h
   where
-    through : (s : Stage) → HandsBack L.tells (seen (fuse_of L) v) (images_fuse P) V e f first vault s → HandsBack L.tells (seen L v) P V d device first vault s
+    through : (s : Stage) → HandsBack L.tells (seen (fuse_of L) v) (stores (images_fuse P) V) e (f, vault) s → HandsBack L.tells (seen L v) (stores P V) d (device, vault) s
     through s b = record {
       kept = b.kept;
       leaves = λ t. subst (λ (x : _). Keeps (seen L v) (last_after s.life s.last b.kept) x) (sym is) (keeps_inner (IsWhole v) L (fuse_of L) e e.inner refl (λ c m. m) (last_after s.life s.last b.kept) (b.leaves t));
-      images = λ t. subst (λ (x : _). AreImagesOf (P.told x) (last_after s.life s.last b.kept)) (sym same) (b.images t);
+      stores = λ t. subst (λ (x : _). AreOf ((stores P V).are_of (x, vault)) (last_after s.life s.last b.kept)) (sym same) (b.stores t);
       bytes = subst (λ (x : _). Known L.tells (seen L v) (bytes_after s.life s.bytes) x) (sym is) (known_inner L e (bytes_after s.life s.bytes) b.bytes);
-      stored = b.stored;
     }
 
 -- devices that are handed back as they were handed in
-pub handed_back : {D E F : Type 0} (L : Ghosts D) (P : pages.Ghosts E) (V : vaults.Ghosts F) (v : View L.tells) (start : Start) (disk : D) (device : E) (vault : F) → (IsWhole v → P.tells × Keeps L start.last disk × AreImagesOf (P.told device) start.last) → Known L.tells L start.bytes disk
-    → HandsBack L.tells (seen L v) P V disk device vault vault (begin_stage start)
-handed_back L P V v start disk device vault keeps known = record { kept = 0; leaves = λ t. (keeps t).1; images = λ t. (keeps t).2; bytes = known; stored = vault_first V vault }
+pub handed_back : {D E F : Type 0} (L : Ghosts D) (P : pages.Ghosts E) (V : vaults.Ghosts F) (v : View L.tells) (start : Start) (disk : D) (device : E) (vault : F) → (IsWhole v → (stores P V).tells × Keeps L start.last disk × AreOf ((stores P V).are_of (device, vault)) start.last) → Known L.tells L start.bytes disk
+    → HandsBack L.tells (seen L v) (stores P V) disk (device, vault) (begin_stage start)
+handed_back L P V v start disk device vault keeps known = record { kept = 0; leaves = λ t. (keeps t).1; stores = λ t. (keeps t).2; bytes = known }
 
--- Of devices that keep a log and images of it, where no device failed, the run has a status that the script asks for.
-pub asked_fused : {D E F : Type 0} (L : Ghosts D) (P : pages.Ghosts E) {V : vaults.Ghosts F} {disk : Fused D} {pages_left : Fused E} {first vault : F} {left0 left told0 told : Option (List ℕ)} {pending : List ℕ} {status : Status} (e : Fused D) (f : Fused E) (d : D) (device : E) → e ≡ fresh d → f ≡ fresh device
-    → ((v : View L.tells) (start : Start) → Imaged (IsWhole v) (images_fuse P) f (Out L.tells (seen (fuse_of L) v) e) (begin_stage start) → Headline (IsWhole v) start (HandsBack L.tells (seen (fuse_of L) v) (images_fuse P) V disk pages_left first vault) left0 pending left told0 told status)
-    → L.tells → P.tells → (last : Last) → Keeps L last d → AreImagesOf (P.told device) last
-    → (status ≢ statuses.Usage) × (status ≢ statuses.NoGenerator) → status ≢ statuses.SourceFault → status ≢ statuses.SinkFault → status ≢ statuses.LogFault → IsAsked status
-asked_fused L P {status = status} e f d device is same headline t p last keeps images usage source sink fault =
+-- Of devices that keep a log and what is of it, where no device failed, the run has a status that the script asks for.
+pub asked_fused : {D E F : Type 0} (L : Ghosts D) (P : pages.Ghosts E) (V : vaults.Ghosts F) {disk : Fused D} {pages_left : Fused E} {vault_left : F} {left0 left told0 told : Option (List ℕ)} {pending : List ℕ} {status : Status} (e : Fused D) (f : Fused E) (d : D) (device : E) (vault : F) → e ≡ fresh d → f ≡ fresh device
+    → ((v : View L.tells) (start : Start) → Stored (IsWhole v) (stores (images_fuse P) V) (f, vault) (Out L.tells (seen (fuse_of L) v) e) (begin_stage start) → Headline (IsWhole v) start (HandsBack L.tells (seen (fuse_of L) v) (stores (images_fuse P) V) disk (pages_left, vault_left)) left0 pending left told0 told status)
+    → L.tells → P.tells → V.tells → (last : Last) → Keeps L last d → AreOf ((stores P V).are_of (device, vault)) last
+    → (status ≢ statuses.Usage) × (status ≢ statuses.NoGenerator) → status ≢ statuses.SourceFault → status ≢ statuses.SinkFault → status ≢ statuses.LogFault → status ≢ statuses.VaultFault → IsAsked status
+asked_fused L P V {status = status} e f d device vault is same headline t p o last keeps these usage source sink fault vaulted =
     let start : Start = record { last = last; bytes = Unknown } in
-    asked status (headline (Whole t) start (begun_fused L P (Whole t) e f d device is same start (λ w. (p, keeps, images)) tt)) tt usage source sink fault
+    asked status (headline (Whole t) start (begun_fused L P V (Whole t) e f d device vault is same start (λ w. ((p, o), keeps, these)) tt)) tt usage source sink fault vaulted

@@ -1,7 +1,8 @@
+pub mod Blamed
 pub mod Causes
 pub mod Fused
 pub mod Gates
-pub mod Images
+pub mod Stores
 pub mod Insides
 pub mod Known
 pub mod Lists
@@ -12,6 +13,5 @@ pub mod Rights
 pub mod Runs
 pub mod Stages
 pub mod Turning
-pub mod Vaults
 pub mod Whole
 pub mod Without

@@ -2,10 +2,9 @@
 use Rattle.std.proofs.Common.{◌≡◌, ℕ, List, Option, refl, sym, ap, subst, ◌∙◌, ◌⊎◌, ⊎_elim, inl, inr}
 use Rattle.std.specs.List.{list_any}
 use Rattle.media.specs.declared.disk.Disk.{Ghosts}
-use Rattle.media.specs.declared.pages.PageDevice as pages
 use Rattle.wal_record.specs.Left.{is_commit_of}
 use Rattle.wal_record.specs.declared.record.Record.{Record}
-use Rattle.life_commands.specs.Images.{AreImagesOf, AreSealed}
+use Rattle.life_commands.specs.Stores.{AreOf, Stores}
 use Rattle.life_commands.specs.LogDisk.{Keeps}
 use Rattle.runner.specs.NextCall.{HandsOn, HasAcknowledged}
 use Rattle.life_commands.specs.Turns.{Last, Unsynced, LeftBy, Life, Stage, IsLeftBy, MayFind, MayBeLeft, last_after}
@@ -20,14 +19,14 @@ left_by l kept last log next is found (inl same) = subst (λ (x : Last). MayFind
 left_by l kept last log next is found (inr left) = subst (λ (x : Last). MayBeLeft x next) is left
 
 -- the log that was found, or one that may be left
-handed_images : (told : ℕ → List ℕ → Type 0) (last : Last) (log : List Record) → MayFind last log → AreImagesOf told last → AreImagesOf told (Unsynced log last)
-handed_images told last log found h = record {
-  found = λ rs same. subst (AreSealed told) (sym same) (h.found log found);
-  left = λ rs. ⊎_elim (λ same. subst (AreSealed told) (sym same) (h.found log found)) (λ left. h.left rs left);
+handed_on : (of : List Record → Type 0) (last : Last) (log : List Record) → MayFind last log → AreOf of last → AreOf of (Unsynced log last)
+handed_on of last log found h = record {
+  found = λ rs same. subst of (sym same) (h.found log found);
+  left = λ rs. ⊎_elim (λ same. subst of (sym same) (h.found log found)) (λ left. h.left rs left);
 }
 
-pub hands_on : {D E : Type 0} (L : Ghosts D) (P : pages.Ghosts E) (s : Stage) (kept : ℕ) (disk : D) (device : E) → Keeps L (last_after s.life s.last kept) disk → AreImagesOf (P.told device) (last_after s.life s.last kept) → HandsOn L P s disk device
-hands_on L P s kept disk device k images =
+pub hands_on : {D S : Type 0} (L : Ghosts D) (B : Stores S) (s : Stage) (kept : ℕ) (disk : D) (beside : S) → Keeps L (last_after s.life s.last kept) disk → AreOf (B.are_of beside) (last_after s.life s.last kept) → HandsOn L B s disk beside
+hands_on L B s kept disk beside k these =
     let last = last_after s.life s.last kept in
     let log = k.now.0 in
     record {
@@ -36,6 +35,6 @@ hands_on L P s kept disk device k images =
       found = k.now.1;
       stands = k.now.2;
       keeps = record { now = (log, refl, k.now.2); crash = λ c may. holds_map (MayBeLeft last) (MayBeLeft (Unsynced log last)) c (λ rs h. inr h) (k.crash c may) };
-      images = handed_images (P.told device) last log k.now.1 images;
+      stores = handed_on (B.are_of beside) last log k.now.1 these;
       acknowledged = λ l e next may. has_acknowledged l kept next (left_by l kept last log next (ap (λ (o : Option Life). last_after o s.last kept) e) k.now.1 may);
     }

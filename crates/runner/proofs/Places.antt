@@ -3,7 +3,6 @@ use Rattle.std.proofs.Common.{◌≡◌, ℕ, true, List, [], Option, refl, sym,
 use Rattle.std.specs.List.{All, list_any}
 use Rattle.media.specs.Kept.{Kept}
 use Rattle.media.specs.declared.disk.Disk.{Ghosts}
-use Rattle.media.specs.declared.pages.PageDevice as pages
 use Rattle.log_blocks.specs.Log.{first_lsn}
 use Rattle.log_manager.specs.Devices.{DevicesStandFor}
 use Rattle.log_manager.specs.Records.{StandsForRecords}
@@ -16,14 +15,14 @@ use Rattle.runner.specs.declared.at.At.{At}
 use Rattle.runner.specs.declared.at.At.TheVariants.{Outside, Inside}
 use Rattle.life_commands.specs.Bytes.{Known}
 use Rattle.life_commands.specs.LogDisk.{StandsOn, Keeps}
-use Rattle.life_commands.specs.Images.{AreImagesOf}
+use Rattle.life_commands.specs.Stores.{AreOf, Stores}
 use Rattle.life_commands.specs.Living.{Out, Safe}
-use Rattle.runner.specs.Devices.{AreImagesAt, Imaged, Rests}
+use Rattle.runner.specs.Devices.{AreOfAt, Rests, Stored}
 use Rattle.runner.specs.Machine.{Beginning, Begun, IsAt}
 use Rattle.life_commands.specs.Turns.{Life, Stage, LeftBy, IsLeftBy, IsRightLife, lives_of, last_after, bytes_after}
 use Rattle.life_commands.proofs.Lives.{keeps_only, right_more}
 use Rattle.runner.specs.Causes.{disk_at}
-use Rattle.runner.proofs.Images.{begun_images}
+use Rattle.runner.proofs.Stores.{begun_of}
 use Rattle.runner.proofs.Rights.{right_life}
 use Rattle.runner.proofs.Whole.{hold_whole}
 
@@ -67,22 +66,22 @@ module _ {D : Type 0} (L : Ghosts D) where
     fuse = h.fused.fuse;
   }
 
-module _ {D E : Type 0} (T : Type 0) (L : Ghosts D) (P : pages.Ghosts E) (device : E) where
-  pub rests_out : (disk : D) (s : Stage) → Imaged L.tells P device (Out T L disk) s → Rests T L P 0 disk device s
+module _ {D S : Type 0} (T : Type 0) (L : Ghosts D) (B : Stores S) (beside : S) where
+  pub rests_out : (disk : D) (s : Stage) → Stored L.tells B beside (Out T L disk) s → Rests T L B 0 disk beside s
   rests_out disk s h = record {
     safe = safe_out L T 0 disk s h.here;
-    images = λ t. subst (λ (o : Option Life). AreImagesOf (P.told device) (last_after o s.last 0)) (sym h.here.life) (subst (λ (o : Option Life). AreImagesAt (P.told device) o s.last) h.here.life (h.images t));
+    stores = λ t. subst (λ (o : Option Life). AreOf (B.are_of beside) (last_after o s.last 0)) (sym h.here.life) (subst (λ (o : Option Life). AreOfAt (B.are_of beside) o s.last) h.here.life (h.stores t));
   }
 
-  pub rests_begun : (b : Beginning D) (s : Stage) → Imaged L.tells P device (Begun T L b) s → Rests T L P 0 b.log.log.device device s
+  pub rests_begun : (b : Beginning D) (s : Stage) → Stored L.tells B beside (Begun T L b) s → Rests T L B 0 b.log.log.device beside s
   rests_begun b s h =
       let l : Life = record { opening = h.here.opening; history = [] } in
       record {
         safe = safe_begun L T b s h.here;
-        images = λ t. subst (λ (o : Option Life). AreImagesOf (P.told device) (last_after o s.last 0)) (sym h.here.life)
-            (begun_images l (P.told device) refl (subst (λ (o : Option Life). AreImagesAt (P.told device) o s.last) h.here.life (h.images t)));
+        stores = λ t. subst (λ (o : Option Life). AreOf (B.are_of beside) (last_after o s.last 0)) (sym h.here.life)
+            (begun_of (B.are_of beside) l refl (subst (λ (o : Option Life). AreOfAt (B.are_of beside) o s.last) h.here.life (h.stores t)));
       }
 
-  pub rests_at : (at : At D (Beginning D)) (s : Stage) → Imaged L.tells P device (IsAt T L (Begun T L) at) s → Rests T L P 0 (disk_at (λ b. b.log.log.device) at) device s
-  rests_at (Outside disk) s h = rests_out disk s (record { here = h.here; told = h.told; images = h.images })
-  rests_at (Inside b) s h = rests_begun b s (record { here = h.here; told = h.told; images = h.images })
+  pub rests_at : (at : At D (Beginning D)) (s : Stage) → Stored L.tells B beside (IsAt T L (Begun T L) at) s → Rests T L B 0 (disk_at (λ b. b.log.log.device) at) beside s
+  rests_at (Outside disk) s h = rests_out disk s (record { here = h.here; told = h.told; stores = h.stores })
+  rests_at (Inside b) s h = rests_begun b s (record { here = h.here; told = h.told; stores = h.stores })

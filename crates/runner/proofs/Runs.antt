@@ -6,8 +6,6 @@ use Rattle.std.proofs.lemmas.List.Elements.{All-nil}
 use Rattle.std.specs.Io.KnownBytes.{Appends, Consumes, IsAtEnd, prepend_known}
 use Rattle.std.proofs.KnownBytes.{Consumes-nil, Consumes-trans, Appends-nil, Appends-trans}
 use Rattle.media.specs.declared.disk.Disk.{Ghosts}
-use Rattle.media.specs.declared.pages.PageDevice as pages
-use Rattle.media.specs.declared.vault.Vault as vaults
 use Rattle.store_model.specs.Along.{along, AllAlong}
 use Rattle.script.specs.declared.command.Command.{Command}
 use Rattle.script.specs.declared.command.Command.TheVariants as commands
@@ -19,23 +17,21 @@ use Rattle.life_commands.specs.declared.status.Status.TheVariants as statuses
 use Rattle.line_reader.specs.Lines.{Reader, to_come, first_reader, longest_script, IsBounded, IsLine, IsNoLine}
 use Rattle.line_reader.specs.Built.{is_built}
 use Rattle.runner.specs.Causes.{LineCause}
-use Rattle.life_commands.specs.Images.{AreImagesOf}
+use Rattle.life_commands.specs.Stores.{AreOf, Stores}
 use Rattle.life_commands.specs.Rows.{Fits, FitsAt, IsOfLife, is_lawful}
 use Rattle.life_commands.specs.Turns.{Start, Turn, Stage, Cut, stage, stage_step, begin_stage, bytes_after, last_after, Life, IsRightLife, lives, turn}
 use Rattle.life_commands.specs.Living.{Adds}
 use Rattle.life_commands.specs.Text.{lines, text}
 use Rattle.life_commands.specs.Refusals.{RefusesAt, CutAt, LacksLines, LeftAs, IsOpen, IsFormat, IsNotBuilt}
-use Rattle.runner.specs.Devices.{Imaged, Rests}
+use Rattle.runner.specs.Devices.{Rests, Stored}
 use Rattle.runner.specs.Machine.{IsAt}
 use Rattle.runner.specs.declared.at.At.{At}
 use Rattle.life_commands.specs.Bytes.{Bytes, Known}
 use Rattle.life_commands.specs.LogDisk.{Leaves}
-use Rattle.runner.specs.Vault.{Beside, IsVault}
 use Rattle.runner.specs.Cuts.{MayCut}
 use Rattle.runner.specs.Clause.{IsNext, IsPrefix, Partly, BadLine, Unlawful, OfCommand, NextLine, Ended, HandsBack, Headline, Between, Asked, AtRest, Closing, Stopping, TakesCommand, Whatever}
-use Rattle.runner.proofs.Stages.{cut_bytes, cut_vault, life_still}
+use Rattle.runner.proofs.Stages.{cut_bytes, life_still}
 use Rattle.runner.proofs.Turning.{stage_push, text_push, fits_push, script_push}
-use Rattle.runner.proofs.Vaults.{vault_first}
 
 prefix_self : (a : List ℕ) → IsPrefix a a
 prefix_self a = ([], sym (append-nil a))
@@ -70,13 +66,13 @@ took old new lo ln o next is t =
     record { line = record { line = u.0; took = u.1; one = u.2; said = u.4; size = u.7; within = u.8; count = u.6 }; built = u.3; number = u.5 }
 
 -- a line that was asked for
-pub asked_line : {E : Type 0} {tells : Type 0} {V : vaults.Ghosts E} {start : Start} {H : Stage → Type 0} {first vault : E} {left0 told0 left told : Option (List ℕ)} {reader : Reader} {turns : List Turn} {c : Command}
-    (a : Asked tells V start H first vault left0 told0 reader turns left told c) → Took a.old reader a.left_old left c
+pub asked_line : {tells : Type 0} {start : Start} {H : Stage → Type 0} {left0 told0 left told : Option (List ℕ)} {reader : Reader} {turns : List Turn} {c : Command}
+    (a : Asked tells start H left0 told0 reader turns left told c) → Took a.old reader a.left_old left c
 asked_line a = record { line = a.line; took = a.took; one = a.one; said = a.said; size = a.size; within = a.within; count = a.count }
 
 -- the same turns, of whose stage this holds
-pub between_as : {E : Type 0} {tells : Type 0} {V : vaults.Ghosts E} {start : Start} {first vault : E} {H : Stage → Type 0} {left0 told0 left told : Option (List ℕ)} {reader : Reader} {turns : List Turn}
-    (H' : Stage → Type 0) → H' (stage start turns) → Between tells start (Beside V first vault H) left0 told0 reader turns left told → Between tells start (Beside V first vault H') left0 told0 reader turns left told
+pub between_as : {tells : Type 0} {start : Start} {H : Stage → Type 0} {left0 told0 left told : Option (List ℕ)} {reader : Reader} {turns : List Turn}
+    (H' : Stage → Type 0) → H' (stage start turns) → Between tells start H left0 told0 reader turns left told → Between tells start H' left0 told0 reader turns left told
 between_as H' h b = record {
   read = b.read;
   script = b.script;
@@ -86,22 +82,22 @@ between_as H' h b = record {
   within = b.within;
   most = b.most;
   fits = b.fits;
-  holds = record { here = h; vault = b.holds.vault };
+  holds = h;
   wrote = b.wrote;
 }
 
 -- the same turns, of whose stage the run's place says what it says of where the run is
-pub between_at : {D E F G : Type 0} {tells : Type 0} {V : vaults.Ghosts E} {P : pages.Ghosts G} {device : G} {start : Start} {first vault : E} {left0 told0 left told : Option (List ℕ)} {reader : Reader} {turns : List Turn} (T : Type 0) (L : Ghosts D) (inside : F → Stage → Type 0) (at now : At D F) → at ≡ now
-    → Between tells start (Beside V first vault (Imaged tells P device (IsAt T L inside at))) left0 told0 reader turns left told → Between tells start (Beside V first vault (Imaged tells P device (IsAt T L inside now))) left0 told0 reader turns left told
-between_at {tells = tells} {P = P} {device = device} {start = start} {turns = turns} T L inside at now is b =
-    between_as (Imaged tells P device (IsAt T L inside now)) (subst (λ (x : At _ _). Imaged tells P device (IsAt T L inside x) (stage start turns)) is b.holds.here) b
+pub between_at : {D F S : Type 0} {tells : Type 0} {B : Stores S} {beside : S} {start : Start} {left0 told0 left told : Option (List ℕ)} {reader : Reader} {turns : List Turn} (T : Type 0) (L : Ghosts D) (inside : F → Stage → Type 0) (at now : At D F) → at ≡ now
+    → Between tells start (Stored tells B beside (IsAt T L inside at)) left0 told0 reader turns left told → Between tells start (Stored tells B beside (IsAt T L inside now)) left0 told0 reader turns left told
+between_at {tells = tells} {B = B} {beside = beside} {start = start} {turns = turns} T L inside at now is b =
+    between_as (Stored tells B beside (IsAt T L inside now)) (subst (λ (x : At _ _). Stored tells B beside (IsAt T L inside x) (stage start turns)) is b.holds) b
 
 -- ---- behind these turns so much more was read
 
-module _ {D E G : Type 0} {start : Start} {V : vaults.Ghosts E} {first vault : E} {H : Stage → Type 0} {left0 told0 lo told : Option (List ℕ)} {old : Reader} {turns : List Turn} (T : Type 0) (L : Ghosts D) (P : pages.Ghosts G) (new : Reader) (ln : Option (List ℕ))
-    (b : Between L.tells start (Beside V first vault H) left0 told0 old turns lo told) (most : IsBounded new) where
-  abbrev Ends : D → G → E → Option (List ℕ) → Status → Type 0
-  Ends now device vault' told' status = Headline L.tells start (HandsBack T L P V now device first vault') left0 new.pending ln told0 told' status
+module _ {D S : Type 0} {start : Start} {H : Stage → Type 0} {left0 told0 lo told : Option (List ℕ)} {old : Reader} {turns : List Turn} (T : Type 0) (L : Ghosts D) (B : Stores S) (new : Reader) (ln : Option (List ℕ))
+    (b : Between L.tells start H left0 told0 old turns lo told) (most : IsBounded new) where
+  abbrev Ends : D → S → Option (List ℕ) → Status → Type 0
+  Ends now beside told' status = Headline L.tells start (HandsBack T L B now beside) left0 new.pending ln told0 told' status
 
   abbrev AreRight : Type 0
   AreRight = L.tells → All IsRightLife (lives (stage start turns))
@@ -114,9 +110,9 @@ module _ {D E G : Type 0} {start : Start} {V : vaults.Ghosts E} {first vault : E
   at_line line is = is ∙ ap (λ (n : ℕ). n + 1) b.count
 
   -- the run ends between two turns
-  stop : AreRight → (stage start turns).cut ≡ false → (now : D) (device : G) (rest : List ℕ) (status : Status) → MayCut status false → Consumes (to_come old lo) (to_come new ln) rest → new.taken ≡ old.taken + length rest → Ended L.tells start status turns b.read rest (text start turns) (to_come new ln)
-      → HandsBack T L P V now device first vault (stage start turns) → Ends now device vault told status
-  stop right goes now device rest status whole took size ended hands = record {
+  stop : AreRight → (stage start turns).cut ≡ false → (now : D) (beside : S) (rest : List ℕ) (status : Status) → MayCut status false → Consumes (to_come old lo) (to_come new ln) rest → new.taken ≡ old.taken + length rest → Ended L.tells start status turns b.read rest (text start turns) (to_come new ln)
+      → HandsBack T L B now beside (stage start turns) → Ends now beside told status
+  stop right goes now beside rest status whole took size ended hands = record {
     turns = turns;
     read = b.read;
     rest = rest;
@@ -133,21 +129,21 @@ module _ {D E G : Type 0} {start : Start} {V : vaults.Ghosts E} {first vault : E
 
   -- ---- with the devices as they were
 
-  module _ (kept : ℕ) (disk : D) (device : G) (rests : Rests T L P kept disk device (stage start turns)) where
-    stop_here : (rest : List ℕ) (status : Status) → MayCut status false → Consumes (to_come old lo) (to_come new ln) rest → new.taken ≡ old.taken + length rest → Ended L.tells start status turns b.read rest (text start turns) (to_come new ln) → Ends disk device vault told status
+  module _ (kept : ℕ) (disk : D) (beside : S) (rests : Rests T L B kept disk beside (stage start turns)) where
+    stop_here : (rest : List ℕ) (status : Status) → MayCut status false → Consumes (to_come old lo) (to_come new ln) rest → new.taken ≡ old.taken + length rest → Ended L.tells start status turns b.read rest (text start turns) (to_come new ln) → Ends disk beside told status
     stop_here rest status whole took size ended =
         let safe = rests.safe in
-        stop safe.right safe.goes disk device rest status whole took size ended (record { kept = kept; leaves = safe.leaves; images = rests.images; bytes = safe.bytes; stored = b.holds.vault })
+        stop safe.right safe.goes disk beside rest status whole took size ended (record { kept = kept; leaves = safe.leaves; stores = rests.stores; bytes = safe.bytes })
 
-    pub no_memory : (rest : List ℕ) → Consumes (to_come old lo) (to_come new ln) rest → new.taken ≡ old.taken + length rest → Ends disk device vault told statuses.Memory
+    pub no_memory : (rest : List ℕ) → Consumes (to_come old lo) (to_come new ln) rest → new.taken ≡ old.taken + length rest → Ends disk beside told statuses.Memory
     no_memory rest took size = stop_here rest statuses.Memory tt took size (all_of start turns)
 
     -- the input is at its end
-    pub at_end : Consumes (to_come old lo) (to_come new ln) [] × IsAtEnd (to_come new ln) × (new.taken ≡ old.taken) → Ends disk device vault told statuses.Done
+    pub at_end : Consumes (to_come old lo) (to_come new ln) [] × IsAtEnd (to_come new ln) × (new.taken ≡ old.taken) → Ends disk beside told statuses.Done
     at_end h = stop_here [] statuses.Done refl h.0 (omega (arith, h.2)) (refl, refl, h.1)
 
     -- no command is read
-    pub no_line : (status : Status) (before now : ℕ) → TakesCommand old new lo ln (Err status) → LineCause before now status → Ends disk device vault told status
+    pub no_line : (status : Status) (before now : ℕ) → TakesCommand old new lo ln (Err status) → LineCause before now status → Ends disk beside told status
     no_line statuses.Memory before now (rest, took, size) why = no_memory rest took size
     no_line statuses.SourceFault before now (rest, took, size) why = stop_here rest statuses.SourceFault refl took size refl
     no_line (statuses.NotBuilt n) before now (is, bytes, took, one, size, within, unbuilt) why =
@@ -200,12 +196,12 @@ module _ {D E G : Type 0} {start : Start} {V : vaults.Ghosts E} {first vault : E
         )
 
     -- the sink fails within a turn's lines
-    pub fell : (kept : ℕ) (now : D) (device : G) (vault' : E) (H' : Stage → Type 0) → ((s : Stage) → H' s → Rests T L P kept now device s) → (out done rest : List ℕ) → Adds L.tells (Beside V first vault' H') (stage start turns) c out → out ≡ done ++ rest → (told' : Option (List ℕ)) → Appends told told' done → Ends now device vault' told' statuses.SinkFault
-    fell kept now device vault' H' rests out done rest added cut told' wrote =
+    pub fell : (kept : ℕ) (now : D) (beside : S) (H' : Stage → Type 0) → ((s : Stage) → H' s → Rests T L B kept now beside s) → (out done rest : List ℕ) → Adds L.tells H' (stage start turns) c out → out ≡ done ++ rest → (told' : Option (List ℕ)) → Appends told told' done → Ends now beside told' statuses.SinkFault
+    fell kept now beside H' rests out done rest added cut told' wrote =
         let t : Turn = added.turn in
         let all : text start (turns ++ t ∷ []) ≡ (text start turns ++ done) ++ rest = text_push start turns t ∙ ap (λ (x : List ℕ). text start turns ++ x) (sym added.lines ∙ cut) ∙ sym (append_assoc (text start turns) done rest) in
-        let at = subst (Beside V first vault' H') (sym (stage_push start turns t)) added.holds in
-        let behind = rests (stage start (turns ++ t ∷ [])) at.here in
+        let at = subst H' (sym (stage_push start turns t)) added.holds in
+        let behind = rests (stage start (turns ++ t ∷ [])) at in
         let then = behind.safe in
         record {
           turns = turns ++ t ∷ [];
@@ -223,11 +219,11 @@ module _ {D E G : Type 0} {start : Start} {V : vaults.Ghosts E} {first vault : E
           cut = then.goes;
           wrote = Appends-trans _ _ _ (text start turns) done b.wrote wrote;
           ended = (turns, t ∷ [], omega arith, refl, (done, refl), (rest, all));
-          back = record { kept = kept; leaves = then.leaves; images = behind.images; bytes = then.bytes; stored = at.vault };
+          back = record { kept = kept; leaves = then.leaves; stores = behind.stores; bytes = then.bytes };
         }
 
     -- the line asks for this command
-    asked : (H' : Stage → Type 0) → H' (stage start turns) → (d : Command) → c ≡ d → Asked L.tells V start H' first vault left0 told0 new turns ln told d
+    asked : (H' : Stage → Type 0) → H' (stage start turns) → (d : Command) → c ≡ d → Asked L.tells start H' left0 told0 new turns ln told d
     asked H' holds d is = record {
       old = old;
       left_old = lo;
@@ -242,24 +238,24 @@ module _ {D E G : Type 0} {start : Start} {V : vaults.Ghosts E} {first vault : E
       count = line.count;
     }
 
-    pub stops : (kept : ℕ) (disk : D) (device : G) → Rests T L P kept disk device (stage start turns) → (keep : Option ℕ) (out : List ℕ) → c ≡ commands.Stop keep → out ≡ codes "stop\n" → Stopping T L P V start kept disk device first vault left0 told0 new turns ln told keep out
-    stops kept disk device rests keep out is text = (text, asked (Rests T L P kept disk device) rests (commands.Stop keep) is)
+    pub stops : (kept : ℕ) (disk : D) (beside : S) → Rests T L B kept disk beside (stage start turns) → (keep : Option ℕ) (out : List ℕ) → c ≡ commands.Stop keep → out ≡ codes "stop\n" → Stopping T L B start kept disk beside left0 told0 new turns ln told keep out
+    stops kept disk beside rests keep out is text = (text, asked (Rests T L B kept disk beside) rests (commands.Stop keep) is)
 
-    pub closes : (disk : D) (device : G) (out : List ℕ) → c ≡ commands.Close → Adds L.tells (AtRest T L P disk device) (stage start turns) commands.Close out → Closing T L P V start disk device first vault left0 told0 new turns ln told out
-    closes disk device out is added = (added, asked Whatever tt commands.Close is)
+    pub closes : (disk : D) (beside : S) (out : List ℕ) → c ≡ commands.Close → Adds L.tells (AtRest T L B disk beside) (stage start turns) commands.Close out → Closing T L B start disk beside left0 told0 new turns ln told out
+    closes disk beside out is added = (added, asked Whatever tt commands.Close is)
 
     -- want of memory for the lines of a stop
-    pub lacks_memory : (kept : ℕ) (disk : D) (device : G) → Rests T L P kept disk device (stage start turns) → Ends disk device vault told statuses.Memory
-    lacks_memory kept disk device rests = no_memory kept disk device rests whole line.took (omega (arith, line.size, length-append line.line (10 ∷ [])))
+    pub lacks_memory : (kept : ℕ) (disk : D) (beside : S) → Rests T L B kept disk beside (stage start turns) → Ends disk beside told statuses.Memory
+    lacks_memory kept disk beside rests = no_memory kept disk beside rests whole line.took (omega (arith, line.size, length-append line.line (10 ∷ [])))
 
     -- ---- a command that ends the run
 
     -- behind a turn of it, whose lines aren't written
-    turned_off : (kept : ℕ) (now : D) (device : G) (status : Status) (t : Turn) → t.command ≡ c → FitsAt L.tells (stage start turns) t → (L.tells → All IsRightLife (lives (stage_step (stage start turns) t))) → Leaves L kept now (stage_step (stage start turns) t)
-        → (L.tells → AreImagesOf (P.told device) (last_after (stage_step (stage start turns) t).life (stage_step (stage start turns) t).last kept))
-        → (stage_step (stage start turns) t).cycled ≡ (stage start turns).cycled → bytes_after (stage_step (stage start turns) t).life (stage_step (stage start turns) t).bytes ≡ bytes_after (stage start turns).life (stage start turns).bytes
-        → MayCut status (stage_step (stage start turns) t).cut → Ended L.tells start status (turns ++ t ∷ []) (b.read ++ whole) [] (text start turns) (to_come new ln) → IsKnown now → Ends now device vault told status
-    turned_off kept now device status t same fits right leaves images vault_is bytes_are cut ended known = record {
+    turned_off : (kept : ℕ) (now : D) (beside : S) (status : Status) (t : Turn) → t.command ≡ c → FitsAt L.tells (stage start turns) t → (L.tells → All IsRightLife (lives (stage_step (stage start turns) t))) → Leaves L kept now (stage_step (stage start turns) t)
+        → (L.tells → AreOf (B.are_of beside) (last_after (stage_step (stage start turns) t).life (stage_step (stage start turns) t).last kept))
+        → bytes_after (stage_step (stage start turns) t).life (stage_step (stage start turns) t).bytes ≡ bytes_after (stage start turns).life (stage start turns).bytes
+        → MayCut status (stage_step (stage start turns) t).cut → Ended L.tells start status (turns ++ t ∷ []) (b.read ++ whole) [] (text start turns) (to_come new ln) → IsKnown now → Ends now beside told status
+    turned_off kept now beside status t same fits right leaves these bytes_are cut ended known = record {
       turns = turns ++ t ∷ [];
       read = b.read ++ whole;
       rest = [];
@@ -275,12 +271,11 @@ module _ {D E G : Type 0} {start : Start} {V : vaults.Ghosts E} {first vault : E
       cut = subst (λ (z : Stage). MayCut status z.cut) (sym (stage_push start turns t)) cut;
       wrote = b.wrote;
       ended = ended;
-      back = subst (HandsBack T L P V now device first vault) (sym (stage_push start turns t)) (record {
+      back = subst (HandsBack T L B now beside) (sym (stage_push start turns t)) (record {
         kept = kept;
         leaves = leaves;
-        images = images;
+        stores = these;
         bytes = subst (λ (z : Bytes). Known T L z now) (sym bytes_are) known;
-        stored = subst (IsVault V first vault) (sym vault_is) b.holds.vault;
       });
     }
 
@@ -288,45 +283,47 @@ module _ {D E G : Type 0} {start : Start} {V : vaults.Ghosts E} {first vault : E
     cut_text : (es : List Entry) → text start turns ≡ text start (turns ++ turn c es Cut ∷ [])
     cut_text es = sym (text_push start turns (turn c es Cut) ∙ append-nil (text start turns))
 
-    -- with what the data device has, behind the turns so far and behind one more
-    module _ (kept : ℕ) (now : D) (device : G) (opens : List Record → Type 0) (h : List Entry)
-        (images : LeftAs L kept now opens h (stage start turns) → L.tells → AreImagesOf (P.told device) (last_after (stage start turns).life (stage start turns).last kept))
+    -- with what is beside the log disk, behind the turns so far and behind one more
+    module _ (kept : ℕ) (now : D) (beside : S) (opens : List Record → Type 0) (h : List Entry)
+        (images : LeftAs L kept now opens h (stage start turns) → L.tells → AreOf (B.are_of beside) (last_after (stage start turns).life (stage start turns).last kept))
         (cut_images : (es : List Entry) → FitsAt L.tells (stage start turns) (turn c es Cut) → LeftAs L kept now opens h (stage_step (stage start turns) (turn c es Cut))
-        → L.tells → AreImagesOf (P.told device) (last_after (stage_step (stage start turns) (turn c es Cut)).life (stage_step (stage start turns) (turn c es Cut)).last kept))
+        → L.tells → AreOf (B.are_of beside) (last_after (stage_step (stage start turns) (turn c es Cut)).life (stage_step (stage start turns) (turn c es Cut)).last kept))
         (turn_images : (l : Life) (t : Turn) (m : Life) → (stage start turns).life ≡ Some l → (stage_step (stage start turns) t).life ≡ Some m → LeftAs L kept now opens h (stage_step (stage start turns) t)
-        → L.tells → AreImagesOf (P.told device) (last_after (stage_step (stage start turns) t).life (stage_step (stage start turns) t).last kept)) where
+        → L.tells → AreOf (B.are_of beside) (last_after (stage_step (stage start turns) t).life (stage_step (stage start turns) t).last kept)) where
       -- a status cuts the command off
-      cut_off : (status : Status) → MayCut status true → ((cut : CutAt L kept now opens h (stage start turns) c) → Ended L.tells start status (turns ++ turn c cut.entries Cut ∷ []) (b.read ++ whole) [] (text start turns) (to_come new ln)) → CutAt L kept now opens h (stage start turns) c → IsKnown now → Ends now device vault told status
+      cut_off : (status : Status) → MayCut status true → ((cut : CutAt L kept now opens h (stage start turns) c) → Ended L.tells start status (turns ++ turn c cut.entries Cut ∷ []) (b.read ++ whole) [] (text start turns) (to_come new ln)) → CutAt L kept now opens h (stage start turns) c → IsKnown now → Ends now beside told status
       cut_off status may ended cut known =
           let s = stage start turns in
-          turned_off kept now device status (turn c cut.entries Cut) refl cut.fits cut.right cut.left.leaves (cut_images cut.entries cut.fits cut.left) (cut_vault s c cut.entries) (cut_bytes s c cut.entries) may (ended cut) known
+          turned_off kept now beside status (turn c cut.entries Cut) refl cut.fits cut.right cut.left.leaves (cut_images cut.entries cut.fits cut.left) (cut_bytes s c cut.entries) may (ended cut) known
 
       -- want of memory for the lines of a turn
-      lacks_lines : LacksLines L kept now opens h (stage start turns) c → IsKnown now → Ends now device vault told statuses.Memory
+      lacks_lines : LacksLines L kept now opens h (stage start turns) c → IsKnown now → Ends now beside told statuses.Memory
       lacks_lines lacks known =
           let s = stage start turns in
           let still = life_still s lacks.here lacks.turn lacks.life (subst IsOfLife (sym lacks.is) lacks.kind) in
-          turned_off kept now device statuses.Memory lacks.turn lacks.is lacks.fits lacks.right lacks.left.leaves (turn_images lacks.here lacks.turn lacks.there lacks.life lacks.stays lacks.left) still.0 still.1 tt
+          turned_off kept now beside statuses.Memory lacks.turn lacks.is lacks.fits lacks.right lacks.left.leaves (turn_images lacks.here lacks.turn lacks.there lacks.life lacks.stays lacks.left) still tt
           (turns, lacks.turn ∷ [], omega arith, refl, prefix_self (text start turns), (lines s lacks.turn, text_push start turns lacks.turn)) known
 
-      pub refused : AreRight → (stage start turns).cut ≡ false → (n : ℕ) (status : Status) → n ≡ old.lines + 1 → is_built line.line ≡ true → RefusesAt L kept now opens h (stage start turns) c n status → IsKnown now → Ends now device vault told status
+      pub refused : AreRight → (stage start turns).cut ≡ false → (n : ℕ) (status : Status) → n ≡ old.lines + 1 → is_built line.line ≡ true → RefusesAt L kept now opens h (stage start turns) c n status → IsKnown now → Ends now beside told status
       refused right goes n status is built why known = by status why
         where
           next : IsNext (length b.read) whole line.line
           next = record { is = refl; one = line.one; within = omega (arith, line.within, line.size, b.size, length-append line.line (10 ∷ [])) }
 
-          stop_as : (status : Status) → MayCut status false → Ended L.tells start status turns b.read whole (text start turns) (to_come new ln) → Leaves L kept now (stage start turns) → (L.tells → AreImagesOf (P.told device) (last_after (stage start turns).life (stage start turns).last kept)) → Ends now device vault told status
-          stop_as status cut ended leaves these = stop right goes now device whole status cut line.took (omega (arith, line.size, length-append line.line (10 ∷ []))) ended (record { kept = kept; leaves = leaves; images = these; bytes = known; stored = b.holds.vault })
+          stop_as : (status : Status) → MayCut status false → Ended L.tells start status turns b.read whole (text start turns) (to_come new ln) → Leaves L kept now (stage start turns) → (L.tells → AreOf (B.are_of beside) (last_after (stage start turns).life (stage start turns).last kept)) → Ends now beside told status
+          stop_as status cut ended leaves these = stop right goes now beside whole status cut line.took (omega (arith, line.size, length-append line.line (10 ∷ []))) ended (record { kept = kept; leaves = leaves; stores = these; bytes = known })
 
-          stop_with : (status : Status) → MayCut status false → Ended L.tells start status turns b.read whole (text start turns) (to_come new ln) → LeftAs L kept now opens h (stage start turns) → Ends now device vault told status
+          stop_with : (status : Status) → MayCut status false → Ended L.tells start status turns b.read whole (text start turns) (to_come new ln) → LeftAs L kept now opens h (stage start turns) → Ends now beside told status
           stop_with status cut ended left = stop_as status cut ended left.leaves (images left)
 
-          by : (status : Status) → RefusesAt L kept now opens h (stage start turns) c n status → Ends now device vault told status
+          by : (status : Status) → RefusesAt L kept now opens h (stage start turns) c n status → Ends now beside told status
           by statuses.Memory why = ⊎_elim (λ (left : LeftAs L kept now opens h (stage start turns)). stop_with statuses.Memory tt (all_of start turns) left) (λ lacks. lacks_lines lacks known) why
           by (statuses.Script m) why = stop_with (statuses.Script m) refl (refl, why.0 ∙ at_line n is, inl (line.line, next, built, subst (Unlawful (stage start turns)) (sym line.said) why.1)) why.2
           by (statuses.NotBuilt m) why =
               stop_with (statuses.NotBuilt m) refl (refl, why.0 ∙ at_line n is, inr (of_command (λ d. (is_lawful (stage start turns) d ≡ true) × IsNotBuilt d) (length b.read) line.line whole c next line.said (why.1, why.2))) why.3
           by statuses.LogFault why = cut_off statuses.LogFault refl (λ cut. cut_text cut.entries) why known
+          by statuses.VaultFault why = cut_off statuses.VaultFault refl (λ cut. cut_text cut.entries) why known
+          by (statuses.VaultBad object byte) why = cut_off (statuses.VaultBad object byte) refl (λ cut. (cut_text cut.entries, why.1)) why.0 known
           by (statuses.BlockBad block byte) why = cut_off (statuses.BlockBad block byte) refl (λ cut. (cut_text cut.entries, why.1)) why.0 known
           by (statuses.LogBad block byte) why = stop_as (statuses.LogBad block byte) refl (refl, of_command IsOpen (length b.read) line.line whole c next line.said why.0, why.1) (λ t. absurd (why.1 t)) (λ t. absurd (why.1 t))
           by statuses.NotFormatted why = stop_with statuses.NotFormatted refl (refl, of_command IsOpen (length b.read) line.line whole c next line.said why.0, why.1) why.2
@@ -334,9 +331,9 @@ module _ {D E G : Type 0} {start : Start} {V : vaults.Ghosts E} {first vault : E
           by _ why = absurd why
 
 -- want of memory where nothing more was read
-pub ends_here : {D E G : Type 0} {start : Start} {V : vaults.Ghosts E} {first vault : E} {H : Stage → Type 0} {left0 told0 left told : Option (List ℕ)} {reader : Reader} {turns : List Turn} (T : Type 0) (L : Ghosts D) (P : pages.Ghosts G) (kept : ℕ) (disk : D) (device : G)
-    (b : Between L.tells start (Beside V first vault H) left0 told0 reader turns left told) → Rests T L P kept disk device (stage start turns) → Headline L.tells start (HandsBack T L P V disk device first vault) left0 reader.pending left told0 told statuses.Memory
-ends_here {left = left} {reader = reader} T L P kept disk device b rests = no_memory T L P reader left b b.most kept disk device rests [] (Consumes-nil (to_come reader left)) (omega arith)
+pub ends_here : {D S : Type 0} {start : Start} {H : Stage → Type 0} {left0 told0 left told : Option (List ℕ)} {reader : Reader} {turns : List Turn} (T : Type 0) (L : Ghosts D) (B : Stores S) (kept : ℕ) (disk : D) (beside : S)
+    (b : Between L.tells start H left0 told0 reader turns left told) → Rests T L B kept disk beside (stage start turns) → Headline L.tells start (HandsBack T L B disk beside) left0 reader.pending left told0 told statuses.Memory
+ends_here {left = left} {reader = reader} T L B kept disk beside b rests = no_memory T L B reader left b b.most kept disk beside rests [] (Consumes-nil (to_come reader left)) (omega arith)
 
 -- all is written
 pub all_written : (told told' : Option (List ℕ)) (out done rest : List ℕ) → out ≡ done ++ rest → rest ≡ [] → Appends told told' done → Appends told told' out
@@ -346,8 +343,8 @@ nothing_pending : (left : Option (List ℕ)) → to_come first_reader left ≡ l
 nothing_pending None = refl
 nothing_pending (Some bytes) = refl
 
-module _ {E : Type 0} (tells : Type 0) (V : vaults.Ghosts E) (start : Start) (vault : E) (H : Stage → Type 0) where
-  pub at_start : (left told : Option (List ℕ)) (reader : Reader) → reader.lines ≡ 0 → reader.taken ≡ 0 → IsBounded reader → H (begin_stage start) → Between tells start (Beside V vault vault H) (to_come reader left) told reader [] left told
+module _ (tells : Type 0) (start : Start) (H : Stage → Type 0) where
+  pub at_start : (left told : Option (List ℕ)) (reader : Reader) → reader.lines ≡ 0 → reader.taken ≡ 0 → IsBounded reader → H (begin_stage start) → Between tells start H (to_come reader left) told reader [] left told
   unfolding Fits AllAlong stage text along
   at_start left told reader lines taken most holds = record {
     read = [];
@@ -358,7 +355,7 @@ module _ {E : Type 0} (tells : Type 0) (V : vaults.Ghosts E) (start : Start) (va
     within = omega arith;
     most = most;
     fits = tt;
-    holds = record { here = holds; vault = vault_first V vault };
+    holds = holds;
     wrote = Appends-nil told;
   }
 
@@ -390,6 +387,23 @@ module _ (tells : Type 0) (start : Start) (B : Stage → Type 0) where
   nothing_written : Partly start [] []
   unfolding text along
   nothing_written = all_of start []
+
+  -- told as want of memory
+  pub as_memory : {left0 left told0 told : Option (List ℕ)} {pending : List ℕ} → Headline tells start B left0 pending left told0 told statuses.VaultFault → Headline tells start B left0 pending left told0 told statuses.Memory
+  as_memory h = record {
+    turns = h.turns;
+    read = h.read;
+    rest = h.rest;
+    written = h.written;
+    taken = h.taken;
+    within = h.within;
+    most = h.most;
+    ran = h.ran;
+    cut = tt;
+    wrote = h.wrote;
+    ended = subst (Partly start h.turns) (sym h.ended) (all_of start h.turns);
+    back = h.back;
+  }
 
   pub not_called : (left told : Option (List ℕ)) → B (begin_stage start) → NotRun left told statuses.Usage
   not_called left told back = not_begun left told statuses.Usage refl (refl, refl, refl, refl) back

@@ -1,4 +1,4 @@
--- What a turn makes of the stage: of its life, of the vault, and of what is known of the log disk's bytes.
+-- What a turn makes of the stage: of its life, and of what is known of the log disk's bytes.
 use Rattle.std.proofs.Common.{◌≡◌, ℕ, List, ◌++◌, Option, Some, None, refl, ap}
 use Rattle.script.specs.declared.command.Command.{Command}
 use Rattle.script.specs.declared.command.Command.TheVariants as commands
@@ -25,77 +25,65 @@ cut_bytes s (commands.Help steps) es = longer_bytes s.life es s.bytes
 cut_bytes s commands.Close es = longer_bytes s.life es s.bytes
 cut_bytes s _ es = refl
 
-pub cut_vault : (s : Stage) (c : Command) (es : List Entry) → (stage_step s (turn c es Cut)).cycled ≡ s.cycled
-cut_vault s (commands.Format limit) es = refl
-cut_vault s (commands.Begin name) es = refl
-cut_vault s (commands.Ask name request) es = refl
-cut_vault s (commands.Commit name) es = refl
-cut_vault s (commands.Abort name) es = refl
-cut_vault s commands.Checkpoint es = refl
-cut_vault s commands.Lose es = refl
-cut_vault s (commands.Help steps) es = refl
-cut_vault s commands.Close es = refl
-cut_vault s _ es = refl
-
--- a turn of a life opens none, and doesn't stop the machine
-pub life_still : (s : Stage) (l : Life) (t : Turn) → s.life ≡ Some l → IsOfLife t.command → ((stage_step s t).cycled ≡ s.cycled) × (bytes_after (stage_step s t).life (stage_step s t).bytes ≡ bytes_after s.life s.bytes)
+-- a turn of a life opens none
+pub life_still : (s : Stage) (l : Life) (t : Turn) → s.life ≡ Some l → IsOfLife t.command → bytes_after (stage_step s t).life (stage_step s t).bytes ≡ bytes_after s.life s.bytes
 life_still s l t living kind = by t.command t.entries t.found t.kept t.end kind
   where
-    by : (c : Command) (es : List Entry) (found : List Record) (kept : ℕ) (end : End) → IsOfLife c → ((stage_after s c es found kept end).cycled ≡ s.cycled) × (bytes_after (stage_after s c es found kept end).life (stage_after s c es found kept end).bytes ≡ bytes_after s.life s.bytes)
-    by (commands.Begin name) es found kept Done k = (refl, longer_bytes s.life es s.bytes)
-    by (commands.Begin name) es found kept TooMany k = (refl, refl)
-    by (commands.Begin name) es found kept (LogFault n) k = (refl, longer_bytes s.life es s.bytes)
-    by (commands.Begin name) es found kept VaultFault k = (refl, longer_bytes s.life es s.bytes)
-    by (commands.Begin name) es found kept (EndedBefore n) k = (refl, refl)
-    by (commands.Begin name) es found kept Cut k = (refl, longer_bytes s.life es s.bytes)
-    by (commands.Ask name request) es found kept Done k = (refl, longer_bytes s.life es s.bytes)
-    by (commands.Ask name request) es found kept TooMany k = (refl, refl)
-    by (commands.Ask name request) es found kept (LogFault n) k = (refl, longer_bytes s.life es s.bytes)
-    by (commands.Ask name request) es found kept VaultFault k = (refl, longer_bytes s.life es s.bytes)
-    by (commands.Ask name request) es found kept (EndedBefore n) k = (refl, refl)
-    by (commands.Ask name request) es found kept Cut k = (refl, longer_bytes s.life es s.bytes)
-    by (commands.Commit name) es found kept Done k = (refl, longer_bytes s.life es s.bytes)
-    by (commands.Commit name) es found kept TooMany k = (refl, refl)
-    by (commands.Commit name) es found kept (LogFault n) k = (refl, longer_bytes s.life es s.bytes)
-    by (commands.Commit name) es found kept VaultFault k = (refl, longer_bytes s.life es s.bytes)
-    by (commands.Commit name) es found kept (EndedBefore n) k = (refl, refl)
-    by (commands.Commit name) es found kept Cut k = (refl, longer_bytes s.life es s.bytes)
-    by (commands.Abort name) es found kept Done k = (refl, longer_bytes s.life es s.bytes)
-    by (commands.Abort name) es found kept TooMany k = (refl, refl)
-    by (commands.Abort name) es found kept (LogFault n) k = (refl, longer_bytes s.life es s.bytes)
-    by (commands.Abort name) es found kept VaultFault k = (refl, longer_bytes s.life es s.bytes)
-    by (commands.Abort name) es found kept (EndedBefore n) k = (refl, refl)
-    by (commands.Abort name) es found kept Cut k = (refl, longer_bytes s.life es s.bytes)
-    by commands.Checkpoint es found kept Done k = (refl, longer_bytes s.life es s.bytes)
-    by commands.Checkpoint es found kept TooMany k = (refl, refl)
-    by commands.Checkpoint es found kept (LogFault n) k = (refl, longer_bytes s.life es s.bytes)
-    by commands.Checkpoint es found kept VaultFault k = (refl, longer_bytes s.life es s.bytes)
-    by commands.Checkpoint es found kept (EndedBefore n) k = (refl, refl)
-    by commands.Checkpoint es found kept Cut k = (refl, longer_bytes s.life es s.bytes)
-    by commands.Lose es found kept Done k = (refl, longer_bytes s.life es s.bytes)
-    by commands.Lose es found kept TooMany k = (refl, refl)
-    by commands.Lose es found kept (LogFault n) k = (refl, longer_bytes s.life es s.bytes)
-    by commands.Lose es found kept VaultFault k = (refl, longer_bytes s.life es s.bytes)
-    by commands.Lose es found kept (EndedBefore n) k = (refl, refl)
-    by commands.Lose es found kept Cut k = (refl, longer_bytes s.life es s.bytes)
-    by (commands.Help steps) es found kept Done k = (refl, longer_bytes s.life es s.bytes)
-    by (commands.Help steps) es found kept TooMany k = (refl, refl)
-    by (commands.Help steps) es found kept (LogFault n) k = (refl, longer_bytes s.life es s.bytes)
-    by (commands.Help steps) es found kept VaultFault k = (refl, longer_bytes s.life es s.bytes)
-    by (commands.Help steps) es found kept (EndedBefore n) k = (refl, refl)
-    by (commands.Help steps) es found kept Cut k = (refl, longer_bytes s.life es s.bytes)
-    by commands.Stat es found kept Done k = (refl, refl)
-    by commands.Stat es found kept TooMany k = (refl, refl)
-    by commands.Stat es found kept (LogFault n) k = (refl, refl)
-    by commands.Stat es found kept VaultFault k = (refl, longer_bytes s.life es s.bytes)
-    by commands.Stat es found kept (EndedBefore n) k = (refl, refl)
-    by commands.Stat es found kept Cut k = (refl, refl)
-    by commands.Close es found kept Done k = (refl, longer_bytes s.life es s.bytes)
-    by commands.Close es found kept TooMany k = (refl, refl)
-    by commands.Close es found kept (LogFault n) k = (refl, longer_bytes s.life es s.bytes)
-    by commands.Close es found kept VaultFault k = (refl, longer_bytes s.life es s.bytes)
-    by commands.Close es found kept (EndedBefore n) k = (refl, refl)
-    by commands.Close es found kept Cut k = (refl, longer_bytes s.life es s.bytes)
+    by : (c : Command) (es : List Entry) (found : List Record) (kept : ℕ) (end : End) → IsOfLife c → bytes_after (stage_after s c es found kept end).life (stage_after s c es found kept end).bytes ≡ bytes_after s.life s.bytes
+    by (commands.Begin name) es found kept Done k = longer_bytes s.life es s.bytes
+    by (commands.Begin name) es found kept TooMany k = refl
+    by (commands.Begin name) es found kept (LogFault n) k = longer_bytes s.life es s.bytes
+    by (commands.Begin name) es found kept VaultFault k = longer_bytes s.life es s.bytes
+    by (commands.Begin name) es found kept (EndedBefore n) k = refl
+    by (commands.Begin name) es found kept Cut k = longer_bytes s.life es s.bytes
+    by (commands.Ask name request) es found kept Done k = longer_bytes s.life es s.bytes
+    by (commands.Ask name request) es found kept TooMany k = refl
+    by (commands.Ask name request) es found kept (LogFault n) k = longer_bytes s.life es s.bytes
+    by (commands.Ask name request) es found kept VaultFault k = longer_bytes s.life es s.bytes
+    by (commands.Ask name request) es found kept (EndedBefore n) k = refl
+    by (commands.Ask name request) es found kept Cut k = longer_bytes s.life es s.bytes
+    by (commands.Commit name) es found kept Done k = longer_bytes s.life es s.bytes
+    by (commands.Commit name) es found kept TooMany k = refl
+    by (commands.Commit name) es found kept (LogFault n) k = longer_bytes s.life es s.bytes
+    by (commands.Commit name) es found kept VaultFault k = longer_bytes s.life es s.bytes
+    by (commands.Commit name) es found kept (EndedBefore n) k = refl
+    by (commands.Commit name) es found kept Cut k = longer_bytes s.life es s.bytes
+    by (commands.Abort name) es found kept Done k = longer_bytes s.life es s.bytes
+    by (commands.Abort name) es found kept TooMany k = refl
+    by (commands.Abort name) es found kept (LogFault n) k = longer_bytes s.life es s.bytes
+    by (commands.Abort name) es found kept VaultFault k = longer_bytes s.life es s.bytes
+    by (commands.Abort name) es found kept (EndedBefore n) k = refl
+    by (commands.Abort name) es found kept Cut k = longer_bytes s.life es s.bytes
+    by commands.Checkpoint es found kept Done k = longer_bytes s.life es s.bytes
+    by commands.Checkpoint es found kept TooMany k = refl
+    by commands.Checkpoint es found kept (LogFault n) k = longer_bytes s.life es s.bytes
+    by commands.Checkpoint es found kept VaultFault k = longer_bytes s.life es s.bytes
+    by commands.Checkpoint es found kept (EndedBefore n) k = refl
+    by commands.Checkpoint es found kept Cut k = longer_bytes s.life es s.bytes
+    by commands.Lose es found kept Done k = longer_bytes s.life es s.bytes
+    by commands.Lose es found kept TooMany k = refl
+    by commands.Lose es found kept (LogFault n) k = longer_bytes s.life es s.bytes
+    by commands.Lose es found kept VaultFault k = longer_bytes s.life es s.bytes
+    by commands.Lose es found kept (EndedBefore n) k = refl
+    by commands.Lose es found kept Cut k = longer_bytes s.life es s.bytes
+    by (commands.Help steps) es found kept Done k = longer_bytes s.life es s.bytes
+    by (commands.Help steps) es found kept TooMany k = refl
+    by (commands.Help steps) es found kept (LogFault n) k = longer_bytes s.life es s.bytes
+    by (commands.Help steps) es found kept VaultFault k = longer_bytes s.life es s.bytes
+    by (commands.Help steps) es found kept (EndedBefore n) k = refl
+    by (commands.Help steps) es found kept Cut k = longer_bytes s.life es s.bytes
+    by commands.Stat es found kept Done k = refl
+    by commands.Stat es found kept TooMany k = refl
+    by commands.Stat es found kept (LogFault n) k = refl
+    by commands.Stat es found kept VaultFault k = longer_bytes s.life es s.bytes
+    by commands.Stat es found kept (EndedBefore n) k = refl
+    by commands.Stat es found kept Cut k = refl
+    by commands.Close es found kept Done k = longer_bytes s.life es s.bytes
+    by commands.Close es found kept TooMany k = refl
+    by commands.Close es found kept (LogFault n) k = longer_bytes s.life es s.bytes
+    by commands.Close es found kept VaultFault k = longer_bytes s.life es s.bytes
+    by commands.Close es found kept (EndedBefore n) k = refl
+    by commands.Close es found kept Cut k = longer_bytes s.life es s.bytes
     by _ es found kept end k = absurd k
 
 -- a command that was cut off leaves its life open

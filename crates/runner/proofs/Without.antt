@@ -5,7 +5,6 @@ use Rattle.std.specs.Fmt.{decimal}
 use Rattle.media.specs.Cause.{Rose}
 use Rattle.media.specs.Counted.{Armed, Blames}
 use Rattle.media.specs.Crash.{NoMore, Only}
-use Rattle.media.specs.Images.{NoOther}
 use Rattle.media.specs.declared.disk.Disk.{Ghosts}
 use Rattle.media.specs.declared.pages.PageDevice as pages
 use Rattle.wal_record.specs.Rules.{is_limit}
@@ -30,11 +29,11 @@ use Rattle.runner.specs.Machine.{Begun, BeginsOn, IsAt, Steps, Refuses, Beginnin
 use Rattle.runner.specs.Clause.{AtRest}
 use Rattle.runner.specs.Openings.{Makes, IsMade, IsNotMade, IsBegun, IsNotBegun}
 use Rattle.life_commands.specs.Refusals.{HasLife, LeftAs, RefusesAt}
-use Rattle.life_commands.specs.Images.{AreImagesOf}
+use Rattle.life_commands.specs.Stores.{AreOf, Stores}
 use Rattle.life_commands.specs.Rows.{FitsAt, IsEnd, IsCutOff, no_life, is_lawful}
 use Rattle.life_commands.specs.Turns.{Fuses, Life, Stage, Turn, stage_step, turn, last_turn, with_fuse, Last, Unformatted, Stopped, Done, LogFault, Opening, room_of, last_after, bytes_after}
 use Rattle.life_commands.proofs.Entered.{enters_own}
-use Rattle.runner.proofs.Images.{fewer_images, stopped_images}
+use Rattle.runner.proofs.Stores.{fewer_of, stopped_of}
 use Rattle.runner.proofs.Known.{known_none}
 use Rattle.runner.proofs.Places.{safe_out}
 use Rattle.life_commands.proofs.Lives.{keeps_same, keeps_only}
@@ -244,16 +243,16 @@ module _ {D : Type 0} (T : Type 0) (L : Ghosts D) (kept : ℕ) (disk left : D) (
   pub did_stop : Adds L.tells (Out T L left) s (commands.Stop keep) out
   did_stop = record { turn = stop_turn; is = refl; fits = stop_fits; holds = stop_out; lines = is }
 
-  -- with the data device beside the log disk
-  pub did_rest : {E : Type 0} (P : pages.Ghosts E) (old new : E) → (P.tells → NoOther P.told old new) → (L.tells → P.tells) → (L.tells → AreImagesOf (P.told old) (last_after s.life s.last kept)) → Adds L.tells (AtRest T L P left new) s (commands.Stop keep) out
-  did_rest P old new fewer told images = record {
+  -- with what is beside the log disk
+  pub did_rest : {S : Type 0} (B : Stores S) (old new : S) → (B.tells → (log : List Record) → B.are_of old log → B.are_of new log) → (L.tells → B.tells) → (L.tells → AreOf (B.are_of old) (last_after s.life s.last kept)) → Adds L.tells (AtRest T L B left new) s (commands.Stop keep) out
+  did_rest B old new fewer told these = record {
     turn = stop_turn;
     is = refl;
     fits = stop_fits;
     holds = record {
       here = stop_out;
       told = told;
-      images = λ t. fewer_images (P.told old) (P.told new) (Stopped (last_after s.life s.last kept)) (fewer (told t)) (stopped_images (P.told old) (last_after s.life s.last kept) (images t));
+      stores = λ t. fewer_of (B.are_of old) (B.are_of new) (Stopped (last_after s.life s.last kept)) (fewer (told t)) (stopped_of (B.are_of old) (last_after s.life s.last kept) (these t));
     };
     lines = is;
   }

@@ -1,5 +1,5 @@
 -- Why a run ends: which statuses a part of the run may give, and that a device's fault has its cause.
-use Rattle.std.specs.Prelude.{◌≡◌, ◌≢◌, ◌≤◌, ℕ, []}
+use Rattle.std.specs.Prelude.{◌≡◌, ◌≢◌, ◌≤◌, ◌⊎◌, ℕ, []}
 use Rattle.log_blocks.specs.Log.{StandsFor}
 use Rattle.media.specs.Cause.{Rose}
 use Rattle.media.specs.declared.disk.Disk.{Ghosts}
@@ -81,10 +81,16 @@ PassedCause old new source0 source1 sink0 sink1 (passes.Ends status) = (old.own 
 PassedCause old new source0 source1 sink0 sink1 _ = old.own ≤ new.own
 
 -- of a life, before which the log disk had failed by itself so often
-abbrev pub LivedCause : {D E : Type 0} → Ghosts D → ℕ → ℕ → ℕ → ℕ → ℕ → Lived D E → Type 0
-LivedCause L before source0 source1 sink0 sink1 (ways.Over left device) = before ≤ L.own left
-LivedCause L before source0 source1 sink0 sink1 (ways.Ends status left device) = (before ≤ L.own left) × RunCause source0 source1 sink0 sink1 before (L.own left) status
+abbrev pub LivedCause : {D E F : Type 0} → Ghosts D → ℕ → ℕ → ℕ → ℕ → ℕ → Lived D E F → Type 0
+LivedCause L before source0 source1 sink0 sink1 (ways.Over left device vault) = before ≤ L.own left
+LivedCause L before source0 source1 sink0 sink1 (ways.Ends status left device vault) = (before ≤ L.own left) × RunCause source0 source1 sink0 sink1 before (L.own left) status
     × Shows L left status × (status ≢ statuses.Usage) × (status ≢ statuses.NoGenerator)
+
+-- a fault of the vault is told where its count, which was so much before and is so much now, has risen or stands at its end; else
+-- want of memory is
+abbrev pub IsBlamed : ℕ → ℕ → Status → Status → Type 0
+IsBlamed before now statuses.VaultFault told = ((told ≡ statuses.VaultFault) × Rose before now) ⊎ (told ≡ statuses.Memory)
+IsBlamed before now status told = told ≡ status
 
 -- a status that the script asks for, where no device fails; or want of memory
 abbrev pub IsAsked : Status → Type 0
@@ -93,6 +99,8 @@ IsAsked statuses.NoGenerator = ⊥
 IsAsked statuses.SourceFault = ⊥
 IsAsked statuses.SinkFault = ⊥
 IsAsked statuses.LogFault = ⊥
+IsAsked statuses.VaultFault = ⊥
 IsAsked (statuses.LogBad block byte) = ⊥
 IsAsked (statuses.BlockBad block byte) = ⊥
+IsAsked (statuses.VaultBad object byte) = ⊥
 IsAsked _ = Unit {0}

@@ -5,8 +5,6 @@ use Rattle.std.specs.Io.KnownBytes.{Appends, Consumes, IsAtEnd, prepend_known}
 use Rattle.std.specs.declared.result.Result.{Result}
 use Rattle.std.specs.declared.result.Result.TheVariants.{Ok, Err}
 use Rattle.media.specs.declared.disk.Disk.{Ghosts}
-use Rattle.media.specs.declared.pages.PageDevice as pages
-use Rattle.media.specs.declared.vault.Vault as vaults
 use Rattle.script.specs.declared.command.Command.{Command}
 use Rattle.script.specs.declared.command.Command.TheVariants as commands
 use Rattle.script.specs.Line.{reads}
@@ -14,7 +12,7 @@ use Rattle.line_reader.specs.Lines.{Reader, to_come, longest_script, IsBounded, 
 use Rattle.line_reader.specs.Built.{is_built}
 use Rattle.life_commands.specs.Bytes.{Known}
 use Rattle.life_commands.specs.Rows.{Fits, is_lawful}
-use Rattle.life_commands.specs.Images.{AreImagesOf}
+use Rattle.life_commands.specs.Stores.{AreOf, Stores}
 use Rattle.life_commands.specs.Turns.{Start, Turn, Stage, stage, bytes_after, last_after, IsRightLife, MayFind, lives}
 use Rattle.life_commands.specs.Refusals.{IsNotBuilt, IsOpen, IsFormat, FindsLog}
 use Rattle.runner.specs.Cuts.{MayCut}
@@ -29,9 +27,8 @@ use Rattle.runner.specs.declared.living.Lived.{Lived}
 use Rattle.runner.specs.declared.living.Lived.TheVariants as ways
 use Rattle.life_commands.specs.LogDisk.{Leaves}
 use Rattle.life_commands.specs.Living.{Adds, Out}
-use Rattle.runner.specs.Devices.{Imaged, Rests}
+use Rattle.runner.specs.Devices.{Rests, Stored}
 use Rattle.runner.specs.Machine.{IsAt}
-use Rattle.runner.specs.Vault.{IsVault, Beside}
 
 -- the bytes are the lines of these commands
 abbrev pub Script : List ℕ → List Command → Type 0
@@ -91,21 +88,22 @@ Ended tells start (statuses.Script line) turns read rest written left = (written
 Ended tells start statuses.SourceFault turns read rest written left = written ≡ text start turns
 Ended tells start statuses.SinkFault turns read rest written left = Partly start turns written
 Ended tells start statuses.LogFault turns read rest written left = written ≡ text start turns
+Ended tells start statuses.VaultFault turns read rest written left = written ≡ text start turns
+Ended tells start (statuses.VaultBad object byte) turns read rest written left = (written ≡ text start turns) × (tells → ⊥)
 Ended tells start (statuses.BlockBad block byte) turns read rest written left = (written ≡ text start turns) × (tells → ⊥)
 Ended tells start (statuses.LogBad block byte) turns read rest written left = (written ≡ text start turns) × NextLine IsOpen (length read) rest × (tells → ⊥)
 Ended tells start statuses.NotFormatted turns read rest written left = (written ≡ text start turns) × NextLine IsOpen (length read) rest × (tells → MayFind (stage start turns).last [])
 Ended tells start statuses.AlreadyFormatted turns read rest written left = (written ≡ text start turns) × NextLine IsFormat (length read) rest × (tells → FindsLog (stage start turns).last)
 Ended tells start (statuses.NotBuilt line) turns read rest written left = (written ≡ text start turns) × (line ≡ length turns + 1) × NotBuiltLine (stage start turns) (length read) rest
 
--- The devices that are handed back, and the vault that was handed in. The log disk keeps a log that may be found next: of an
--- open life a member of what a stop may leave, with at least so many of its records. The images on the data device are of
--- each such log.
-pub record HandsBack {D E F : Type 0} (tells : Type 0) (L : Ghosts D) (P : pages.Ghosts E) (V : vaults.Ghosts F) (disk : D) (device : E) (first vault : F) (s : Stage) : Type 0 where
+-- The devices that are handed back. The log disk keeps a log that may be found next: of an open life a member of what a stop may
+-- leave, with at least so many of its records. The images on the data device are of each such log, and each object that such a
+-- log names is synced in the vault.
+pub record HandsBack {D S : Type 0} (tells : Type 0) (L : Ghosts D) (B : Stores S) (disk : D) (beside : S) (s : Stage) : Type 0 where
   pub kept : ℕ
   pub leaves : Leaves L kept disk s
-  pub images : L.tells → AreImagesOf (P.told device) (last_after s.life s.last kept)
+  pub stores : L.tells → AreOf (B.are_of beside) (last_after s.life s.last kept)
   pub bytes : Known tells L (bytes_after s.life s.bytes) disk
-  pub stored : IsVault V first vault s.cycled
 
 -- The devices were handed in as the start says, as devices of their types tell, and B says how they are handed back; then what
 -- was left and told at the start, and what is now. What was read and given to no line is still pending.
@@ -151,15 +149,15 @@ TakesCommand old new left_old left_new (Err (statuses.NotBuilt n)) = (n ≡ old.
 TakesCommand old new left_old left_new (Err e) = (rest : List ℕ) × Consumes (to_come old left_old) (to_come new left_new) rest × (new.taken ≡ old.taken + length rest)
 
 -- one line, behind which a run goes on or has ended
-abbrev pub TurnedTo : {D E F G : Type 0} → Type 0 → Ghosts D → pages.Ghosts E → vaults.Ghosts F → Start → (G → Stage → Type 0) → E → F → F → Option (List ℕ) → Option (List ℕ) → Reader → List Turn → Option (List ℕ) → Option (List ℕ) → Turned D G → Type 0
-TurnedTo tells L P V start inside device first vault left0 told0 reader turns left told (results.Goes at) = (t : Turn) × Between L.tells start (Beside V first vault (Imaged L.tells P device (IsAt tells L inside at))) left0 told0 reader (turns ++ t ∷ []) left told
-TurnedTo tells L P V start inside device first vault left0 told0 reader turns left told (results.Ends status disk) = Headline L.tells start (HandsBack tells L P V disk device first vault) left0 reader.pending left told0 told status
+abbrev pub TurnedTo : {D S G : Type 0} → Type 0 → Ghosts D → Stores S → Start → (G → Stage → Type 0) → S → Option (List ℕ) → Option (List ℕ) → Reader → List Turn → Option (List ℕ) → Option (List ℕ) → Turned D G → Type 0
+TurnedTo tells L B start inside beside left0 told0 reader turns left told (results.Goes at) = (t : Turn) × Between L.tells start (Stored L.tells B beside (IsAt tells L inside at)) left0 told0 reader (turns ++ t ∷ []) left told
+TurnedTo tells L B start inside beside left0 told0 reader turns left told (results.Ends status disk) = Headline L.tells start (HandsBack tells L B disk beside) left0 reader.pending left told0 told status
 
 -- The next line has been read, and is this command; the turns are those before it, behind which H holds.
-pub record Asked {E : Type 0} (tells : Type 0) (V : vaults.Ghosts E) (start : Start) (H : Stage → Type 0) (first vault : E) (left0 told0 : Option (List ℕ)) (reader : Reader) (turns : List Turn) (left told : Option (List ℕ)) (c : Command) : Type 0 where
+pub record Asked (tells : Type 0) (start : Start) (H : Stage → Type 0) (left0 told0 : Option (List ℕ)) (reader : Reader) (turns : List Turn) (left told : Option (List ℕ)) (c : Command) : Type 0 where
   pub old : Reader
   pub left_old : Option (List ℕ)
-  pub before : Between tells start (Beside V first vault H) left0 told0 old turns left_old told
+  pub before : Between tells start H left0 told0 old turns left_old told
   pub most : IsBounded reader
   pub line : List ℕ
   pub took : Consumes (to_come old left_old) (to_come reader left) (line ++ 10 ∷ [])
@@ -170,34 +168,34 @@ pub record Asked {E : Type 0} (tells : Type 0) (V : vaults.Ghosts E) (start : St
   pub count : reader.lines ≡ old.lines + 1
 
 -- it asks for a stop, which has these lines
-abbrev pub Stopping : {D E F : Type 0} → Type 0 → Ghosts D → pages.Ghosts E → vaults.Ghosts F → Start → ℕ → D → E → F → F → Option (List ℕ) → Option (List ℕ) → Reader → List Turn → Option (List ℕ) → Option (List ℕ) → Option ℕ → List ℕ → Type 0
-Stopping tells L P V start kept disk device first vault left0 told0 reader turns left told keep out =
-    (out ≡ codes "stop\n") × Asked L.tells V start (Rests tells L P kept disk device) first vault left0 told0 reader turns left told (commands.Stop keep)
+abbrev pub Stopping : {D S : Type 0} → Type 0 → Ghosts D → Stores S → Start → ℕ → D → S → Option (List ℕ) → Option (List ℕ) → Reader → List Turn → Option (List ℕ) → Option (List ℕ) → Option ℕ → List ℕ → Type 0
+Stopping tells L B start kept disk beside left0 told0 reader turns left told keep out =
+    (out ≡ codes "stop\n") × Asked L.tells start (Rests tells L B kept disk beside) left0 told0 reader turns left told (commands.Stop keep)
 
 -- where a life was, and these devices have been handed out
-abbrev pub AtRest : {D E : Type 0} → Type 0 → Ghosts D → pages.Ghosts E → D → E → Stage → Type 0
-AtRest tells L P disk device = Imaged L.tells P device (Out tells L disk)
+abbrev pub AtRest : {D S : Type 0} → Type 0 → Ghosts D → Stores S → D → S → Stage → Type 0
+AtRest tells L B disk beside = Stored L.tells B beside (Out tells L disk)
 
 abbrev pub Whatever : Stage → Type 0
 Whatever s = Unit {0}
 
 -- It asks for a close, which has these lines: one turn more, behind which no life is open.
-abbrev pub Closing : {D E F : Type 0} → Type 0 → Ghosts D → pages.Ghosts E → vaults.Ghosts F → Start → D → E → F → F → Option (List ℕ) → Option (List ℕ) → Reader → List Turn → Option (List ℕ) → Option (List ℕ) → List ℕ → Type 0
-Closing tells L P V start disk device first vault left0 told0 reader turns left told out =
-    Adds L.tells (AtRest tells L P disk device) (stage start turns) commands.Close out × Asked L.tells V start Whatever first vault left0 told0 reader turns left told commands.Close
+abbrev pub Closing : {D S : Type 0} → Type 0 → Ghosts D → Stores S → Start → D → S → Option (List ℕ) → Option (List ℕ) → Reader → List Turn → Option (List ℕ) → Option (List ℕ) → List ℕ → Type 0
+Closing tells L B start disk beside left0 told0 reader turns left told out =
+    Adds L.tells (AtRest tells L B disk beside) (stage start turns) commands.Close out × Asked L.tells start Whatever left0 told0 reader turns left told commands.Close
 
 -- One line within a life, which H knows then, behind which the run goes on, the machine is to stop, the life is over, or the run
 -- has ended, whatever devices the life hands out.
-abbrev pub PassedTo : {D E F : Type 0} → Type 0 → Ghosts D → pages.Ghosts E → vaults.Ghosts F → Start → (Stage → Type 0) → (ℕ → D → E → Type 0) → F → F → Option (List ℕ) → Option (List ℕ) → Reader → List Turn → Option (List ℕ) → Option (List ℕ) → Passed → Type 0
-PassedTo tells L P V start H hands first vault left0 told0 reader turns left told passes.Goes = (t : Turn) × Between L.tells start (Beside V first vault H) left0 told0 reader (turns ++ t ∷ []) left told
-PassedTo tells L P V start H hands first vault left0 told0 reader turns left told (passes.Stops keep lines) =
-    (kept : ℕ) (disk : _) (device : _) → hands kept disk device → Stopping tells L P V start kept disk device first vault left0 told0 reader turns left told keep lines.items
-PassedTo tells L P V start H hands first vault left0 told0 reader turns left told (passes.Closes lines) =
-    (kept : ℕ) (disk : _) (device : _) → hands kept disk device → Closing tells L P V start disk device first vault left0 told0 reader turns left told lines.items
-PassedTo tells L P V start H hands first vault left0 told0 reader turns left told (passes.Ends status) =
-    (kept : ℕ) (disk : _) (device : _) → hands kept disk device → Headline L.tells start (HandsBack tells L P V disk device first vault) left0 reader.pending left told0 told status
+abbrev pub PassedTo : {D S : Type 0} → Type 0 → Ghosts D → Stores S → Start → (Stage → Type 0) → (ℕ → D → S → Type 0) → Option (List ℕ) → Option (List ℕ) → Reader → List Turn → Option (List ℕ) → Option (List ℕ) → Passed → Type 0
+PassedTo tells L B start H hands left0 told0 reader turns left told passes.Goes = (t : Turn) × Between L.tells start H left0 told0 reader (turns ++ t ∷ []) left told
+PassedTo tells L B start H hands left0 told0 reader turns left told (passes.Stops keep lines) =
+    (kept : ℕ) (disk : _) (beside : _) → hands kept disk beside → Stopping tells L B start kept disk beside left0 told0 reader turns left told keep lines.items
+PassedTo tells L B start H hands left0 told0 reader turns left told (passes.Closes lines) =
+    (kept : ℕ) (disk : _) (beside : _) → hands kept disk beside → Closing tells L B start disk beside left0 told0 reader turns left told lines.items
+PassedTo tells L B start H hands left0 told0 reader turns left told (passes.Ends status) =
+    (kept : ℕ) (disk : _) (beside : _) → hands kept disk beside → Headline L.tells start (HandsBack tells L B disk beside) left0 reader.pending left told0 told status
 
 -- a life, which is over, or the run has ended in it
-abbrev pub LivedTo : {D E F : Type 0} → Type 0 → Ghosts D → pages.Ghosts E → vaults.Ghosts F → Start → F → F → Option (List ℕ) → Option (List ℕ) → Reader → Option (List ℕ) → Option (List ℕ) → Lived D E → Type 0
-LivedTo tells L P V start first vault left0 told0 reader left told (ways.Over disk device) = (turns : List Turn) × Between L.tells start (Beside V first vault (AtRest tells L P disk device)) left0 told0 reader turns left told
-LivedTo tells L P V start first vault left0 told0 reader left told (ways.Ends status disk device) = Headline L.tells start (HandsBack tells L P V disk device first vault) left0 reader.pending left told0 told status
+abbrev pub LivedTo : {D E F : Type 0} → Type 0 → Ghosts D → Stores (E × F) → Start → Option (List ℕ) → Option (List ℕ) → Reader → Option (List ℕ) → Option (List ℕ) → Lived D E F → Type 0
+LivedTo tells L B start left0 told0 reader left told (ways.Over disk device vault) = (turns : List Turn) × Between L.tells start (AtRest tells L B disk (device, vault)) left0 told0 reader turns left told
+LivedTo tells L B start left0 told0 reader left told (ways.Ends status disk device vault) = Headline L.tells start (HandsBack tells L B disk (device, vault)) left0 reader.pending left told0 told status

@@ -2,7 +2,6 @@
 use Rattle.std.specs.Prelude.{◌≡◌, ◌<◌, ◌≤◌, ℕ, List, [], Some, None, false}
 use Rattle.std.specs.List.{All}
 use Rattle.media.specs.declared.disk.Disk.{Ghosts}
-use Rattle.media.specs.declared.pages.PageDevice as pages
 use Rattle.log_index.specs.declared.listing.Listing.{Listing}
 use Rattle.log_manager.specs.Devices.{DevicesStandFor}
 use Rattle.log_manager.specs.Managed.{Managed}
@@ -17,9 +16,9 @@ use Rattle.runner.specs.declared.at.Stepped.TheVariants as steps
 use Rattle.life_commands.specs.declared.status.Status.{Status}
 use Rattle.life_commands.specs.declared.status.Status.TheVariants as statuses
 use Rattle.life_commands.specs.Bytes.{Known}
-use Rattle.life_commands.specs.Images.{AreSealed}
 use Rattle.life_commands.specs.Refusals.{RefusesAt}
 use Rattle.life_commands.specs.Living.{Adds, IsFused, Out}
+use Rattle.life_commands.specs.Stores.{Stores}
 use Rattle.life_commands.specs.Turns.{Stage, bytes_after, IsRightLife}
 
 -- ---- in a life
@@ -34,11 +33,11 @@ pub record BeginsOn {D : Type 0} (tells : Type 0) (L : Ghosts D) (b : Beginning 
   pub may : MayBegin tells L.told L.may_leave b.log b.listing opening
   pub stands : DevicesStandFor L.told L.may_leave b.log.log.device opening
 
--- and its data device tells its images, which are those of this log
-pub record OpensOn {D E : Type 0} (tells : Type 0) (L : Ghosts D) (P : pages.Ghosts E) (b : Beginning D) (device : E) (opening : List Record) : Type 0 where
+-- and the devices beside it tell what they hold, which is of this log
+pub record OpensOn {D S : Type 0} (tells : Type 0) (L : Ghosts D) (B : Stores S) (b : Beginning D) (beside : S) (opening : List Record) : Type 0 where
   pub begins : BeginsOn tells L b opening
-  pub told : P.tells
-  pub images : AreSealed (P.told device) opening
+  pub told : B.tells
+  pub stores : B.are_of beside opening
 
 -- within a life that has just begun on this log
 pub record Begun {D : Type 0} (tells : Type 0) (L : Ghosts D) (b : Beginning D) (s : Stage) : Type 0 where

@@ -3,14 +3,13 @@ ghost use Rattle.std.specs.Prelude.{◌≡◌, ◌<◌, ◌≤◌, ◌↔◌, �
 ghost use Rattle.page_ops.specs.Names.{life_names};
 ghost use Rattle.wal_record.specs.declared.record.Record.{Record};
 ghost use Rattle.life_commands.specs.LogDisk.{View, IsWhole, seen};
+ghost use Rattle.life_commands.specs.Stores.{stores};
 ghost use Rattle.life_commands.specs.Turns.{Start, Turn};
 ghost use Rattle.life_commands.specs.Living.{Within};
 ghost use Rattle.line_reader.specs.Lines.{Reader};
-ghost use Rattle.own_life.specs.Pages.{IsIdle};
 ghost use Rattle.runner.specs.Clause.{Between, Closing, LivedTo, Stopping};
-ghost use Rattle.runner.specs.Devices.{Imaged};
+ghost use Rattle.runner.specs.Devices.{Stored};
 ghost use Rattle.runner.specs.Machine.{Begun, IsAt, OpensOn};
-ghost use Rattle.runner.specs.Vault.{Beside};
 ghost use Rattle.runner.specs.Causes.{LivedCause, disk_at};
 
 use crate::at::At;
@@ -29,9 +28,18 @@ use std::sync::Wait;
 
 /// How a life ended: by a stop or a close, or with the run. Here are its devices.
 #[derive(Drop)]
-pub enum Lived<L, D> {
-    Over { disk: L, pages: D },
-    Ends { status: Status, disk: L, pages: D },
+pub enum Lived<L, D, V> {
+    Over {
+        disk: L,
+        pages: D,
+        vault: V,
+    },
+    Ends {
+        status: Status,
+        disk: L,
+        pages: D,
+        vault: V,
+    },
 }
 
 /// What a line has begun: nothing, or a life.
@@ -42,18 +50,18 @@ pub fn run_from<S: Source, K: Sink, V: Vault, L: Disk, D: PageDevice, R: Wait>(
     input: &mut Input,
     source: &mut S,
     sink: &mut K,
-    vault: &mut V,
+    vault: V,
     pages: D,
     at: At<L, Opened<L>>,
-) -> Lived<L, D>
-    ensures turns { (v : View L.tells) (start : Start) (first : V) (left told : Option (List ℕ)) (turns : List Turn)
-        → Between (IsWhole v) start (Beside V.Vault first vault.old (Imaged (IsWhole v) D.PageDevice pages (IsAt L.tells (seen L.Disk v) (Begun L.tells (seen L.Disk v)) at))) left told input.old turns (S.left source.old) (K.told sink.old)
-        → LivedTo L.tells (seen L.Disk v) D.PageDevice V.Vault start first vault.new left told input.new (S.left source.new) (K.told sink.new) result }
+) -> Lived<L, D, V>
+    ensures turns { (v : View L.tells) (start : Start) (left told : Option (List ℕ)) (turns : List Turn)
+        → Between (IsWhole v) start (Stored (IsWhole v) (stores D.PageDevice V.Vault) (pages, vault) (IsAt L.tells (seen L.Disk v) (Begun L.tells (seen L.Disk v)) at)) left told input.old turns (S.left source.old) (K.told sink.old)
+        → LivedTo L.tells (seen L.Disk v) (stores D.PageDevice V.Vault) start left told input.new (S.left source.new) (K.told sink.new) result }
     ensures later { (S.faults source.old ≤ S.faults source.new) × (K.faults sink.old ≤ K.faults sink.new) }
     ensures cause { LivedCause L.Disk (L.own (disk_at (λ b. b.log.log.device) at)) (S.faults source.old) (S.faults source.new) (K.faults sink.old) (K.faults sink.new) result }
 {
     let opened = match at {
-        At::Outside { disk } => return Lived::Over { disk, pages },
+        At::Outside { disk } => return Lived::Over { disk, pages, vault },
         At::Inside { life } => life,
     };
     match Unnamed::new(alloc, 1) {
@@ -64,6 +72,7 @@ pub fn run_from<S: Source, K: Sink, V: Vault, L: Disk, D: PageDevice, R: Wait>(
             status: Status::Memory,
             disk: opened.into_device(),
             pages,
+            vault,
         },
     }
 }
@@ -77,17 +86,17 @@ fn run_named<N: Life, S: Source, K: Sink, V: Vault, L: Disk, D: PageDevice, R: W
     input: &mut Input,
     source: &mut S,
     sink: &mut K,
-    vault: &mut V,
+    vault: V,
     pages: D,
     unnamed: Unnamed,
     opened: Opened<L>,
-) -> Lived<L, D>
+) -> Lived<L, D, V>
     requires named { unnamed ≡ life_names N.count N.pages N.sessions N.maint N.entries N.session_entries N.log_faults N.vault_faults N.data_faults N.made }
-    requires parts { (0 < N.entries.parts) × (0 < N.session_entries.parts) × (0 < N.log_faults.parts) × (0 < N.made.parts) }
-    requires opens { (opening : List Record) → (N.opens opening ↔ OpensOn L.tells L.Disk D.PageDevice opened pages opening) }
-    ensures turns { (v : View L.tells) (start : Start) (first : V) (left told : Option (List ℕ)) (turns : List Turn)
-        → Between (IsWhole v) start (Beside V.Vault first vault.old (Imaged (IsWhole v) D.PageDevice pages (Begun L.tells (seen L.Disk v) opened))) left told input.old turns (S.left source.old) (K.told sink.old)
-        → LivedTo L.tells (seen L.Disk v) D.PageDevice V.Vault start first vault.new left told input.new (S.left source.new) (K.told sink.new) result }
+    requires parts { (0 < N.entries.parts) × (0 < N.session_entries.parts) × (0 < N.log_faults.parts) × (0 < N.vault_faults.parts) × (0 < N.made.parts) }
+    requires opens { (opening : List Record) → (N.opens opening ↔ OpensOn L.tells L.Disk (stores D.PageDevice V.Vault) opened (pages, vault) opening) }
+    ensures turns { (v : View L.tells) (start : Start) (left told : Option (List ℕ)) (turns : List Turn)
+        → Between (IsWhole v) start (Stored (IsWhole v) (stores D.PageDevice V.Vault) (pages, vault) (Begun L.tells (seen L.Disk v) opened)) left told input.old turns (S.left source.old) (K.told sink.old)
+        → LivedTo L.tells (seen L.Disk v) (stores D.PageDevice V.Vault) start left told input.new (S.left source.new) (K.told sink.new) result }
     ensures later { (S.faults source.old ≤ S.faults source.new) × (K.faults sink.old ≤ K.faults sink.new) }
     ensures cause { LivedCause L.Disk (L.own opened.log.log.device) (S.faults source.old) (S.faults source.new) (K.faults sink.old) (K.faults sink.new) result }
 {
@@ -105,30 +114,32 @@ fn run_on<'a, N: Life, S: Source, K: Sink, V: Vault, L: Disk, D: PageDevice, R: 
     input: &mut Input,
     source: &mut S,
     sink: &mut K,
-    vault: &mut V,
+    vault: V,
     pages: D,
     ground: &'a Ground<N>,
     tokens: Tokens<N>,
     opened: Opened<L>,
-) -> Lived<L, D>
-    requires parts { (0 < N.entries.parts) × (0 < N.session_entries.parts) × (0 < N.log_faults.parts) × (0 < N.made.parts) }
+) -> Lived<L, D, V>
+    requires parts { (0 < N.entries.parts) × (0 < N.session_entries.parts) × (0 < N.log_faults.parts) × (0 < N.vault_faults.parts) × (0 < N.made.parts) }
     requires history { (tokens.front ≡ []) × (tokens.mark ≡ 0) × (tokens.pass.log ≡ []) }
     requires books { (tokens.books.pages ≡ []) × (tokens.books.sessions ≡ []) × (tokens.books.maint ≡ []) }
-    requires opens { (opening : List Record) → (N.opens opening ↔ OpensOn L.tells L.Disk D.PageDevice opened pages opening) }
-    ensures turns { (v : View L.tells) (start : Start) (first : V) (left told : Option (List ℕ)) (turns : List Turn)
-        → Between (IsWhole v) start (Beside V.Vault first vault.old (Imaged (IsWhole v) D.PageDevice pages (Begun L.tells (seen L.Disk v) opened))) left told input.old turns (S.left source.old) (K.told sink.old)
-        → LivedTo L.tells (seen L.Disk v) D.PageDevice V.Vault start first vault.new left told input.new (S.left source.new) (K.told sink.new) result }
+    requires opens { (opening : List Record) → (N.opens opening ↔ OpensOn L.tells L.Disk (stores D.PageDevice V.Vault) opened (pages, vault) opening) }
+    ensures turns { (v : View L.tells) (start : Start) (left told : Option (List ℕ)) (turns : List Turn)
+        → Between (IsWhole v) start (Stored (IsWhole v) (stores D.PageDevice V.Vault) (pages, vault) (Begun L.tells (seen L.Disk v) opened)) left told input.old turns (S.left source.old) (K.told sink.old)
+        → LivedTo L.tells (seen L.Disk v) (stores D.PageDevice V.Vault) start left told input.new (S.left source.new) (K.told sink.new) result }
     ensures later { (S.faults source.old ≤ S.faults source.new) × (K.faults sink.old ≤ K.faults sink.new) }
     ensures cause { LivedCause L.Disk (L.own opened.log.log.device) (S.faults source.old) (S.faults source.new) (K.faults sink.old) (K.faults sink.new) result }
 {
-    match open_life(alloc, operators, ground, tokens, opened.into_log(), pages) {
-        Ok((life, pages)) => run_life(rt, alloc, input, source, sink, vault, life, pages),
+    let log = opened.into_log();
+    match open_life(alloc, operators, ground, tokens, log, pages, vault) {
+        Ok((life, pages)) => run_life(rt, alloc, input, source, sink, life, pages),
         Err(refused) => {
-            let LifeRefused { log, device } = refused;
+            let LifeRefused { log, device, vault } = refused;
             Lived::Ends {
                 status: Status::Memory,
                 disk: log,
                 pages: device,
+                vault,
             }
         }
     }
@@ -141,15 +152,13 @@ fn run_life<'a, N: Life, S: Source, K: Sink, V: Vault, L: Disk, D: PageDevice, R
     input: &mut Input,
     source: &mut S,
     sink: &mut K,
-    vault: &mut V,
     life: OwnLife<'a, L, N>,
-    pages: StorePages<'a, D, N>,
-) -> Lived<L, D>
-    requires idle { IsIdle pages.pool.out pages.pool.reserves }
-    requires told { (opening : List Record) → N.opens opening → D.tells }
-    ensures turns { (v : View L.tells) (start : Start) (first : V) (left told : Option (List ℕ)) (turns : List Turn)
-        → Between (IsWhole v) start (Beside V.Vault first vault.old (Within (seen L.Disk v) N.opens life.entry)) left told input.old turns (S.left source.old) (K.told sink.old)
-        → LivedTo L.tells (seen L.Disk v) D.PageDevice V.Vault start first vault.new left told input.new (S.left source.new) (K.told sink.new) result }
+    pages: StorePages<'a, D, V, N>,
+) -> Lived<L, D, V>
+    requires told { (opening : List Record) → N.opens opening → D.tells × V.tells }
+    ensures turns { (v : View L.tells) (start : Start) (left told : Option (List ℕ)) (turns : List Turn)
+        → Between (IsWhole v) start (Within (seen L.Disk v) N.opens life.entry) left told input.old turns (S.left source.old) (K.told sink.old)
+        → LivedTo L.tells (seen L.Disk v) (stores D.PageDevice V.Vault) start left told input.new (S.left source.new) (K.told sink.new) result }
     ensures later { (S.faults source.old ≤ S.faults source.new) × (K.faults sink.old ≤ K.faults sink.new) }
     ensures cause { LivedCause L.Disk life.entry.calls.own (S.faults source.old) (S.faults source.new) (K.faults sink.old) (K.faults sink.new) result }
 {
@@ -160,56 +169,59 @@ fn run_life<'a, N: Life, S: Source, K: Sink, V: Vault, L: Disk, D: PageDevice, R
         ) {
             Passed::Goes => {}
             Passed::Stops { keep, lines } => {
-                let (disk, pages) = life.into_devices(pages);
+                let (disk, pages, vault) = life.into_devices(pages);
                 return stop_life(sink, vault, disk, pages, keep, lines);
             }
             Passed::Closes { lines } => {
-                let (disk, pages) = life.into_devices(pages);
-                return end_life::<K, V, L, D>(sink, disk, pages, lines);
+                let (disk, pages, vault) = life.into_devices(pages);
+                return end_life(sink, vault, disk, pages, lines);
             }
             Passed::Ends { status } => {
-                let (disk, pages) = life.into_devices(pages);
+                let (disk, pages, vault) = life.into_devices(pages);
                 return Lived::Ends {
                     status,
                     disk,
                     pages,
+                    vault,
                 };
             }
         }
     }
-    let (disk, pages) = life.into_devices(pages);
+    let (disk, pages, vault) = life.into_devices(pages);
     Lived::Ends {
         status: Status::Memory,
         disk,
         pages,
+        vault,
     }
 }
 
 /// The machine stops where a life was open, and the lines that say so are written.
 fn stop_life<K: Sink, V: Vault, L: Disk, D: PageDevice>(
     sink: &mut K,
-    vault: &mut V,
+    vault: V,
     disk: L,
     pages: D,
     keep: Option<u64>,
     lines: Vec<u8>,
-) -> Lived<L, D>
-    ensures turns { (v : View L.tells) (start : Start) (first : V) (kept : ℕ) (left0 told0 : Option (List ℕ)) (reader : Reader) (turns : List Turn) (left : Option (List ℕ))
-        → (IsWhole v → D.tells) → Stopping L.tells (seen L.Disk v) D.PageDevice V.Vault start kept disk pages first vault.old left0 told0 reader turns left (K.told sink.old) keep lines.items
-        → LivedTo L.tells (seen L.Disk v) D.PageDevice V.Vault start first vault.new left0 told0 reader left (K.told sink.new) result }
+) -> Lived<L, D, V>
+    ensures turns { (v : View L.tells) (start : Start) (kept : ℕ) (left0 told0 : Option (List ℕ)) (reader : Reader) (turns : List Turn) (left : Option (List ℕ))
+        → (IsWhole v → D.tells × V.tells) → Stopping L.tells (seen L.Disk v) (stores D.PageDevice V.Vault) start kept disk (pages, vault) left0 told0 reader turns left (K.told sink.old) keep lines.items
+        → LivedTo L.tells (seen L.Disk v) (stores D.PageDevice V.Vault) start left0 told0 reader left (K.told sink.new) result }
     ensures later { K.faults sink.old ≤ K.faults sink.new }
     ensures cause { (source : ℕ) → LivedCause L.Disk (L.own disk) source source (K.faults sink.old) (K.faults sink.new) result }
 {
     let disk = cycled(disk, keep.unwrap_or(0));
-    let mut pages = pages;
+    let (mut pages, mut vault) = (pages, vault);
     pages.fuse(None);
     vault.power_cycle();
     match write_all(sink, &lines) {
-        Ok(()) => Lived::Over { disk, pages },
+        Ok(()) => Lived::Over { disk, pages, vault },
         Err(_) => Lived::Ends {
             status: Status::SinkFault,
             disk,
             pages,
+            vault,
         },
     }
 }
@@ -217,22 +229,24 @@ fn stop_life<K: Sink, V: Vault, L: Disk, D: PageDevice>(
 /// A life is over, and the lines that say so are written.
 fn end_life<K: Sink, V: Vault, L: Disk, D: PageDevice>(
     sink: &mut K,
+    vault: V,
     disk: L,
     pages: D,
     lines: Vec<u8>,
-) -> Lived<L, D>
-    ensures turns { (v : View L.tells) (start : Start) (first vault : V) (left0 told0 : Option (List ℕ)) (reader : Reader) (turns : List Turn) (left : Option (List ℕ))
-        → Closing L.tells (seen L.Disk v) D.PageDevice V.Vault start disk pages first vault left0 told0 reader turns left (K.told sink.old) lines.items
-        → LivedTo L.tells (seen L.Disk v) D.PageDevice V.Vault start first vault left0 told0 reader left (K.told sink.new) result }
+) -> Lived<L, D, V>
+    ensures turns { (v : View L.tells) (start : Start) (left0 told0 : Option (List ℕ)) (reader : Reader) (turns : List Turn) (left : Option (List ℕ))
+        → Closing L.tells (seen L.Disk v) (stores D.PageDevice V.Vault) start disk (pages, vault) left0 told0 reader turns left (K.told sink.old) lines.items
+        → LivedTo L.tells (seen L.Disk v) (stores D.PageDevice V.Vault) start left0 told0 reader left (K.told sink.new) result }
     ensures later { K.faults sink.old ≤ K.faults sink.new }
     ensures cause { (source : ℕ) → LivedCause L.Disk (L.own disk) source source (K.faults sink.old) (K.faults sink.new) result }
 {
     match write_all(sink, &lines) {
-        Ok(()) => Lived::Over { disk, pages },
+        Ok(()) => Lived::Over { disk, pages, vault },
         Err(_) => Lived::Ends {
             status: Status::SinkFault,
             disk,
             pages,
+            vault,
         },
     }
 }

@@ -2,14 +2,14 @@
 ghost use Rattle.std.specs.Prelude.{◌≤◌, ℕ, List, Option, IfErr};
 ghost use Rattle.line_reader.specs.Lines.{IsBounded};
 ghost use Rattle.life_commands.specs.LogDisk.{View, IsWhole, seen};
+ghost use Rattle.life_commands.specs.Stores.{stores};
 ghost use Rattle.life_commands.specs.Turns.{Start, Turn};
 ghost use Rattle.life_commands.specs.Living.{Out, Within};
 ghost use Rattle.wal_record.specs.declared.record.Record.{Record};
-ghost use Rattle.own_life.specs.Pages.{IsIdle};
 ghost use Rattle.runner.specs.Clause.{Between, PassedTo, TakesCommand, TurnedTo};
-ghost use Rattle.runner.specs.Devices.{AreDevicesOf, Imaged};
+ghost use Rattle.runner.specs.Devices.{AreDevicesOf, Stored};
 ghost use Rattle.runner.specs.Machine.{Begun};
-ghost use Rattle.runner.specs.Vault.{Beside, Cycles};
+ghost use Rattle.runner.specs.Vault.{Cycles};
 ghost use Rattle.runner.specs.Causes.{LineCause, PassedCause, TurnedCause};
 
 use crate::at::{At, Stepped, disk_opened};
@@ -51,9 +51,9 @@ pub fn turn_outside<S: Source, K: Sink, V: Vault, L: Disk, D: PageDevice>(
     pages: &mut D,
     disk: L,
 ) -> Turned<L, Opened<L>>
-    ensures turns { (v : View L.tells) (start : Start) (first : V) (left told : Option (List ℕ)) (turns : List Turn)
-        → Between (IsWhole v) start (Beside V.Vault first vault.old (Imaged (IsWhole v) D.PageDevice pages.old (Out L.tells (seen L.Disk v) disk))) left told input.old turns (S.left source.old) (K.told sink.old)
-        → TurnedTo L.tells (seen L.Disk v) D.PageDevice V.Vault start (Begun L.tells (seen L.Disk v)) pages.new first vault.new left told input.new turns (S.left source.new) (K.told sink.new) result }
+    ensures turns { (v : View L.tells) (start : Start) (left told : Option (List ℕ)) (turns : List Turn)
+        → Between (IsWhole v) start (Stored (IsWhole v) (stores D.PageDevice V.Vault) (pages.old, vault.old) (Out L.tells (seen L.Disk v) disk)) left told input.old turns (S.left source.old) (K.told sink.old)
+        → TurnedTo L.tells (seen L.Disk v) (stores D.PageDevice V.Vault) start (Begun L.tells (seen L.Disk v)) (pages.new, vault.new) left told input.new turns (S.left source.new) (K.told sink.new) result }
     ensures later { (S.faults source.old ≤ S.faults source.new) × (K.faults sink.old ≤ K.faults sink.new) }
     ensures cause { TurnedCause L.Disk (λ b. b.log.log.device) disk (S.faults source.old) (S.faults source.new) (K.faults sink.old) (K.faults sink.new) result }
 {
@@ -89,15 +89,13 @@ pub fn turn_inside<'a, N: Life, S: Source, K: Sink, V: Vault, L: Disk, D: PageDe
     source: &mut S,
     sink: &mut K,
     life: &mut OwnLife<'a, L, N>,
-    pages: &mut StorePages<'a, D, N>,
+    pages: &mut StorePages<'a, D, V, N>,
 ) -> Passed
-    requires idle { IsIdle pages.old.pool.out pages.old.pool.reserves }
-    requires told { (opening : List Record) → N.opens opening → D.tells }
-    ensures idle { IsIdle pages.new.pool.out pages.new.pool.reserves }
-    ensures turns { (v : View L.tells) (start : Start) (first vault : V) (left told : Option (List ℕ)) (turns : List Turn)
-        → Between (IsWhole v) start (Beside V.Vault first vault (Within (seen L.Disk v) N.opens life.old)) left told input.old turns (S.left source.old) (K.told sink.old)
-        → PassedTo L.tells (seen L.Disk v) D.PageDevice V.Vault start (Within (seen L.Disk v) N.opens life.new) (AreDevicesOf L.Disk D.PageDevice N.opens life.new)
-        first vault left told input.new turns (S.left source.new) (K.told sink.new) result }
+    requires told { (opening : List Record) → N.opens opening → D.tells × V.tells }
+    ensures turns { (v : View L.tells) (start : Start) (left told : Option (List ℕ)) (turns : List Turn)
+        → Between (IsWhole v) start (Within (seen L.Disk v) N.opens life.old) left told input.old turns (S.left source.old) (K.told sink.old)
+        → PassedTo L.tells (seen L.Disk v) (stores D.PageDevice V.Vault) start (Within (seen L.Disk v) N.opens life.new) (AreDevicesOf L.Disk D.PageDevice V.Vault N.opens life.new)
+        left told input.new turns (S.left source.new) (K.told sink.new) result }
     ensures later { (S.faults source.old ≤ S.faults source.new) × (K.faults sink.old ≤ K.faults sink.new) }
     ensures cause { PassedCause life.old.calls life.new.calls (S.faults source.old) (S.faults source.new) (K.faults sink.old) (K.faults sink.new) result }
 {

@@ -43,7 +43,7 @@ returns-in-Err-clause-ok g c =
     let asks = subst (λ (r : Request). (a : Active) → active_of x.active c.args.name.now ≡ Some a → Asks g.N.Life.opens a.session a.tx r (Err c.in-Err.fault) x.history y.history) c.in_ok-asked.ensures c.in-Err.ensures.asks in
     let more = refused_more x.calls.refused c.refused-before.result y.calls.refused c.refused-before.ensures (search rules) in
     if_ok c.refuse.result _ _ (λ out line. ask_declined g.L.Disk g.N.Life.opens x y c.args.name.now c.requires.goes c.in-Err.ensures.names c.look.ensures.right c.args.request.now c.requires.active
-    (IsRefusal c.in_ok-asked.asked) c.in_ok-failed.failed.items c.in_ok-failed.ensures c.refused-before.result y.calls.refused more c.in-Err.fault asks c.in-Err.ensures.refused out.items line) c.refuse.ensures.ok
+    _ _ (IsRefusal c.in_ok-asked.asked) c.in_ok-failed.failed.items c.in_ok-failed.ensures c.refused-before.result y.calls.refused more c.in-Err.fault asks c.in-Err.ensures.refused out.items line) c.refuse.ensures.ok
 
 pub returns-in-Err-clause-err : goal.returns-in-Err-clause-err
 returns-in-Err-clause-err g c =
@@ -52,4 +52,4 @@ returns-in-Err-clause-err g c =
     let asks = subst (λ (r : Request). (a : Active) → active_of x.active c.args.name.now ≡ Some a → Asks g.N.Life.opens a.session a.tx r (Err c.in-Err.fault) x.history y.history) c.in_ok-asked.ensures c.in-Err.ensures.asks in
     let more = refused_more x.calls.refused c.refused-before.result y.calls.refused c.refused-before.ensures (search rules) in
     if_err c.refuse.result _ _ (λ status says line. ask_ends g.L.Disk g.N.Life.opens x y c.args.name.now c.requires.goes c.in-Err.ensures.names c.look.ensures.right c.args.request.now c.requires.active
-    (IsRefusal c.in_ok-asked.asked) c.in_ok-failed.failed.items c.in_ok-failed.ensures c.refused-before.result y.calls.refused more c.in-Err.fault asks c.in-Err.ensures.refused status says line) c.refuse.ensures.err
+    _ _ (IsRefusal c.in_ok-asked.asked) c.in_ok-failed.failed.items c.in_ok-failed.ensures c.refused-before.result y.calls.refused more c.in-Err.fault asks c.in-Err.ensures.refused status says line) c.refuse.ensures.err

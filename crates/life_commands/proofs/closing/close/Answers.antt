@@ -12,5 +12,5 @@ pub returns-in_err-upkeep_ended-in-Some-clause-err : goal.returns-in_err-upkeep_
 returns-in_err-upkeep_ended-in-Some-clause-err g c = by_memory c.from_residual.result _ c.from_residual.ensures.1 (lacks_memory g.L.Disk g.N.Life.opens c.args.life.now c.args.life.now refl commands.Close c.args.line)
 
 pub returns-in_ok-upkeep_ended-in-Some-clause-ok : goal.returns-in_ok-upkeep_ended-in-Some-clause-ok
-returns-in_ok-upkeep_ended-in-Some-clause-ok g c = closes_ended g.L.Disk g.N.Life.opens c.args.life.now (no_names c.args.life.now.active (search rules)) g.D.PageDevice c.in-Some.at (sym c.in-Some.ensures.end)
+returns-in_ok-upkeep_ended-in-Some-clause-ok g c = closes_ended g.L.Disk g.N.Life.opens c.args.life.now (no_names c.args.life.now.active (search rules)) g.D.PageDevice g.V.Vault c.in-Some.at (sym c.in-Some.ensures.end)
     c.in_ok-upkeep_ended-in-Some.field-0.items c.in_ok-upkeep_ended-in-Some.ensures

@@ -3,7 +3,7 @@ use Rattle.store_model.specs.declared.fault.Fault.{Fault}
 use Rattle.own_life.specs.State.{FailsToCommit}
 use Rattle.script.specs.declared.command.Command.TheVariants as commands
 use Rattle.life_commands.proofs.Ends.{commit_cut, commit_lacks, commits_line, ends_run, fails_line, lacks_memory}
-use Rattle.life_commands.proofs.Faults.{by_memory, commit_fails, if_err, if_ok, more_refused}
+use Rattle.life_commands.proofs.Faults.{by_memory, commit_fails, if_err, if_ok, more_refused, over}
 use Rattle.life_commands.proofs.ending.commit_open.Goals as goal
 
 pub returns-then-before-ge-MOST-clause-err : goal.returns-then-before-ge-MOST-clause-err
@@ -35,5 +35,5 @@ returns-in-Err-clause-err g c =
     let x = c.args.life.now in
     let y = c.commit-committed.new.self in
     let cut = commit_cut g.L.Disk g.N.Life.opens x y c.requires.goes c.look.ensures.right c.args.name.now c.requires.active c.in-Err.fault c.in-Err.ensures.commits in
-    if_err c.fail.result _ _ (λ status k line. ends_run g.L.Disk g.N.Life.opens x y c.in-Err.ensures.names c.look.ensures.right (commands.Commit c.args.name.now) tt refl cut
-    c.refused-before.result c.refused.result c.in-Err.fault (commit_fails g.N.Life.opens x y c.in-Err.fault c.in-Err.ensures.refused) status k line) c.fail.ensures.err
+    if_err c.fail.result _ _ (λ status k line. ends_run g.L.Disk g.N.Life.opens x y c.in-Err.ensures.names c.look.ensures.right (commands.Commit c.args.name.now) tt refl cut 0 0
+    c.refused-before.result c.refused.result c.in-Err.fault (over g.N.Life.opens x y c.in-Err.fault (commit_fails g.N.Life.opens x y c.in-Err.fault c.in-Err.ensures.refused)) status k line) c.fail.ensures.err

@@ -1,28 +1,27 @@
 use Rattle.std.proofs.Common.{◌∙◌, ◌∷◌, ◌++◌, [], sym}
 use Rattle.script.specs.declared.command.Command.TheVariants as commands
-use Rattle.life_commands.specs.LogDisk.{IsWhole, seen}
+use Rattle.life_commands.specs.LogDisk.{seen}
+use Rattle.life_commands.specs.Stores.{stores}
 use Rattle.life_commands.specs.Turns.{stage}
 use Rattle.runner.specs.Clause.{AtRest}
-use Rattle.runner.specs.Vault.{Beside}
 use Rattle.runner.proofs.Places.{rests_out}
-use Rattle.runner.proofs.Vaults.{adds_still}
 use Rattle.runner.proofs.Runs.{asked_line, went, fell, all_written}
 use Rattle.runner.proofs.living.end_life.Goals as goal
 
 pub returns-in-Ok-clause-turns : goal.returns-in-Ok-clause-turns
-returns-in-Ok-clause-turns g c = λ v start first vault left0 told0 reader turns left closing.
+returns-in-Ok-clause-turns g c = λ v start left0 told0 reader turns left closing.
     let w = c.in-Ok.ensures.bytes in
     let a = closing.1 in
     let L = seen g.L.Disk v in
-    let added = adds_still g.V.Vault (IsWhole v) first vault _ (stage start turns) commands.Close c.args.lines.items tt a.before.holds.vault closing.0 in
-    let t = went g.L.Disk.tells L g.D.PageDevice reader left a.before a.most commands.Close (asked_line a) (Beside g.V.Vault first vault (AtRest g.L.Disk.tells L g.D.PageDevice c.args.disk c.args.pages)) c.args.lines.items added _ (all_written _ _ c.args.lines.items w.0 w.1 (sym c.deref.ensures.value ∙ w.2) w.4 w.3) in
+    let B = stores g.D.PageDevice g.V.Vault in
+    let t = went g.L.Disk.tells L B reader left a.before a.most commands.Close (asked_line a) (AtRest g.L.Disk.tells L B c.args.disk (c.args.pages, c.args.vault)) c.args.lines.items closing.0 _ (all_written _ _ c.args.lines.items w.0 w.1 (sym c.deref.ensures.value ∙ w.2) w.4 w.3) in
     (turns ++ t.0 ∷ [], t.1)
 
 pub returns-clause-turns : goal.returns-clause-turns
-returns-clause-turns g c = λ v start first vault left0 told0 reader turns left closing.
+returns-clause-turns g c = λ v start left0 told0 reader turns left closing.
     let w = c.in-Err.ensures.bytes in
     let a = closing.1 in
     let L = seen g.L.Disk v in
-    let added = adds_still g.V.Vault (IsWhole v) first vault _ (stage start turns) commands.Close c.args.lines.items tt a.before.holds.vault closing.0 in
-    fell g.L.Disk.tells L g.D.PageDevice reader left a.before a.most commands.Close (asked_line a) 0 c.args.disk c.args.pages vault (AtRest g.L.Disk.tells L g.D.PageDevice c.args.disk c.args.pages)
-    (λ s h. rests_out g.L.Disk.tells L g.D.PageDevice c.args.pages c.args.disk s h) c.args.lines.items w.0 w.1 added (sym c.deref.ensures.value ∙ w.2) _ w.3
+    let B = stores g.D.PageDevice g.V.Vault in
+    fell g.L.Disk.tells L B reader left a.before a.most commands.Close (asked_line a) 0 c.args.disk (c.args.pages, c.args.vault) (AtRest g.L.Disk.tells L B c.args.disk (c.args.pages, c.args.vault))
+    (λ s h. rests_out g.L.Disk.tells L B (c.args.pages, c.args.vault) c.args.disk s h) c.args.lines.items w.0 w.1 closing.0 (sym c.deref.ensures.value ∙ w.2) _ w.3

@@ -1,9 +1,10 @@
+use Rattle.life_commands.specs.Stores.{stores}
 use Rattle.runner.specs.Machine.{OpensOn}
 use Rattle.runner.proofs.living.run_from.Given as goal
 
 abbrev pub ghosts-run_named-N-Life : goal.ghosts-run_named-N-Life
 ghosts-run_named-N-Life g a = record {
-  opens = OpensOn g.L.Disk.tells g.L.Disk g.D.PageDevice a.opened a.pages;
+  opens = OpensOn g.L.Disk.tells g.L.Disk (stores g.D.PageDevice g.V.Vault) a.opened (a.pages, a.vault);
   entries = a.unnamed.entries;
   session_entries = a.unnamed.session_entries;
   log_faults = a.unnamed.log_faults;

@@ -8,26 +8,15 @@ use Rattle.own_life.specs.Pages.{AreRestored, AwaitsRedo}
 use Rattle.own_life.specs.State.{Fails, GoesOn, LifeState}
 use Rattle.own_life.proofs.Called.{bring_refused, brings, meets_done}
 use Rattle.own_life.proofs.Going.{called_by, kept_by, names_left, state_of}
-use Rattle.own_life.proofs.Named.{vault_ok, vault_on_ok, vault_steps}
 use Rattle.own_life.proofs.life.OwnLife.bring_next.Goals as goal
 
 pub invariant_of-self : goal.invariant_of-self
 invariant_of-self g c =
     let q = called_by c.self.inside.journal.counts c.self.inside.journal.journal c.self.inside.life c.args.self.now c.self.invariant c.self.view_is c.see_whole.ensures c.requires.open c.bring_next-brought.ensures.keeps c.bring_next-brought.ensures.durable in
-    kept_by c.self.inside.journal.counts c.self.inside.journal.journal c.self.inside.life c.args.self.now c.self.invariant c.self.view_is c.see_whole.ensures c.bring_next-brought.ensures.keeps c.bring_next-brought.ensures.named (brings q g.N.Life.made c.bring_next-brought.new.life.pass.log c.bring_next-brought.result c.bring_next-brought.ensures.open c.bring_next-brought.ensures.refused)
+    kept_by c.self.inside.journal.counts c.self.inside.journal.journal c.self.inside.life c.args.self.now c.self.invariant c.self.view_is c.see_whole.ensures c.bring_next-brought.ensures.keeps c.bring_next-brought.ensures.named (brings q g.N.Life.made c.bring_next-brought.new.life.pass.log _ _ c.bring_next-brought.result c.bring_next-brought.ensures.open c.bring_next-brought.ensures.refused)
 
 pub returns-clause-restored : goal.returns-clause-restored
-returns-clause-restored g c =
-    let all = AreRestored g.N.Life.opens c.see_whole.new.life.pass.log in
-    subst (λ (r : Result (Option ℕ) Fault). IfOk r (λ segment. IfNone segment all)) (sym c.unvaulted.ensures)
-    (vault_ok (λ (segment : Option ℕ). IfNone segment all) c.bring_next-brought.result
-    (subst (λ (l : List Entry). IfOk c.bring_next-brought.result (λ segment. IfNone segment (AreRestored g.N.Life.opens l))) (sym c.see_whole.ensures.history) c.bring_next-brought.ensures.restored))
-
-pub returns-clause-redone : goal.returns-clause-redone
-returns-clause-redone g c =
-    let none = (q : ℕ) → AwaitsRedo c.bring_next-brought.new.self.pool.plan q → ⊥ in
-    subst (λ (r : Result (Option ℕ) Fault). IfOk r (λ page. IfNone page none)) (sym c.unvaulted.ensures)
-    (vault_ok (λ (page : Option ℕ). IfNone page none) c.bring_next-brought.result c.bring_next-brought.ensures.redone)
+returns-clause-restored g c = subst (λ (l : List Entry). IfOk c.bring_next-brought.result (λ page. IfNone page (AreRestored g.N.Life.opens l))) (sym c.see_whole.ensures.history) c.bring_next-brought.ensures.restored
 
 pub returns-clause-upkeep : goal.returns-clause-upkeep
 returns-clause-upkeep g c =
@@ -39,14 +28,10 @@ returns-clause-names g c = names_left c.self.inside.journal.counts c.self.inside
 
 pub returns-clause-goes : goal.returns-clause-goes
 returns-clause-goes g c =
-    let new = state_of c.see_whole.new.journal.counts c.see_whole.new.journal.journal c.see_whole.new.life in
     let q = called_by c.self.inside.journal.counts c.self.inside.journal.journal c.self.inside.life c.args.self.now c.self.invariant c.self.view_is c.see_whole.ensures c.requires.open c.bring_next-brought.ensures.keeps c.bring_next-brought.ensures.durable in
-    subst (λ (r : Result (Option ℕ) Fault). OnOk r (GoesOn c.args.self.now new)) (sym c.unvaulted.ensures)
-    (vault_on_ok (GoesOn c.args.self.now new) c.bring_next-brought.result (meets_done q g.N.Life.made c.bring_next-brought.new.life.pass.log c.bring_next-brought.result c.bring_next-brought.ensures.open))
+    meets_done q g.N.Life.made c.bring_next-brought.new.life.pass.log c.bring_next-brought.result c.bring_next-brought.ensures.open
 
 pub returns-clause-refused : goal.returns-clause-refused
 returns-clause-refused g c =
-    let new = state_of c.see_whole.new.journal.counts c.see_whole.new.journal.journal c.see_whole.new.life in
     let q = called_by c.self.inside.journal.counts c.self.inside.journal.journal c.self.inside.life c.args.self.now c.self.invariant c.self.view_is c.see_whole.ensures c.requires.open c.bring_next-brought.ensures.keeps c.bring_next-brought.ensures.durable in
-    subst (λ (r : Result (Option ℕ) Fault). IfErr r (Fails g.N.Life.opens c.args.self.now new)) (sym c.unvaulted.ensures)
-    (bring_refused q g.N.Life.made c.bring_next-brought.new.life.pass.log c.bring_next-brought.result c.bring_next-brought.ensures.refused)
+    bring_refused q g.N.Life.made c.bring_next-brought.new.life.pass.log _ _ c.bring_next-brought.result c.bring_next-brought.ensures.refused

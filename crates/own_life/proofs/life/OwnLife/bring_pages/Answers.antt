@@ -1,4 +1,4 @@
-use Rattle.std.proofs.Common.{ℕ, ap, refl, ◌∙◌}
+use Rattle.std.proofs.Common.{arith, ℕ, ap, refl, ◌∙◌}
 use Rattle.std.specs.Prelude.{not, IfNone}
 use Rattle.own_life.specs.Pages.{AreRestored, AwaitsRedo}
 use Rattle.own_life.proofs.Helped.{upkeep_none, upkeep_then}
@@ -10,15 +10,12 @@ pub loop-taken-init : goal.loop-taken-init
 loop-taken-init g c = record {
   goes = goes_self c.args.self.now c.requires.open;
   upkeep = upkeep_none c.args.self.now.history;
+  counted = omega arith;
   names = refl;
-  idle = c.requires.idle;
 }
 
 pub bring_next-requires-clause-open : goal.bring_next-requires-clause-open
 bring_next-requires-clause-open g c = c.loop-taken.invariant.goes.ended
-
-pub bring_next-requires-clause-idle : goal.bring_next-requires-clause-idle
-bring_next-requires-clause-idle g c = c.loop-taken.invariant.idle
 
 pub returns-in_err-bring_next-clause-upkeep : goal.returns-in_err-bring_next-clause-upkeep
 returns-in_err-bring_next-clause-upkeep g c = upkeep_then c.args.self.now.history c.loop-taken.self.history c.bring_next.new.self.history c.loop-taken.invariant.upkeep c.bring_next.ensures.upkeep
@@ -36,6 +33,6 @@ pub loop-taken-preserved : goal.loop-taken-preserved
 loop-taken-preserved g c = record {
   goes = goes_then c.args.self.now c.loop-taken.self c.bring_next.new.self c.loop-taken.invariant.goes c.in_ok-bring_next.ensures.goes;
   upkeep = upkeep_then c.args.self.now.history c.loop-taken.self.history c.bring_next.new.self.history c.loop-taken.invariant.upkeep c.bring_next.ensures.upkeep;
+  counted = let low = c.loop-taken.invariant.counted in let more = c.bring_next.ensures.counted in omega (arith, low, more);
   names = c.bring_next.ensures.names ∙ c.loop-taken.invariant.names;
-  idle = c.bring_next.ensures.idle;
 }

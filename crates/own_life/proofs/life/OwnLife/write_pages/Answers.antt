@@ -11,15 +11,12 @@ loop-taken-init g c = record {
   written = written_none c.args.self.now.history;
   stored = all_but_none (Lacks c.args.pages.now.pool.frames);
   awaits = λ page is. is;
+  counted = refl;
   names = refl;
-  idle = c.requires.idle;
 }
 
 pub write_next-requires-clause-open : goal.write_next-requires-clause-open
 write_next-requires-clause-open g c = c.loop-taken.invariant.goes.ended
-
-pub write_next-requires-clause-idle : goal.write_next-requires-clause-idle
-write_next-requires-clause-idle g c = c.loop-taken.invariant.idle
 
 pub returns-in_err-write_next-clause-written : goal.returns-in_err-write_next-clause-written
 returns-in_err-write_next-clause-written g c =
@@ -42,6 +39,6 @@ loop-taken-preserved g c = record {
   written = written_then c.loop-taken.taken 1 c.args.self.now.history c.loop-taken.self.history c.write_next.new.self.history c.loop-taken.invariant.written c.write_next.ensures.written;
   stored = written_more c.loop-taken.taken (Lacks c.args.pages.now.pool.frames) (Lacks c.loop-taken.pages.pool.frames) (Lacks c.write_next.new.pages.pool.frames) c.in_ok-write_next.field-0 (c.is_none.ensures ∙ ap not c.if-is_none.false) c.loop-taken.invariant.stored c.in_ok-write_next.ensures.one;
   awaits = λ page is. c.loop-taken.invariant.awaits page (c.write_next.ensures.awaits page is);
+  counted = c.write_next.ensures.counted ∙ c.loop-taken.invariant.counted;
   names = c.write_next.ensures.names ∙ c.loop-taken.invariant.names;
-  idle = c.write_next.ensures.idle;
 }
