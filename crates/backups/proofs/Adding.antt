@@ -26,11 +26,11 @@ use Rattle.claim_laws.proofs.Upkeep.{books_law}
 use Rattle.listing_laws.proofs.Named.{all_named, image_named, named, named_in, named_push}
 use Rattle.backup_set.specs.Backup.{IsAmong}
 use Rattle.backup_set.specs.declared.copy.PageCopy.{PageCopy}
-use Rattle.foster_tree.proofs.Causing.{none_then}
+use Rattle.foster_tree.specs.Nows.{KeepsDesk}
 use Rattle.foster_tree.proofs.Made.{made_since}
 use Rattle.page_ops.specs.Causes.{EndsBy, FailsToBring, FailsToEnter, MeetsNoEnd, NoOther}
 use Rattle.page_ops.specs.Claims.{no_claims}
-use Rattle.page_ops.specs.Desks.{Faults, KeepsFaults}
+use Rattle.page_ops.specs.Desks.{Desk, Faults, KeepsFaults}
 use Rattle.page_ops.specs.Gains.{Gains, Goes, IsSettled}
 use Rattle.page_ops.specs.Groups.{Each}
 use Rattle.page_ops.specs.Names.{LedgerName}
@@ -41,7 +41,7 @@ use Rattle.page_ops.proofs.Staying.{longer_log}
 use Rattle.named_objects.proofs.MadeObjects.{calm_sessions}
 use Rattle.named_objects.specs.Drafts.{FailsToName, NamesOne}
 use Rattle.named_objects.specs.declared.naming.Naming.TheVariants as namings
-use Rattle.backups.specs.Backups.{AddsTo, BacksUp, BeginsToBackUp, FailsToBackUp, HasPage, IsAbove, IsDurable, IsTold, SomeOf, is_of_backup}
+use Rattle.backups.specs.Backups.{AddsTo, BacksUp, BeginsToBackUp, HasPage, IsAbove, IsDurable, IsTold, SomeOf, is_of_backup}
 use Rattle.backups.specs.Copies.{AreDrawn, AreMade, Drawn, WasCurrent, told_of}
 use Rattle.backups.specs.Going.{HasBackedUp, HasBackedUpOr}
 use Rattle.backups.proofs.Lists.{all_both, all_more, each_both, each_more, each_of_all, low_or_high, some_left, some_more, some_right}
@@ -325,50 +325,27 @@ module _ (opens : List Record → Type 0) (entries sessions : LedgerName) (a b c
 -- ---- why it is refused
 
 module _ (opens : List Record → Type 0) (log_faults made : LedgerName) where
-  pub of_bring : (own now : Faults) (v w : ℕ) (a b : Account) (h : List Entry) (f : Fault) → FailsToBring opens log_faults made own now a b h f → FailsToBackUp opens log_faults made own now v w a b h f
-  of_bring own now v w a b h faults.VaultFault why = (why.0, inl why.1)
-  of_bring own now v w a b h faults.Memory why = why
-  of_bring own now v w a b h faults.LogFault why = why
-  of_bring own now v w a b h (faults.Ended at) why = why
-  of_bring own now v w a b h (faults.LogBad block byte) why = why
-  of_bring own now v w a b h (faults.VaultBad object byte) why = why
-  of_bring own now v w a b h _ why = absurd why
+  pub of_entry : (own : Faults) (a b : Account) (h : List Entry) (f : Fault) → FailsToEnter NoOther f → EndsBy opens log_faults made a b h f → FailsToBring opens log_faults made own own a b h f
+  of_entry own a b h faults.Memory may why = why
+  of_entry own a b h (faults.Ended at) may why = why
+  of_entry own a b h _ may why = absurd may
 
-  pub of_name : (own now : Faults) (v w : ℕ) (a b : Account) (h : List Entry) (f : Fault) → FailsToName opens log_faults made v w a b h f → FailsToBackUp opens log_faults made own now v w a b h f
-  of_name own now v w a b h faults.VaultFault why = (why.0, inr why.1)
-  of_name own now v w a b h faults.Memory why = why
-  of_name own now v w a b h faults.LogFault why = (why.1, inr why.2)
-  of_name own now v w a b h (faults.Ended at) why = why
-  of_name own now v w a b h _ why = absurd why
-
-  pub of_entry : (own now : Faults) (v w : ℕ) (a b : Account) (h : List Entry) (f : Fault) → FailsToEnter NoOther f → EndsBy opens log_faults made a b h f → FailsToBackUp opens log_faults made own now v w a b h f
-  of_entry own now v w a b h faults.Memory may why = why
-  of_entry own now v w a b h (faults.Ended at) may why = why
-  of_entry own now v w a b h _ may why = absurd may
+  -- as an object isn't made, where the pages count a fault of the vault
+  pub of_name : (own now : Faults) (v w : ℕ) (a b : Account) (h : List Entry) (f : Fault) → (f ≡ faults.VaultFault → own.vault < now.vault) → FailsToName opens log_faults made v w a b h f → FailsToBring opens log_faults made own now a b h f
+  of_name own now v w a b h faults.VaultFault counted why = (why.0, counted refl)
+  of_name own now v w a b h faults.Memory counted why = why
+  of_name own now v w a b h faults.LogFault counted why = (why.1, inr why.2)
+  of_name own now v w a b h (faults.Ended at) counted why = why
+  of_name own now v w a b h _ counted why = absurd why
 
   -- behind calls that met no end
-  pub fails_then : (own own' now : Faults) (v v' w : ℕ) (a b c : Account) (h : List Entry) (f : Fault) → MeetsNoEnd a b → Keeps a b → KeepsFaults own own' → v ≤ v' → FailsToBackUp opens log_faults made own' now v' w b c h f → FailsToBackUp opens log_faults made own now v w a c h f
-  fails_then own own' now v v' w a b c h faults.VaultFault none keeps more up why = (
-    none_then a b c none why.0,
-    elim why.1 [
-      | inl less ↦ inl (let m = more.vault in omega (arith, less, m))
-      | inr rose ↦ inr (omega (arith, up, rose))
-    ],
-  )
-  fails_then own own' now v v' w a b c h faults.Memory none keeps more up why = bring_then opens log_faults made a b c h none keeps own own' now faults.Memory more why
-  fails_then own own' now v v' w a b c h faults.LogFault none keeps more up why = bring_then opens log_faults made a b c h none keeps own own' now faults.LogFault more why
-  fails_then own own' now v v' w a b c h (faults.Ended at) none keeps more up why = bring_then opens log_faults made a b c h none keeps own own' now (faults.Ended at) more why
-  fails_then own own' now v v' w a b c h (faults.LogBad block byte) none keeps more up why = bring_then opens log_faults made a b c h none keeps own own' now (faults.LogBad block byte) more why
-  fails_then own own' now v v' w a b c h (faults.VaultBad object byte) none keeps more up why = bring_then opens log_faults made a b c h none keeps own own' now (faults.VaultBad object byte) more why
-  fails_then own own' now v v' w a b c h _ none keeps more up why = absurd why
+  pub fails_then : (own own' now : Faults) (a b c : Account) (h : List Entry) (f : Fault) → MeetsNoEnd a b → Keeps a b → KeepsFaults own own' → FailsToBring opens log_faults made own' now b c h f → FailsToBring opens log_faults made own now a c h f
+  fails_then own own' now a b c h f none keeps more why = bring_then opens log_faults made a b c h none keeps own own' now f more why
 
-  -- as an object isn't made
-  pub refused_by_name : (result : Result ℕ Fault) (own now : Faults) (v v' w : ℕ) (a b c : Account) (h : List Entry) → MeetsNoEnd a b → Keeps a b → KeepsFaults own now → v ≤ v' → IfErr result (FailsToName opens log_faults made v' w b c h) → IfErr result (FailsToBackUp opens log_faults made own now v w a c h)
-  refused_by_name (Ok x) own now v v' w a b c h none keeps more up why = tt
-  refused_by_name (Err f) own now v v' w a b c h none keeps more up why = fails_then own now now v v' w a b c h f none keeps more up (of_name now now v' w b c h f why)
+  pub refused_behind : {T : Type 0} (result : Result T Fault) (own own' now : Faults) (a b c : Account) (h : List Entry) → MeetsNoEnd a b → Keeps a b → KeepsFaults own own' → IfErr result (FailsToBring opens log_faults made own' now b c h) → IfErr result (FailsToBring opens log_faults made own now a c h)
+  refused_behind (Ok x) own own' now a b c h none keeps more why = tt
+  refused_behind (Err f) own own' now a b c h none keeps more why = fails_then own own' now a b c h f none keeps more why
 
-pub same_faults : (x : Faults) → KeepsFaults x x
-same_faults x = record { log = omega arith; vault = omega arith }
-
-pub no_end : (a b c : Account) → MeetsNoEnd a b → MeetsNoEnd b c → MeetsNoEnd a c
-no_end a b c x y = none_then a b c x y
+-- the desk is the same behind the second call
+pub desk_still : (d e f : Desk) → KeepsDesk d e → f ≡ e → KeepsDesk d f
+desk_still d e f keeps same = subst (λ (x : Desk). KeepsDesk d x) (sym same) keeps

@@ -1,9 +1,7 @@
--- What a backup enters, and why it is refused.
+-- What a backup enters.
 use Rattle.std.specs.Prelude.{◌≡◌, ◌⊎◌, ℕ, ◌<◌, ◌≤◌, List, [], ◌∷◌, is_some, Bool, ◌==◌, IsTrue, Result, Ok, Err}
 use Rattle.std.specs.List.{list_all}
-use Rattle.media.specs.Cause.{Rose}
 use Rattle.store_model.specs.declared.fault.Fault.{Fault}
-use Rattle.store_model.specs.declared.fault.Fault.TheVariants as faults
 use Rattle.wal_record.specs.Chains.{head}
 use Rattle.wal_record.specs.History.{life_log}
 use Rattle.wal_record.specs.Images.{image}
@@ -13,14 +11,10 @@ use Rattle.wal_record.specs.declared.record.Record.{Record}
 use Rattle.wal_record.specs.declared.record.Record.TheVariants as kinds
 use Rattle.wal_record.specs.declared.entry.Entry.{Entry}
 use Rattle.wal_record.specs.declared.entry.Entry.TheVariants.{Rec}
-use Rattle.page_ops.specs.Causes.{FailsToBring, MeetsNoEnd}
-use Rattle.page_ops.specs.Desks.{Faults}
 use Rattle.page_ops.specs.Gains.{Gains}
 use Rattle.page_ops.specs.Groups.{Each}
 use Rattle.page_ops.specs.Names.{LedgerName}
-use Rattle.page_ops.specs.Seeing.{Account, Known, is_upkeep}
-
--- ---- what is entered
+use Rattle.page_ops.specs.Seeing.{Known, is_upkeep}
 
 -- a segment of this backup is done, or it is the upkeep of a page that was brought
 abbrev pub is_of_backup : ℕ → Entry → Bool
@@ -77,10 +71,3 @@ pub record BeginsToBackUp (opens : List Record → Type 0) (entries sessions : L
 abbrev pub BacksUpOr : (List Record → Type 0) → LedgerName → LedgerName → Result ℕ Fault → Known → Known → Type 0
 BacksUpOr opens entries sessions (Ok backup) old new = BacksUp opens entries sessions backup old new
 BacksUpOr opens entries sessions (Err fault) old new = BeginsToBackUp opens entries sessions old new
-
--- ---- why it is refused
-
--- as a page that is brought is; or the vault failed at one of the backup's own calls, which was counted
-abbrev pub FailsToBackUp : (List Record → Type 0) → LedgerName → LedgerName → Faults → Faults → ℕ → ℕ → Account → Account → List Entry → Fault → Type 0
-FailsToBackUp opens log_faults made own own_now vault vault_now old new h faults.VaultFault = MeetsNoEnd old new × ((own.vault < own_now.vault) ⊎ Rose vault vault_now)
-FailsToBackUp opens log_faults made own own_now vault vault_now old new h fault = FailsToBring opens log_faults made own own_now old new h fault

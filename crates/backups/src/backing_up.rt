@@ -1,7 +1,7 @@
 //! A backup of all pages.
-ghost use Rattle.std.specs.Prelude.{◌≡◌, ◌+◌, ◌*◌, ◌<◌, ◌≤◌, min, List, IfErr, IfOk, IsTrue, OnOk};
+ghost use Rattle.std.specs.Prelude.{◌≡◌, ◌+◌, ◌*◌, ◌<◌, min, List, IfErr, IfOk, IsTrue, OnOk};
 ghost use Rattle.foster_tree.specs.Nows.{KeepsDesk};
-ghost use Rattle.page_ops.specs.Causes.{EndsBy, FailsToEnter, MeetsNoEnd, NoOther};
+ghost use Rattle.page_ops.specs.Causes.{EndsBy, FailsToBring, FailsToEnter, MeetsNoEnd, NoOther};
 ghost use Rattle.page_ops.specs.Claims.{no_claims};
 ghost use Rattle.page_ops.specs.Gains.{IsSettled};
 ghost use Rattle.page_ops.specs.Seeing.{Looks, known};
@@ -9,15 +9,15 @@ ghost use Rattle.wal_record.specs.History.{life_log};
 ghost use Rattle.wal_record.specs.Rules.{is_number};
 ghost use Rattle.wal_record.specs.Upkeep.{last_backup};
 ghost use Rattle.wal_record.specs.declared.record.Record.{Record};
-ghost use Rattle.backups.specs.Backups.{BacksUpOr, FailsToBackUp};
+ghost use Rattle.backups.specs.Backups.{BacksUpOr};
 ghost use Rattle.backups.specs.Copies.{AreMade};
 ghost use Rattle.backups.specs.Going.{HasBackedUpOr, MayGoOn};
 
+use crate::backed_pages::BackedPages;
 use crate::copying::copy_segment;
 use backup_set::segment_bytes;
 use front::Pass;
-use named_objects::{Objects, name_object};
-use page_ops::{Journaling, Life, Pages};
+use page_ops::{Journaling, Life};
 use std::alloc::Global;
 use std::sync::Wait;
 use store_model::{Fault, HIGHEST, Lsn, SEGMENT_PAGES};
@@ -46,12 +46,11 @@ fn next_backup<N: Life, J: Journaling<N>, R: Wait>(
 }
 
 /// Backs up the next segment: copies its pages, and makes the object of these copies. Gives the LSN of the record that names it.
-fn back_up_segment<N: Life, J: Journaling<N>, P: Pages<N, J>, O: Objects<N>, R: Wait>(
+fn back_up_segment<N: Life, J: Journaling<N>, P: BackedPages<N, J>, R: Wait>(
     rt: &R,
     alloc: Global,
     pages: &mut P,
     journal: &mut J,
-    objects: &mut O,
     backup: u64,
     segment: u32,
     most: u32,
@@ -67,26 +66,24 @@ fn back_up_segment<N: Life, J: Journaling<N>, P: Pages<N, J>, O: Objects<N>, R: 
     ensures next { IfOk result (λ lsn. MayGoOn N.opens lsn backup (segment + 1) pass.new.log) }
     ensures none { (P.desk pages.new).out ≡ 0 }
     ensures desk { KeepsDesk (P.desk pages.old) (P.desk pages.new) }
-    ensures faults { O.faults objects.old ≤ O.faults objects.new }
     ensures open { OnOk result (MeetsNoEnd (J.account journal.old) (J.account journal.new)) }
-    ensures refused { IfErr result (FailsToBackUp N.opens N.log_faults N.made (P.desk pages.old).faults (P.desk pages.new).faults (O.faults objects.old) (O.faults objects.new) (J.account journal.old) (J.account journal.new) pass.new.log) }
+    ensures refused { IfErr result (FailsToBring N.opens N.log_faults N.made (P.desk pages.old).faults (P.desk pages.new).faults (J.account journal.old) (J.account journal.new) pass.new.log) }
 {
     let copies = copy_segment(rt, alloc, pages, journal, segment, most, pass)?;
-    if objects.last_named(rt, journal, pass) != since {
+    if pages.last_named(rt, journal, pass) != since {
         return Err(Fault::Memory);
     }
     let bytes = segment_bytes(alloc, backup, segment, copies.images())?;
     let naming = copies.into_naming(backup, segment);
-    name_object(rt, alloc, journal, objects, since, naming, &bytes, pass)
+    pages.name_object(rt, alloc, journal, since, naming, &bytes, pass)
 }
 
 /// Backs up one segment after the other, up to the one that has the last of so many pages.
-fn back_up_all<N: Life, J: Journaling<N>, P: Pages<N, J>, O: Objects<N>, R: Wait>(
+fn back_up_all<N: Life, J: Journaling<N>, P: BackedPages<N, J>, R: Wait>(
     rt: &R,
     alloc: Global,
     pages: &mut P,
     journal: &mut J,
-    objects: &mut O,
     backup: u64,
     most: u32,
     since: Lsn,
@@ -100,14 +97,13 @@ fn back_up_all<N: Life, J: Journaling<N>, P: Pages<N, J>, O: Objects<N>, R: Wait
     ensures entered { HasBackedUpOr N.opens N.entries N.session_entries backup 0 most result (known (J.account journal.old) pass.old no_claims) (known (J.account journal.new) pass.new no_claims) }
     ensures none { (P.desk pages.new).out ≡ 0 }
     ensures desk { KeepsDesk (P.desk pages.old) (P.desk pages.new) }
-    ensures faults { O.faults objects.old ≤ O.faults objects.new }
     ensures open { OnOk result (MeetsNoEnd (J.account journal.old) (J.account journal.new)) }
-    ensures refused { IfErr result (FailsToBackUp N.opens N.log_faults N.made (P.desk pages.old).faults (P.desk pages.new).faults (O.faults objects.old) (O.faults objects.new) (J.account journal.old) (J.account journal.new) pass.new.log) }
+    ensures refused { IfErr result (FailsToBring N.opens N.log_faults N.made (P.desk pages.old).faults (P.desk pages.new).faults (J.account journal.old) (J.account journal.new) pass.new.log) }
 {
     let mut since = since;
     for segment in 0..most.div_ceil(SEGMENT_PAGES) {
         since = back_up_segment(
-            rt, alloc, pages, journal, objects, backup, segment, most, since, pass,
+            rt, alloc, pages, journal, backup, segment, most, since, pass,
         )?;
     }
     Ok(())
@@ -116,27 +112,25 @@ fn back_up_all<N: Life, J: Journaling<N>, P: Pages<N, J>, O: Objects<N>, R: Wait
 /// Makes a backup of all pages: of one segment after the other the images that its pages have then, each segment an object of
 /// the vault. Gives the number of the backup. Pages are brought into frames where they aren't in memory. Where somebody else
 /// makes an object meanwhile, it wants memory.
-pub fn backup<N: Life, J: Journaling<N>, P: Pages<N, J>, O: Objects<N>, R: Wait>(
+pub fn backup<N: Life, J: Journaling<N>, P: BackedPages<N, J>, R: Wait>(
     rt: &R,
     alloc: Global,
     pages: &mut P,
     journal: &mut J,
-    objects: &mut O,
     pass: &mut Pass<Entry, N>,
 ) -> Result<u64, Fault>
     requires none { (P.desk pages.old).out ≡ 0 }
     ensures entered { BacksUpOr N.opens N.entries N.session_entries result (known (J.account journal.old) pass.old no_claims) (known (J.account journal.new) pass.new no_claims) }
     ensures none { (P.desk pages.new).out ≡ 0 }
     ensures desk { KeepsDesk (P.desk pages.old) (P.desk pages.new) }
-    ensures faults { O.faults objects.old ≤ O.faults objects.new }
     ensures open { OnOk result (MeetsNoEnd (J.account journal.old) (J.account journal.new)) }
-    ensures refused { IfErr result (FailsToBackUp N.opens N.log_faults N.made (P.desk pages.old).faults (P.desk pages.new).faults (O.faults objects.old) (O.faults objects.new) (J.account journal.old) (J.account journal.new) pass.new.log) }
+    ensures refused { IfErr result (FailsToBring N.opens N.log_faults N.made (P.desk pages.old).faults (P.desk pages.new).faults (J.account journal.old) (J.account journal.new) pass.new.log) }
 {
-    let since = objects.last_named(rt, journal, pass);
+    let since = pages.last_named(rt, journal, pass);
     let backup = next_backup(rt, alloc, journal, pass)?;
     let most = journal.pages(rt, pass);
     back_up_all(
-        rt, alloc, pages, journal, objects, backup, most, since, pass,
+        rt, alloc, pages, journal, backup, most, since, pass,
     )?;
     Ok(backup)
 }

@@ -11,10 +11,16 @@
 //! The call enters nothing else but what the upkeep of pages enters. What stands in the objects is the objects' own promise
 //! (`named_objects`). After a refusal the segments that are done stay named, under a number that no backup had before, too; no
 //! page is in hand and no frame more is reserved. Each refusal has its cause (`refused`, `open`).
+//!
+//! The pages and the vault come as one object ([`BackedPages`]), since a pool's supply owns the vault that its repairs and
+//! restores read: so it is with the pool of one thread over a log's supply (`buffer_pool`, `segment_restore`, `vault_bases`).
 #![tactic(auto)]
 
+mod backed_pages;
+mod backed_pool;
 mod backing_up;
 mod copies;
 mod copying;
 
+pub use backed_pages::BackedPages;
 pub use backing_up::backup;

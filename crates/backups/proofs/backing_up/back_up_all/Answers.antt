@@ -14,7 +14,6 @@ loop-segment-init g c = record {
   entered = none_backed g.N.Life.opens g.N.Life.entries g.N.Life.session_entries c.args.backup c.args.most (g.J.Entering.account c.args.journal.now) c.args.pass.now c.requires.seen;
   next = c.requires.next;
   desk = desk_same _;
-  faults = omega arith;
   calm = none_met _;
 }
 
@@ -38,9 +37,9 @@ returns-in_err-since-clause-refused g c =
     let p = err_from_is_err_and c.from_residual.result c.from_residual.ensures.1 in
     let here = c.loop-segment.invariant in
     rw (p.1, p.2)
-    (fails_then g.N.Life.opens g.N.Life.log_faults g.N.Life.made (g.P.Pages.desk c.args.pages.now).faults (g.P.Pages.desk c.loop-segment.pages).faults (g.P.Pages.desk c.back_up_segment.new.pages).faults (g.O.Objects.faults c.args.objects.now) (g.O.Objects.faults c.loop-segment.objects) (g.O.Objects.faults c.back_up_segment.new.objects)
+    (fails_then g.N.Life.opens g.N.Life.log_faults g.N.Life.made (g.P.Pages.desk c.args.pages.now).faults (g.P.Pages.desk c.loop-segment.pages).faults (g.P.Pages.desk c.back_up_segment.new.pages).faults
     (g.J.Entering.account c.args.journal.now) (g.J.Entering.account c.loop-segment.journal) (g.J.Entering.account c.back_up_segment.new.journal) c.back_up_segment.new.pass.log _
-    here.calm here.entered.adds.gains.keeps here.desk.faults here.faults c.in_err-since.ensures.refused)
+    here.calm here.entered.adds.gains.keeps here.desk.faults c.in_err-since.ensures.refused)
 
 pub loop-segment-preserved : goal.loop-segment-preserved
 loop-segment-preserved g c =
@@ -54,6 +53,5 @@ loop-segment-preserved g c =
       entered = turn_done g.N.Life.opens g.N.Life.entries g.N.Life.session_entries c.args.backup c.loop-segment.segment c.args.most first before behind some here.entered c.in_ok-since.ensures.entered;
       next = c.in_ok-since.ensures.next;
       desk = desk_then _ _ _ here.desk c.back_up_segment.ensures.desk;
-      faults = omega (arith, here.faults, c.back_up_segment.ensures.faults);
       calm = none_then _ _ _ here.calm c.in_ok-since.ensures.open;
     }

@@ -1,4 +1,4 @@
-use Rattle.std.proofs.Common.{◌≡◌, ◌≤◌, ◌*◌}
+use Rattle.std.proofs.Common.{◌≡◌, ◌*◌}
 use Rattle.std.specs.Prelude.{min}
 use Rattle.foster_tree.specs.Nows.{KeepsDesk}
 use Rattle.page_ops.specs.Causes.{MeetsNoEnd}
@@ -13,6 +13,5 @@ invariant-loop-segment g l = record {
   entered : HasBackedUp g.N.Life.opens g.N.Life.entries g.N.Life.session_entries l.fn.pass.log l.backup 0 (min l.most (16 * l.segment)) (known (g.J.Entering.account l.fn.journal) l.fn.pass no_claims) (known (g.J.Entering.account l.journal) l.pass no_claims);
   next : MayGoOn g.N.Life.opens l.since l.backup l.segment l.pass.log;
   desk : KeepsDesk (g.P.Pages.desk l.fn.pages) (g.P.Pages.desk l.pages);
-  faults : g.O.Objects.faults l.fn.objects ≤ g.O.Objects.faults l.objects;
   calm : MeetsNoEnd (g.J.Entering.account l.fn.journal) (g.J.Entering.account l.journal);
 }

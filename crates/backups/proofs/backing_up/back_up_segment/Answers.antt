@@ -4,6 +4,7 @@ use Rattle.std.proofs.lemmas.Bool.Decides.{nat_tests}
 use Rattle.std.proofs.lemmas.Result.{err_from_is_err_and}
 use Rattle.front.proofs.Keeping.{prefix_trans}
 use Rattle.foster_tree.proofs.Causing.{none_then}
+use Rattle.foster_tree.proofs.Desks.{desk_then}
 use Rattle.page_ops.proofs.Gaining.{keeps_then}
 use Rattle.wal_record.specs.Books.{maintenance_book}
 use Rattle.wal_record.specs.History.{life_log}
@@ -16,7 +17,7 @@ use Rattle.backup_set.specs.Backup.{object_bytes}
 use Rattle.named_objects.specs.Drafts.{NamesOne, WasNamed}
 use Rattle.named_objects.specs.Named.{Tells, record_of}
 use Rattle.named_objects.specs.declared.naming.Naming.{Naming}
-use Rattle.backups.proofs.Adding.{refused_early, refused_first, refused_by_name, segment_or}
+use Rattle.backups.proofs.Adding.{desk_still, refused_behind, refused_early, refused_first, segment_or}
 use Rattle.backups.proofs.Suiting.{spelled, suits, tells}
 use Rattle.backups.proofs.Turning.{goes_on, next_or}
 use Rattle.backups.proofs.backing_up.back_up_segment.Goals as goal
@@ -82,12 +83,14 @@ returns-clause-next g c =
     (subst (λ (n : Naming). NamesOne g.N.Life.opens g.N.Life.entries g.N.Life.session_entries n c.name_object.result (known now c.last_named.new.pass no_claims) (known behind c.name_object.new.pass no_claims)) c.into_naming-naming.ensures c.name_object.ensures.entered)
     (subst (λ (n : Naming). IfOk c.name_object.result (λ lsn. WasNamed c.args.since lsn n c.last_named.new.pass.log c.name_object.new.pass.log)) c.into_naming-naming.ensures c.name_object.ensures.named)
 
+pub returns-clause-desk : goal.returns-clause-desk
+returns-clause-desk g c = desk_then _ _ _ (desk_still _ _ _ c.copy_segment.ensures.desk c.last_named.ensures.desk) c.name_object.ensures.desk
+
 pub returns-clause-refused : goal.returns-clause-refused
 returns-clause-refused g c =
-    refused_by_name g.N.Life.opens g.N.Life.log_faults g.N.Life.made c.name_object.result (g.P.Pages.desk c.args.pages.now).faults (g.P.Pages.desk c.copy_segment.new.pages).faults (g.O.Objects.faults c.args.objects.now) (g.O.Objects.faults c.last_named.new.self) (g.O.Objects.faults c.name_object.new.objects)
+    refused_behind g.N.Life.opens g.N.Life.log_faults g.N.Life.made c.name_object.result (g.P.Pages.desk c.args.pages.now).faults (g.P.Pages.desk c.last_named.new.self).faults (g.P.Pages.desk c.name_object.new.self).faults
     (g.J.Entering.account c.args.journal.now) (g.J.Entering.account c.last_named.new.journal) (g.J.Entering.account c.name_object.new.journal) c.name_object.new.pass.log
     (none_then _ _ _ c.in_ok-copies.ensures.open c.last_named.ensures.calm.end)
     (keeps_then _ _ _ c.copy_segment.ensures.goes.keeps c.last_named.ensures.seen.keeps)
-    c.copy_segment.ensures.desk.faults
-    (omega (arith, c.last_named.ensures.faults))
+    (desk_still _ _ _ c.copy_segment.ensures.desk c.last_named.ensures.desk).faults
     c.name_object.ensures.refused

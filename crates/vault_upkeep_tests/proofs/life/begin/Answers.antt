@@ -1,0 +1,21 @@
+use Rattle.std.proofs.Common.{◌≡◌, [], ap, sym, ◌∙◌, inr}
+use Rattle.books.specs.Rights.{MaintClaim, maint_claim}
+use Rattle.front.specs.Seen.{PassSeen}
+use Rattle.wal_record.specs.Books.{maintenance_book}
+use Rattle.wal_record.specs.declared.entry.Entry.{Entry}
+use Rattle.vault_upkeep_tests.proofs.Opened.{none_named, opened}
+use Rattle.vault_upkeep_tests.proofs.life.begin.Goals as goal
+
+pub new-objects-requires-clause-right : goal.new-objects-requires-clause-right
+new-objects-requires-clause-right g c =
+    let begun : c.copy.result.log ≡ [] = ap (λ (p : PassSeen Entry). p.log) c.copy.ensures.copy ∙ c.requires.pass in
+    ap (λ (m : MaintClaim). m.lsn) (c.of-right.ensures ∙ ap maint_claim c.open.ensures.right) ∙ sym none_named ∙ ap maintenance_book (sym begun)
+
+pub new-objects-requires-clause-told : goal.new-objects-requires-clause-told
+new-objects-requires-clause-told g c = inr c.requires.untold
+
+pub new-objects-requires-clause-named : goal.new-objects-requires-clause-named
+new-objects-requires-clause-named g c = λ t opening name bytes stands is. absurd (c.requires.untold opening stands)
+
+pub plant_beside-journal-requires-clause-maint : goal.plant_beside-journal-requires-clause-maint
+plant_beside-journal-requires-clause-maint g c = opened _ _ c.requires.maint c.open.ensures.book
