@@ -31,21 +31,22 @@ use Rattle.engine.specs.Beside.{IsInWay}
 use Rattle.engine.specs.Requests.{lock_of}
 use Rattle.store_life.specs.Steps.{IsStep}
 use Rattle.store_life.specs.Turns.{IsOfAbort, WasInWay}
+use Rattle.own_life.specs.Backed.{AddsBackup, AddsRuns, IsArchived, IsWhole}
 use Rattle.own_life.specs.Helps.{AddsSteps, Helps, takes_back}
 use Rattle.own_life.specs.State.{BreaksOff, CallsGoOn, GoesOn, LifeState}
 use Rattle.script.specs.declared.command.Command.{Command}
 use Rattle.script.specs.declared.command.Command.TheVariants as commands
 use Rattle.script.specs.declared.command.Device.TheVariants.{Log}
-use Rattle.transcript.specs.Lines.{ended_line, failed_line, refused_line, stat_line, upkeep_line}
+use Rattle.transcript.specs.Lines.{archive_line, ended_line, failed_line, refused_line, stat_line, upkeep_line}
 use Rattle.transcript.specs.declared.upkeep.Stat.{Stat}
 use Rattle.transcript.specs.declared.upkeep.Upkeep.TheVariants as upkeeps
-use Rattle.life_commands.specs.Figures.{IsHelped, IsStat}
+use Rattle.life_commands.specs.Figures.{AllArchived, IsBackedUp, IsHelped, IsStat}
 use Rattle.life_commands.specs.LogDisk.{Keeps}
 use Rattle.life_commands.specs.Living.{Adds, IsArmed, IsDiskOf, Within}
 use Rattle.life_commands.specs.Refusals.{CutAt, IsNotBuilt, LeftAs, RefusesAt}
 use Rattle.life_commands.specs.Rows.{Calls as CallsDevice, FitsAt, IsBeside, IsCutOff, IsEnd, IsInWayOf, IsLoserIn, IsNoClose, IsOfLife, IsOwn, MayEnter, WroteInRoom, is_lawful, no_life}
 use Rattle.life_commands.specs.Text.{answer_lines, head}
-use Rattle.life_commands.specs.Turns.{turn, Turn, Life, Fuses, with_entries, Stage, Done, TooMany, LogFault, Ended, Cut, Numbered, Counted, history_of, lives, lives_of, last_after, IsRightLife, close_over, done, failed_stage, last_turn, stage_step, longer, log_of_life}
+use Rattle.life_commands.specs.Turns.{turn, Turn, Life, Fuses, with_entries, Stage, Done, TooMany, LogFault, Ended, Cut, Numbered, Counted, Made, history_of, lives, lives_of, last_after, IsRightLife, close_over, done, failed_stage, last_turn, stage_step, longer, log_of_life}
 use Rattle.life_commands.specs.declared.status.Status.TheVariants as statuses
 use Rattle.life_commands.proofs.Entered.{all_map, all_taken, among_last, among_map, beside_map, answer_own, enters_among, enters_own, room_declined, step_map, undoes}
 use Rattle.life_commands.proofs.Lives.{has_life, life_keeps, right_more}
@@ -66,6 +67,8 @@ failed_is s (commands.Ask name request) es at kind calls = refl
 failed_is s (commands.Commit name) es at kind calls = refl
 failed_is s (commands.Abort name) es at kind calls = refl
 failed_is s commands.Checkpoint es at kind calls = refl
+failed_is s commands.Backup es at kind calls = refl
+failed_is s commands.Archive es at kind calls = refl
 failed_is s commands.Lose es at kind calls = refl
 failed_is s (commands.Help steps) es at kind calls = refl
 failed_is s commands.Close es at kind calls = refl
@@ -445,6 +448,57 @@ module _ {D : Type 0} (L : Ghosts D) (opens : List Record → Type 0) (x : LifeS
           holds = next y taken grew right (stage_step s t) refl refl (h.active ∙ sym active) (goes_on none ∙ sym goes.ended) refl refl (armed_next L.fuses ⊥ x.calls y.calls s.armed.log goes.calls h.fused);
           lines = text;
         }
+
+  -- ---- backups
+
+  module _ (none : x.ended ≡ None) (backup : ℕ) (y : LifeState) (k : AddsBackup backup x.history y.history) where
+    backup_enters : MayEnter L.tells s commands.Backup k.own
+    backup_enters = enters_own L.tells s commands.Backup k.own tt (backup, k.each)
+
+    pub backup_cut : IsCutOff L.tells s commands.Backup k.own
+    backup_cut = record { goes = goes_on none; rest = []; enters = subst (MayEnter L.tells s commands.Backup) (sym (append-nil k.own)) backup_enters; part = tt }
+
+    pub did_backup : ((opening : List Record) → opens opening → IsWhole backup opening x.history k.own) → ((opening : List Record) → opens opening → IsRight opening y.history) → GoesOn x y → y.active ≡ x.active → (out : List ℕ) → out ≡ upkeep_line upkeeps.Backup → Adds L.tells (In y) s commands.Backup out
+    did_backup whole right goes active out text =
+        let t : Turn = turn commands.Backup k.own Done in
+        let all : L.tells → IsBackedUp s.life k.own = λ u. subst (λ (o : Option Life). IsBackedUp o k.own) (sym h.life) (backup, subst (λ (l : List Entry). IsWhole backup h.here.opening l k.own) (sym h.history) (whole h.here.opening (h.begins u))) in
+        record {
+          turn = t;
+          is = refl;
+          fits = record { goes = h.goes; lawful = may_look; row = (goes_on none, backup_enters, all) };
+          holds = next y k.own k.added right (stage_step s t) refl refl (h.active ∙ sym active) (goes_on none ∙ sym goes.ended) refl refl (armed_next L.fuses ⊥ x.calls y.calls s.armed.log goes.calls h.fused);
+          lines = text;
+        }
+
+  -- ---- archive runs
+
+  module _ (none : x.ended ≡ None) (y : LifeState) (k : AddsRuns x.history y.history) where
+    archive_enters : MayEnter L.tells s commands.Archive k.own
+    archive_enters = enters_own L.tells s commands.Archive k.own tt k.each
+
+    pub archive_cut : IsCutOff L.tells s commands.Archive k.own
+    archive_cut = record { goes = goes_on none; rest = []; enters = subst (MayEnter L.tells s commands.Archive) (sym (append-nil k.own)) archive_enters; part = tt }
+
+    module _ (count : ℕ) (counted : count ≡ length k.own) (done_all : (opening : List Record) → opens opening → IsArchived opening x.history y.history k.own) where
+      archive_fits : FitsAt L.tells s (done commands.Archive k.own (Made count))
+      archive_fits =
+          let all : L.tells → AllArchived s.life k.own = λ u. subst (λ (o : Option Life). AllArchived o k.own) (sym h.life) (subst (λ (l : List Entry). IsArchived h.here.opening l (l ++ k.own) k.own) (sym h.history) (subst (λ (l : List Entry). IsArchived h.here.opening x.history l k.own) k.added (done_all h.here.opening (h.begins u)))) in
+          record { goes = h.goes; lawful = may_look; row = (goes_on none, archive_enters, (count, refl, counted, all)) }
+
+      pub did_archive : ((opening : List Record) → opens opening → IsRight opening y.history) → GoesOn x y → y.active ≡ x.active → (out : List ℕ) → out ≡ archive_line count → Adds L.tells (In y) s commands.Archive out
+      did_archive right goes active out text =
+          let t : Turn = done commands.Archive k.own (Made count) in
+          record {
+            turn = t;
+            is = refl;
+            fits = archive_fits;
+            holds = next y k.own k.added right (stage_step s t) refl refl (h.active ∙ sym active) (goes_on none ∙ sym goes.ended) refl refl (armed_next L.fuses ⊥ x.calls y.calls s.armed.log goes.calls h.fused);
+            lines = text;
+          }
+
+      -- its line wants memory
+      pub archive_lacks : ((opening : List Record) → opens opening → IsRight opening y.history) → (kept : ℕ) (disk : D) → IsDiskOf L opens y kept disk → (line : ℕ) → RefusesAt L kept disk opens y.history s commands.Archive line statuses.Memory
+      archive_lacks right kept disk of line = lacks_lines y k.own k.added right commands.Archive tt (done commands.Archive k.own (Made count)) refl archive_fits refl refl kept disk of line
 
   -- ---- losses of the data device
 

@@ -29,6 +29,7 @@ use Rattle.command_laws.specs.Commands.{Among, Amid, IsUpkeep, commit_record}
 use Rattle.command_laws.specs.Names.{Active, active_of, is_active, without}
 use Rattle.maintenance.specs.Steps.{AreAllOver}
 use Rattle.rollback.specs.Owners.{IsLoserOf}
+use Rattle.own_life.specs.Backed.{AddsBackup, AddsRuns, IsArchived, IsWhole}
 use Rattle.own_life.specs.Helps.{AddsSteps, Helps}
 use Rattle.store_life.specs.Turns.{EndsBy, HasMark, IsCheckpointed, IsLost}
 use Rattle.own_life.specs.State.{BeginsAs, BreaksOff, Fails, FailsOver, FailsToFlush, GoesOn, IsCommitted, LifeState}
@@ -36,7 +37,7 @@ use Rattle.script.specs.declared.command.Command.{Command}
 use Rattle.script.specs.declared.command.Command.TheVariants as commands
 use Rattle.script.specs.declared.command.Device.{Device}
 use Rattle.script.specs.declared.command.Device.TheVariants.{Log, Data, Vault}
-use Rattle.transcript.specs.Lines.{device_text, ended_line, failed_line, refused_line, stat_line, upkeep_line}
+use Rattle.transcript.specs.Lines.{archive_line, device_text, ended_line, failed_line, refused_line, stat_line, upkeep_line}
 use Rattle.transcript.specs.declared.upkeep.Upkeep.TheVariants as upkeeps
 use Rattle.life_commands.specs.Faults.{FailsAs, counts_of}
 use Rattle.life_commands.specs.Figures.{IsStat, stat_of}
@@ -190,6 +191,24 @@ module _ {D : Type 0} (L : Ghosts D) (opens : List Record → Type 0) (x y : Lif
     checkpoint_ends before now faults.LogFault entered p status says line = ends_run L opens x y active right commands.Checkpoint tt refl (checkpoint_cut entered.0 entered.1) 0 0 before now faults.LogFault p status says line
     checkpoint_ends before now _ entered p status says line = absurd p
 
+  -- ---- backups and archive runs
+
+  module _ (right : (opening : List Record) → opens opening → IsRight opening y.history) where
+    pub backs_up_line : (backup : ℕ) (k : AddsBackup backup x.history y.history) → ((opening : List Record) → opens opening → IsWhole backup opening x.history k.own) → GoesOn x y → (out : List ℕ) → out ≡ upkeep_line upkeeps.Backup → Did L opens x y commands.Backup out
+    backs_up_line backup k whole goes out text = λ v s h. c.did_backup (seen L v) opens x s h none backup y k whole right goes active out text
+
+    pub backup_cut : (backup : ℕ) → AddsBackup backup x.history y.history → (v : View L.tells) (s : Stage) → Within (seen L v) opens x s → IsCut (seen L v) y x s commands.Backup
+    backup_cut backup k v s h = record { entries = k.own; added = k.added; lawful = c.may_look (seen L v) opens x s h; off = c.backup_cut (seen L v) opens x s h none backup y k }
+
+    pub archives_line : (count : ℕ) (k : AddsRuns x.history y.history) → count ≡ length k.own → ((opening : List Record) → opens opening → IsArchived opening x.history y.history k.own) → GoesOn x y → (out : List ℕ) → out ≡ archive_line count → Did L opens x y commands.Archive out
+    archives_line count k counted all goes out text = λ v s h. c.did_archive (seen L v) opens x s h none y k count counted all right goes active out text
+
+    pub archive_lacks : (count : ℕ) (k : AddsRuns x.history y.history) → count ≡ length k.own → ((opening : List Record) → opens opening → IsArchived opening x.history y.history k.own) → (line : ℕ) → Refused L opens x y commands.Archive line statuses.Memory
+    archive_lacks count k counted all line = λ v s h kept disk of. c.archive_lacks (seen L v) opens x s h none y k count counted all right kept disk (disk_seen L v opens y kept disk of) line
+
+    pub archive_cut : AddsRuns x.history y.history → (v : View L.tells) (s : Stage) → Within (seen L v) opens x s → IsCut (seen L v) y x s commands.Archive
+    archive_cut k v s h = record { entries = k.own; added = k.added; lawful = c.may_look (seen L v) opens x s h; off = c.archive_cut (seen L v) opens x s h none y k }
+
   -- ---- losses of the data device
 
   module _ (right : (opening : List Record) → opens opening → IsRight opening y.history) where
@@ -306,24 +325,26 @@ module _ {D : Type 0} (L : Ghosts D) (opens : List Record → Type 0) (x : LifeS
 -- ---- what is no command of a life
 
 pub other_lawful : (s : Stage) → no_life s.life ≡ false → (c : Command) → (c ≡ commands.Nothing → ⊥) → ((x : List ℕ) → c ≡ commands.Begin x → ⊥) → ((x : List ℕ) (r : Request) → c ≡ commands.Ask x r → ⊥) → ((x : List ℕ) → c ≡ commands.Commit x → ⊥)
-    → ((x : List ℕ) → c ≡ commands.Abort x → ⊥) → (c ≡ commands.Checkpoint → ⊥) → (c ≡ commands.Lose → ⊥) → ((n : ℕ) → c ≡ commands.Help n → ⊥) → (c ≡ commands.Stat → ⊥) → ((p : ℕ) → c ≡ commands.Damage p → ⊥) → ((d : Device) (n : ℕ) → c ≡ commands.Fuse d n → ⊥) → ((d : Device) → c ≡ commands.Renew d → ⊥) → IsNoStop c → IsNoClose c → is_lawful s c ≡ false
-other_lawful s living commands.Nothing nothing begins asks commit abort checkpoint lose help stat damage fuse renew stop close = absurd (nothing refl)
-other_lawful s living (commands.Format limit) nothing begins asks commit abort checkpoint lose help stat damage fuse renew stop close = rw (living) refl
-other_lawful s living commands.Open nothing begins asks commit abort checkpoint lose help stat damage fuse renew stop close = living
-other_lawful s living (commands.Begin x) nothing begins asks commit abort checkpoint lose help stat damage fuse renew stop close = absurd (begins x refl)
-other_lawful s living (commands.Ask x r) nothing begins asks commit abort checkpoint lose help stat damage fuse renew stop close = absurd (asks x r refl)
-other_lawful s living (commands.Commit x) nothing begins asks commit abort checkpoint lose help stat damage fuse renew stop close = absurd (commit x refl)
-other_lawful s living (commands.Abort x) nothing begins asks commit abort checkpoint lose help stat damage fuse renew stop close = absurd (abort x refl)
-other_lawful s living commands.Checkpoint nothing begins asks commit abort checkpoint lose help stat damage fuse renew stop close = absurd (checkpoint refl)
-other_lawful s living commands.Lose nothing begins asks commit abort checkpoint lose help stat damage fuse renew stop close = absurd (lose refl)
-other_lawful s living (commands.Help n) nothing begins asks commit abort checkpoint lose help stat damage fuse renew stop close = absurd (help n refl)
-other_lawful s living commands.Stat nothing begins asks commit abort checkpoint lose help stat damage fuse renew stop close = absurd (stat refl)
-other_lawful s living (commands.Damage p) nothing begins asks commit abort checkpoint lose help stat damage fuse renew stop close = absurd (damage p refl)
-other_lawful s living commands.Close nothing begins asks commit abort checkpoint lose help stat damage fuse renew stop close = absurd close
-other_lawful s living (commands.Stop keep) nothing begins asks commit abort checkpoint lose help stat damage fuse renew stop close = absurd stop
-other_lawful s living (commands.Fuse d n) nothing begins asks commit abort checkpoint lose help stat damage fuse renew stop close = absurd (fuse d n refl)
-other_lawful s living (commands.Renew d) nothing begins asks commit abort checkpoint lose help stat damage fuse renew stop close = absurd (renew d refl)
-other_lawful s living _ nothing begins asks commit abort checkpoint lose help stat damage fuse renew stop close = refl
+    → ((x : List ℕ) → c ≡ commands.Abort x → ⊥) → (c ≡ commands.Checkpoint → ⊥) → (c ≡ commands.Backup → ⊥) → (c ≡ commands.Archive → ⊥) → (c ≡ commands.Lose → ⊥) → ((n : ℕ) → c ≡ commands.Help n → ⊥) → (c ≡ commands.Stat → ⊥) → ((p : ℕ) → c ≡ commands.Damage p → ⊥) → ((d : Device) (n : ℕ) → c ≡ commands.Fuse d n → ⊥) → ((d : Device) → c ≡ commands.Renew d → ⊥) → IsNoStop c → IsNoClose c → is_lawful s c ≡ false
+other_lawful s living commands.Nothing nothing begins asks commit abort checkpoint backup archive lose help stat damage fuse renew stop close = absurd (nothing refl)
+other_lawful s living (commands.Format limit) nothing begins asks commit abort checkpoint backup archive lose help stat damage fuse renew stop close = rw (living) refl
+other_lawful s living commands.Open nothing begins asks commit abort checkpoint backup archive lose help stat damage fuse renew stop close = living
+other_lawful s living (commands.Begin x) nothing begins asks commit abort checkpoint backup archive lose help stat damage fuse renew stop close = absurd (begins x refl)
+other_lawful s living (commands.Ask x r) nothing begins asks commit abort checkpoint backup archive lose help stat damage fuse renew stop close = absurd (asks x r refl)
+other_lawful s living (commands.Commit x) nothing begins asks commit abort checkpoint backup archive lose help stat damage fuse renew stop close = absurd (commit x refl)
+other_lawful s living (commands.Abort x) nothing begins asks commit abort checkpoint backup archive lose help stat damage fuse renew stop close = absurd (abort x refl)
+other_lawful s living commands.Checkpoint nothing begins asks commit abort checkpoint backup archive lose help stat damage fuse renew stop close = absurd (checkpoint refl)
+other_lawful s living commands.Backup nothing begins asks commit abort checkpoint backup archive lose help stat damage fuse renew stop close = absurd (backup refl)
+other_lawful s living commands.Archive nothing begins asks commit abort checkpoint backup archive lose help stat damage fuse renew stop close = absurd (archive refl)
+other_lawful s living commands.Lose nothing begins asks commit abort checkpoint backup archive lose help stat damage fuse renew stop close = absurd (lose refl)
+other_lawful s living (commands.Help n) nothing begins asks commit abort checkpoint backup archive lose help stat damage fuse renew stop close = absurd (help n refl)
+other_lawful s living commands.Stat nothing begins asks commit abort checkpoint backup archive lose help stat damage fuse renew stop close = absurd (stat refl)
+other_lawful s living (commands.Damage p) nothing begins asks commit abort checkpoint backup archive lose help stat damage fuse renew stop close = absurd (damage p refl)
+other_lawful s living commands.Close nothing begins asks commit abort checkpoint backup archive lose help stat damage fuse renew stop close = absurd close
+other_lawful s living (commands.Stop keep) nothing begins asks commit abort checkpoint backup archive lose help stat damage fuse renew stop close = absurd stop
+other_lawful s living (commands.Fuse d n) nothing begins asks commit abort checkpoint backup archive lose help stat damage fuse renew stop close = absurd (fuse d n refl)
+other_lawful s living (commands.Renew d) nothing begins asks commit abort checkpoint backup archive lose help stat damage fuse renew stop close = absurd (renew d refl)
+other_lawful s living _ nothing begins asks commit abort checkpoint backup archive lose help stat damage fuse renew stop close = refl
 
 pub in_life : {D : Type 0} (L : Ghosts D) (opens : List Record → Type 0) (x : LifeState) (v : View L.tells) (s : Stage) → Within (seen L v) opens x s → no_life s.life ≡ false
 in_life L opens x v s h = c.living (seen L v) opens x s h

@@ -19,6 +19,7 @@ use Rattle.command_laws.specs.Names.{Active, active_of, is_active}
 use Rattle.engine.specs.Answers.{HadRoom}
 use Rattle.engine.specs.Beside.{IsInWay}
 use Rattle.engine.specs.Requests.{lock_of}
+use Rattle.own_life.specs.Backed.{IsOfBackup, IsRunEntry}
 use Rattle.own_life.specs.Helps.{AreOfHelp}
 use Rattle.own_life.specs.Pages.{IsWrittenEntry}
 use Rattle.script.specs.declared.command.Device.{Device}
@@ -47,8 +48,8 @@ is_lawful s (commands.Ask name request) = is_active s.active name
 is_lawful s (commands.Commit name) = is_active s.active name
 is_lawful s (commands.Abort name) = is_active s.active name
 is_lawful s commands.Checkpoint = not (no_life s.life)
-is_lawful s commands.Backup = false
-is_lawful s commands.Archive = false
+is_lawful s commands.Backup = not (no_life s.life)
+is_lawful s commands.Archive = not (no_life s.life)
 is_lawful s commands.Merge = false
 is_lawful s commands.Recycle = false
 is_lawful s commands.Lose = not (no_life s.life)
@@ -83,8 +84,8 @@ IsOfLife (commands.Ask name request) = Unit {0}
 IsOfLife (commands.Commit name) = Unit {0}
 IsOfLife (commands.Abort name) = Unit {0}
 IsOfLife commands.Checkpoint = Unit {0}
-IsOfLife commands.Backup = ⊥
-IsOfLife commands.Archive = ⊥
+IsOfLife commands.Backup = Unit {0}
+IsOfLife commands.Archive = Unit {0}
 IsOfLife commands.Merge = ⊥
 IsOfLife commands.Recycle = ⊥
 IsOfLife commands.Lose = Unit {0}
@@ -121,8 +122,8 @@ IsOwn tells s (commands.Ask name request) own = OfActive (λ a. (outcome : Outco
 IsOwn tells s (commands.Commit name) own = OfActive (λ a. Commits a.session a.tx own) s name
 IsOwn tells s (commands.Abort name) own = OfActive (λ a. Aborts (tells → ⊥) a.tx own) s name
 IsOwn tells s commands.Checkpoint own = (lsn : ℕ) × (c : Checkpoint) × (own ≡ Rec lsn (kinds.Checkpoint c) ∷ [])
-IsOwn tells s commands.Backup own = ⊥
-IsOwn tells s commands.Archive own = ⊥
+IsOwn tells s commands.Backup own = (backup : ℕ) × All (IsOfBackup backup) own
+IsOwn tells s commands.Archive own = All IsRunEntry own
 IsOwn tells s commands.Merge own = ⊥
 IsOwn tells s commands.Recycle own = ⊥
 IsOwn tells s commands.Lose own = (lsn : ℕ) × (l : Lost) × (own ≡ Rec lsn (kinds.Lost l) ∷ [])
@@ -198,8 +199,8 @@ MayBeDone tells s (commands.Ask name request) found = s.ended ≡ None
 MayBeDone tells s (commands.Commit name) found = s.ended ≡ None
 MayBeDone tells s (commands.Abort name) found = s.ended ≡ None
 MayBeDone tells s commands.Checkpoint found = s.ended ≡ None
-MayBeDone tells s commands.Backup found = ⊥
-MayBeDone tells s commands.Archive found = ⊥
+MayBeDone tells s commands.Backup found = s.ended ≡ None
+MayBeDone tells s commands.Archive found = s.ended ≡ None
 MayBeDone tells s commands.Merge found = ⊥
 MayBeDone tells s commands.Recycle found = ⊥
 MayBeDone tells s commands.Lose found = s.ended ≡ None
@@ -227,8 +228,8 @@ Calls (commands.Ask name request) device = device ≡ Log
 Calls (commands.Commit name) device = device ≡ Log
 Calls (commands.Abort name) device = device ≡ Log
 Calls commands.Checkpoint device = device ≡ Log
-Calls commands.Backup device = ⊥
-Calls commands.Archive device = ⊥
+Calls commands.Backup device = device ≡ Log
+Calls commands.Archive device = device ≡ Log
 Calls commands.Merge device = ⊥
 Calls commands.Recycle device = ⊥
 Calls commands.Lose device = device ≡ Log
@@ -245,9 +246,12 @@ Calls (commands.Step request) device = ⊥
 Calls commands.End device = ⊥
 
 -- Where nothing is left to enter, nothing was entered; but a Checkpoint and a Lost are entered before they are made durable, a
--- close makes the log durable behind its last write of a page, and a help may fail behind any of its steps.
+-- close makes the log durable behind its last write of a page, and a help, a backup and an archive may fail behind any of their
+-- steps.
 abbrev pub IsLeftOut : Command → List Entry → List Entry → Type 0
 IsLeftOut commands.Checkpoint es rest = Unit {0}
+IsLeftOut commands.Backup es rest = Unit {0}
+IsLeftOut commands.Archive es rest = Unit {0}
 IsLeftOut commands.Lose es rest = Unit {0}
 IsLeftOut (commands.Help steps) es rest = Unit {0}
 IsLeftOut commands.Close es rest = Unit {0}

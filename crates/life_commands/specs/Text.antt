@@ -12,9 +12,9 @@ use Rattle.own_life.specs.State.{name_by}
 use Rattle.script.specs.declared.command.Command.{Command}
 use Rattle.script.specs.declared.command.Command.TheVariants as commands
 use Rattle.script.specs.declared.command.Device.TheVariants.{Log, Vault}
-use Rattle.transcript.specs.Lines.{conflict_line, device_text, ended_line, failed_line, full_line, refused_line, request_head, request_lines, stat_line, upkeep_head, upkeep_line}
+use Rattle.transcript.specs.Lines.{archive_line, conflict_line, device_text, ended_line, failed_line, full_line, refused_line, request_head, request_lines, stat_line, upkeep_head, upkeep_line}
 use Rattle.transcript.specs.declared.upkeep.Upkeep.TheVariants as upkeeps
-use Rattle.life_commands.specs.Turns.{Turn, End, Done, TooMany, LogFault, VaultFault, Ended, Cut, Figures, Opening, Numbered, Counted, Start, Stage, stage}
+use Rattle.life_commands.specs.Turns.{Turn, End, Done, TooMany, LogFault, VaultFault, Ended, Cut, Figures, Opening, Numbered, Counted, Made, Start, Stage, stage}
 
 abbrev pub outcome_lines : List ℕ → Request → Outcome → List ℕ
 outcome_lines name request (outcomes.Replied reply) = request_lines name request reply
@@ -44,8 +44,8 @@ head (commands.Ask name request) = request_head name request
 head (commands.Commit name) = name ++ codes " commit"
 head (commands.Abort name) = name ++ codes " abort"
 head commands.Checkpoint = upkeep_head upkeeps.Checkpoint
-head commands.Backup = []
-head commands.Archive = []
+head commands.Backup = upkeep_head upkeeps.Backup
+head commands.Archive = codes "archive"
 head commands.Merge = []
 head commands.Recycle = []
 head commands.Lose = upkeep_head upkeeps.Lose
@@ -73,6 +73,10 @@ abbrev pub counted_line : Figures → List ℕ
 counted_line (Counted stat) = stat_line stat
 counted_line _ = []
 
+abbrev pub made_line : Figures → List ℕ
+made_line (Made runs) = archive_line runs
+made_line _ = []
+
 abbrev pub done_lines : Stage → Command → List Entry → Figures → List ℕ
 done_lines s commands.Nothing es figures = []
 done_lines s (commands.Format limit) es figures = codes "format ok\n"
@@ -82,8 +86,8 @@ done_lines s (commands.Ask name request) es figures = answer_lines s.active name
 done_lines s (commands.Commit name) es figures = committed_line name figures
 done_lines s (commands.Abort name) es figures = name ++ codes " abort\n"
 done_lines s commands.Checkpoint es figures = upkeep_line upkeeps.Checkpoint
-done_lines s commands.Backup es figures = []
-done_lines s commands.Archive es figures = []
+done_lines s commands.Backup es figures = upkeep_line upkeeps.Backup
+done_lines s commands.Archive es figures = made_line figures
 done_lines s commands.Merge es figures = []
 done_lines s commands.Recycle es figures = []
 done_lines s commands.Lose es figures = upkeep_line upkeeps.Lose

@@ -25,12 +25,13 @@ pub data End : Type 0 where
   Cut : End
 
 -- The numbers in a command's line that its entries don't tell: commits and losers of a log that was opened, commits behind a
--- commit, and what `stat` counts.
+-- commit, what `stat` counts, and how many archive runs were made.
 pub data Figures : Type 0 where
   Plain : Figures
   Opening : ℕ → ℕ → Figures
   Numbered : ℕ → Figures
   Counted : Stat → Figures
+  Made : ℕ → Figures
 
 -- An `open` that is done has found a log. Where a command ends its life, so many records of the log are known to be durable then.
 pub record Turn : Type 0 where
@@ -185,8 +186,8 @@ done_stage s (commands.Ask name request) es found kept = with_entries s es
 done_stage s (commands.Commit name) es found kept = record (with_entries s es) { active = without s.active name }
 done_stage s (commands.Abort name) es found kept = record (with_entries s es) { active = without s.active name }
 done_stage s commands.Checkpoint es found kept = with_entries s es
-done_stage s commands.Backup es found kept = s
-done_stage s commands.Archive es found kept = s
+done_stage s commands.Backup es found kept = with_entries s es
+done_stage s commands.Archive es found kept = with_entries s es
 done_stage s commands.Merge es found kept = s
 done_stage s commands.Recycle es found kept = s
 done_stage s commands.Lose es found kept = with_entries s es
@@ -212,8 +213,8 @@ failed_stage s (commands.Ask name request) es at = record (with_entries s es) { 
 failed_stage s (commands.Commit name) es at = record (with_entries s es) { ended = at }
 failed_stage s (commands.Abort name) es at = record (with_entries s es) { ended = at }
 failed_stage s commands.Checkpoint es at = record (with_entries s es) { ended = at }
-failed_stage s commands.Backup es at = s
-failed_stage s commands.Archive es at = s
+failed_stage s commands.Backup es at = record (with_entries s es) { ended = at }
+failed_stage s commands.Archive es at = record (with_entries s es) { ended = at }
 failed_stage s commands.Merge es at = s
 failed_stage s commands.Recycle es at = s
 failed_stage s commands.Lose es at = record (with_entries s es) { ended = at }

@@ -24,6 +24,7 @@ mod ending;
 mod failing;
 mod life;
 mod status;
+mod storing;
 mod upkeep;
 
 pub use closing::close;

@@ -12,6 +12,7 @@ use crate::asking::ask_open;
 use crate::devices::{damage, fuse, renew};
 use crate::ending::{abort_open, commit_open};
 use crate::status::Status;
+use crate::storing::{archive_open, backup_open};
 use crate::upkeep::{checkpoint_open, help_open, lose_open, stat_open};
 use media::{Disk, PageDevice, Vault};
 use own_life::{OwnLife, StorePages};
@@ -45,6 +46,8 @@ pub fn step<'a, N: Life, L: Disk, D: PageDevice, V: Vault, R: Wait>(
         Command::Commit(name) => commit(rt, alloc, life, name, line),
         Command::Abort(name) => abort(rt, alloc, life, pages, name, line),
         Command::Checkpoint => checkpoint(rt, alloc, life),
+        Command::Backup => backup(rt, alloc, life, pages),
+        Command::Archive => archive(rt, alloc, life, pages),
         Command::Lose => lose(rt, alloc, life, pages),
         Command::Help { steps } => help(rt, alloc, life, pages, *steps),
         Command::Stat => stat(rt, alloc, life),
@@ -190,6 +193,40 @@ fn checkpoint<'a, N: Life, L: Disk, R: Wait>(
     match life.ended() {
         Some(at) => Ok(transcript::upkeep_ended(alloc, Upkeep::Checkpoint, at)?),
         None => checkpoint_open(rt, alloc, life),
+    }
+}
+
+fn backup<'a, N: Life, L: Disk, D: PageDevice, V: Vault, R: Wait>(
+    rt: &R,
+    alloc: Global,
+    life: &mut OwnLife<'a, L, N>,
+    pages: &mut StorePages<'a, D, V, N>,
+) -> Result<Vec<u8>, Status>
+    ensures ok { IfOk result (λ lines. Did L.Disk N.opens life.old life.new commands.Backup lines.items) }
+    ensures err { IfErr result (λ status. (line : ℕ) → Refused L.Disk N.opens life.old life.new commands.Backup line status) }
+    ensures cause { IfErr result (LifeCause life.old.calls.own life.new.calls.own) }
+    ensures later { life.old.calls.own ≤ life.new.calls.own }
+{
+    match life.ended() {
+        Some(at) => Ok(transcript::upkeep_ended(alloc, Upkeep::Backup, at)?),
+        None => backup_open(rt, alloc, life, pages),
+    }
+}
+
+fn archive<'a, N: Life, L: Disk, D: PageDevice, V: Vault, R: Wait>(
+    rt: &R,
+    alloc: Global,
+    life: &mut OwnLife<'a, L, N>,
+    pages: &mut StorePages<'a, D, V, N>,
+) -> Result<Vec<u8>, Status>
+    ensures ok { IfOk result (λ lines. Did L.Disk N.opens life.old life.new commands.Archive lines.items) }
+    ensures err { IfErr result (λ status. (line : ℕ) → Refused L.Disk N.opens life.old life.new commands.Archive line status) }
+    ensures cause { IfErr result (LifeCause life.old.calls.own life.new.calls.own) }
+    ensures later { life.old.calls.own ≤ life.new.calls.own }
+{
+    match life.ended() {
+        Some(at) => Ok(transcript::archive_ended(alloc, at)?),
+        None => archive_open(rt, alloc, life, pages),
     }
 }
 

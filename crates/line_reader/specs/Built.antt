@@ -9,7 +9,8 @@ is_store_word text =
     || same_text text (codes "stop") || same_text text (codes "damage")
 
 abbrev pub is_upkeep_word : List ℕ → Bool
-is_upkeep_word text = same_text text (codes "checkpoint") || same_text text (codes "lose") || same_text text (codes "help")
+is_upkeep_word text =
+    same_text text (codes "checkpoint") || same_text text (codes "backup") || same_text text (codes "archive") || same_text text (codes "lose") || same_text text (codes "help")
 
 abbrev pub is_transaction_word : List ℕ → Bool
 is_transaction_word text =

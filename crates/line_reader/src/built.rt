@@ -42,7 +42,11 @@ fn is_store_word(word: &[u8]) -> bool
 fn is_upkeep_word(word: &[u8]) -> bool
     ensures { result ≡ is_upkeep_word word.now }
 {
-    word == b"checkpoint".as_slice() || word == b"lose".as_slice() || word == b"help".as_slice()
+    word == b"checkpoint".as_slice()
+        || word == b"backup".as_slice()
+        || word == b"archive".as_slice()
+        || word == b"lose".as_slice()
+        || word == b"help".as_slice()
 }
 
 /// Whether it asks for something of a transaction.

@@ -83,7 +83,7 @@ backup_later opens (Ok backup) h h' d d' more b = (b.0, λ opening may. let w = 
 backup_later opens (Err f) h h' d d' more b = b
 
 pub archive_later : (opens : List Record → Type 0) (r : Result ℕ Fault) (h h' : List Entry) (d d' : ℕ) → d ≤ d' → Archives opens r h h' d → Archives opens r h h' d'
-archive_later opens (Ok count) h h' d d' more a = (a.0, a.1, a.2, λ opening may. each_later (archives.IsDurable d) (archives.IsDurable d') (run_durable d d' more) a.0.own (a.3 opening may))
+archive_later opens (Ok count) h h' d d' more a = (a.0, a.1, λ opening may. let w = a.2 opening may in (w.0, each_later (archives.IsDurable d) (archives.IsDurable d') (run_durable d d' more) a.0.own w.1))
 archive_later opens (Err f) h h' d d' more a = a
 
 -- ---- what was entered
@@ -119,20 +119,22 @@ module _ (opens : List Record → Type 0) (ledger sessions : LedgerName) (a a' :
   archived (Ok count) b = (
     record { own = b.own; each = runs_all b.next b.own b.behind b.makes.adds.follow; added = gained b.own b.makes.adds.gains },
     b.counted,
-    record {
-      stood = b.stood;
-      next = b.next;
-      upto = b.upto;
-      behind = b.behind;
-      moment = b.makes.moment;
-      since = b.makes.since;
-      goes_on = b.makes.goes_on;
-      stands = b.makes.stands;
-      follow = b.makes.adds.follow;
-      whole = b.makes.whole;
-      done = subst (λ (n : ℕ). (b.upto < b.behind) ⊎ (1024 ≤ b.stood + n)) b.counted b.done;
-    },
-    b.named,
+    λ opening may. (
+      record {
+        stood = b.stood;
+        next = b.next;
+        upto = b.upto;
+        behind = b.behind;
+        moment = b.makes.moment;
+        since = b.makes.since;
+        goes_on = b.makes.goes_on;
+        stands = b.makes.stands opening may;
+        follow = b.makes.adds.follow;
+        whole = b.makes.whole opening may;
+        done = subst (λ (n : ℕ). (b.upto < b.behind) ⊎ (1024 ≤ b.stood + n)) b.counted b.done;
+      },
+      b.named opening may,
+    ),
   )
   archived (Err f) (inl none) = record { own = []; each = All-nil IsRunEntry; added = gained [] none.gains }
   archived (Err f) (inr b) = record { own = b.own; each = runs_all b.next b.own b.behind b.makes.adds.follow; added = gained b.own b.makes.adds.gains }

@@ -54,7 +54,7 @@ pub record AddsRuns (h h' : List Entry) : Type 0 where
 
 -- The runs follow those that stood at some moment of the call. No record that stood as it began waits then, or as many runs stand
 -- as may.
-pub record IsArchived (opens : List Record → Type 0) (h h' own : List Entry) : Type 0 where
+pub record IsArchived (opening : List Record) (h h' own : List Entry) : Type 0 where
   pub stood : ℕ
   pub next : ℕ
   pub upto : ℕ
@@ -62,12 +62,12 @@ pub record IsArchived (opens : List Record → Type 0) (h h' own : List Entry) :
   pub moment : List Entry
   pub since : IsPrefix h moment
   pub goes_on : IsPrefix moment h'
-  pub stands : (opening : List Record) → opens opening → archives.Stands (life_log opening moment) stood next
+  pub stands : archives.Stands (life_log opening moment) stood next
   pub follow : archives.Follow next own behind
-  pub whole : (opening : List Record) → opens opening → length (life_log opening h) ≤ upto
+  pub whole : length (life_log opening h) ≤ upto
   pub done : (upto < behind) ⊎ (1024 ≤ stood + length own)
 
 -- so many runs were made, of all that waited, and the log is durable up to each record that says so; or some were
 abbrev pub Archives : (List Record → Type 0) → Result ℕ Fault → List Entry → List Entry → ℕ → Type 0
-Archives opens (Ok count) h h' durable = (a : AddsRuns h h') × (count ≡ length a.own) × IsArchived opens h h' a.own × ((opening : List Record) → opens opening → Each (archives.IsDurable durable) a.own)
+Archives opens (Ok count) h h' durable = (a : AddsRuns h h') × (count ≡ length a.own) × ((opening : List Record) → opens opening → IsArchived opening h h' a.own × Each (archives.IsDurable durable) a.own)
 Archives opens (Err fault) h h' durable = AddsRuns h h'

@@ -160,8 +160,14 @@ module _ (of : List Record → Type 0) (first : (limit : ℕ) → of [] → of (
       by commands.Checkpoint es found kept figures Done lawful row = grown es
       by commands.Checkpoint es found kept figures (LogFault n) lawful row = grown es
       by commands.Checkpoint es found kept figures Cut lawful row = grown es
+      by commands.Backup es found kept figures Done lawful row = grown es
+      by commands.Archive es found kept figures Done lawful row = grown es
       by commands.Lose es found kept figures Done lawful row = grown es
+      by commands.Backup es found kept figures (LogFault n) lawful row = grown es
+      by commands.Archive es found kept figures (LogFault n) lawful row = grown es
       by commands.Lose es found kept figures (LogFault n) lawful row = grown es
+      by commands.Backup es found kept figures Cut lawful row = grown es
+      by commands.Archive es found kept figures Cut lawful row = grown es
       by commands.Lose es found kept figures Cut lawful row = grown es
       by (commands.Help steps) es found kept figures Done lawful row = grown es
       by (commands.Help steps) es found kept figures (LogFault n) lawful row = grown es

@@ -25,14 +25,14 @@ pub returns-clause-headline : goal.returns-clause-headline
 returns-clause-headline g c = λ v start keeps known.
     let back = HandsBack g.L.Disk.tells (seen g.L.Disk v) (stores g.D.PageDevice g.V.Vault) c.into_inner.result (c.into_inner-2.result, c.run-status.result.3) in
     let inside = ended_fused g.L.Disk g.D.PageDevice g.V.Vault v c.run-status.result.1 c.run-status.result.2 c.into_inner.result c.into_inner-2.result c.run-status.result.3 c.into_inner.ensures c.into_inner-2.ensures
-        (c.run-status.ensures.headline v start (begun_fused g.L.Disk g.D.PageDevice g.V.Vault v c.new-3.result c.new-2.result c.args.devices.log c.args.devices.pages c.args.devices.vault c.new-3.ensures c.new-2.ensures start keeps known)) in
+    (c.run-status.ensures.headline v start (begun_fused g.L.Disk g.D.PageDevice g.V.Vault v c.new-3.result c.new-2.result c.args.devices.log c.args.devices.pages c.args.devices.vault c.new-3.ensures c.new-2.ensures start keeps known)) in
     ran_whole (IsWhole v) start _ (g.S.Source.left c.args.source.now) (g.S.Source.left c.run-status.new.source) (g.K.Sink.told c.args.sink.now) (g.K.Sink.told c.run-status.new.sink) c.in-Ok-new.input c.run-status.new.input c.blamed.result c.in-Ok-new.ensures
     (as_blamed (IsWhole v) start back c.faults-before.result c.faults-now.result c.run-status.result.0 c.blamed.result c.blamed.ensures inside)
 
 pub returns-clause-complete : goal.returns-clause-complete
 returns-clause-complete g c = λ call t p o last keeps these source sink own vaulted.
     let asked = asked_fused g.L.Disk g.D.PageDevice g.V.Vault c.new-3.result c.new-2.result c.args.devices.log c.args.devices.pages c.args.devices.vault c.new-3.ensures c.new-2.ensures c.run-status.ensures.headline t p o last keeps these c.run-status.ensures.called
-        (λ is. source (c.run-status.ensures.cause.source is))
-        (λ is. sink (c.run-status.ensures.cause.sink is))
-        (λ is. own (subst (λ (n : ℕ). Rose (g.L.Disk.faults c.args.devices.log) n) (ap (λ (d : g.row.L.Denot). g.L.Disk.faults d) (sym c.into_inner.ensures)) (subst (λ (f : Fused g.row.L.Denot). Rose (g.L.Disk.faults f.inner) (g.L.Disk.faults c.run-status.result.1.inner)) c.new-3.ensures (c.run-status.ensures.cause.log is)))) in
+    (λ is. source (c.run-status.ensures.cause.source is))
+    (λ is. sink (c.run-status.ensures.cause.sink is))
+    (λ is. own (subst (λ (n : ℕ). Rose (g.L.Disk.faults c.args.devices.log) n) (ap (λ (d : g.row.L.Denot). g.L.Disk.faults d) (sym c.into_inner.ensures)) (subst (λ (f : Fused g.row.L.Denot). Rose (g.L.Disk.faults f.inner) (g.L.Disk.faults c.run-status.result.1.inner)) c.new-3.ensures (c.run-status.ensures.cause.log is)))) in
     asked_blamed c.faults-before.result c.faults-now.result c.run-status.result.0 c.blamed.result c.blamed.ensures (λ rose. vaulted (told_rose (g.V.Vault.faults c.args.devices.vault) (g.V.Vault.faults c.run-status.result.3) c.faults-before.result c.faults-now.result c.faults-before.ensures c.faults-now.ensures rose)) asked

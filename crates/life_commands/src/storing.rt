@@ -1,0 +1,68 @@
+//! Words that store something in the vault, in a life that goes on.
+ghost use Rattle.std.specs.Prelude.{◌≡◌, ◌≤◌, ℕ, None, IfErr, IfOk};
+ghost use Rattle.script.specs.declared.command.Command.TheVariants as commands;
+ghost use Rattle.life_commands.specs.Causes.{LifeCause};
+ghost use Rattle.life_commands.specs.Promises.{Did, Refused};
+
+use crate::failing::{MOST, fail};
+use crate::status::Status;
+use media::{Disk, PageDevice, Vault};
+use own_life::{OwnLife, StorePages};
+use page_ops::Life;
+use script::Device;
+use std::alloc::Global;
+use std::sync::Wait;
+use transcript::Upkeep;
+
+/// A backup of all pages is made.
+pub fn backup_open<'a, N: Life, L: Disk, D: PageDevice, V: Vault, R: Wait>(
+    rt: &R,
+    alloc: Global,
+    life: &mut OwnLife<'a, L, N>,
+    pages: &mut StorePages<'a, D, V, N>,
+) -> Result<Vec<u8>, Status>
+    requires { life.old.ended ≡ None }
+    ensures ok { IfOk result (λ lines. Did L.Disk N.opens life.old life.new commands.Backup lines.items) }
+    ensures err { IfErr result (λ status. (line : ℕ) → Refused L.Disk N.opens life.old life.new commands.Backup line status) }
+    ensures cause { IfErr result (LifeCause life.old.calls.own life.new.calls.own) }
+    ensures later { life.old.calls.own ≤ life.new.calls.own }
+{
+    let before = life.refused();
+    if before >= MOST {
+        return Err(Status::Memory);
+    }
+    let done = transcript::upkeep_line(alloc, Upkeep::Backup)?;
+    let failed = transcript::upkeep_failed(alloc, Upkeep::Backup, Device::Log)?;
+    let made = life.backup(rt, alloc, pages);
+    life.look();
+    match made {
+        Ok(_) => Ok(done),
+        Err(fault) => fail(fault, failed, before, life.refused()),
+    }
+}
+
+/// Runs are made of the records that no run has yet.
+pub fn archive_open<'a, N: Life, L: Disk, D: PageDevice, V: Vault, R: Wait>(
+    rt: &R,
+    alloc: Global,
+    life: &mut OwnLife<'a, L, N>,
+    pages: &mut StorePages<'a, D, V, N>,
+) -> Result<Vec<u8>, Status>
+    requires { life.old.ended ≡ None }
+    ensures ok { IfOk result (λ lines. Did L.Disk N.opens life.old life.new commands.Archive lines.items) }
+    ensures err { IfErr result (λ status. (line : ℕ) → Refused L.Disk N.opens life.old life.new commands.Archive line status) }
+    ensures cause { IfErr result (LifeCause life.old.calls.own life.new.calls.own) }
+    ensures later { life.old.calls.own ≤ life.new.calls.own }
+{
+    let before = life.refused();
+    if before >= MOST {
+        return Err(Status::Memory);
+    }
+    let failed = transcript::archive_failed(alloc, Device::Log)?;
+    let made = life.archive(rt, alloc, pages);
+    life.look();
+    match made {
+        Ok(runs) => Ok(transcript::archive_line(alloc, runs)?),
+        Err(fault) => fail(fault, failed, before, life.refused()),
+    }
+}
