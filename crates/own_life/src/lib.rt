@@ -35,7 +35,9 @@ mod opened;
 mod seeing;
 mod store_pages;
 mod storing;
+mod supply;
 
 pub use life::OwnLife;
 pub use opened::{LifeRefused, open_life};
 pub use store_pages::StorePages;
+pub use supply::LifeSupply;

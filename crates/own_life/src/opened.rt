@@ -9,13 +9,13 @@ ghost use Rattle.own_life.specs.State.{HasJustBegun};
 
 use crate::life::OwnLife;
 use crate::store_pages::StorePages;
+use crate::supply::LifeSupply;
 use listed_log::ListedLog;
 use media::{Disk, PageDevice, Vault};
 use named_objects::OwnObjects;
 use operators::Operators;
 use page_ops::{Ground, Life, Tokens};
 use plain_store::{PlainStore, StoreRefused, open_store};
-use segment_restore::LogSupply;
 use std::alloc::Global;
 use store_life::StoreLife;
 use vault_bases::{Tally, VaultBases};
@@ -65,7 +65,7 @@ pub fn open_life<'a, L: Disk, D: PageDevice, V: Vault, N: Life>(
             let objects = OwnObjects::new(vault, maint, pass.copy(&ground.board));
             let faults = Tally::new(vault_faults, share);
             let bases = VaultBases { objects, faults };
-            let (pool, ()) = pages.resupplied(LogSupply { operators, bases });
+            let (pool, ()) = pages.resupplied(LifeSupply { operators, bases });
             let _ = journal.end_seen(&mut pass);
             let named = Vec::new(alloc);
             let life = StoreLife { pass, named };

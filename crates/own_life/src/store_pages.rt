@@ -20,6 +20,7 @@ ghost use Rattle.store_life.specs.Turns.{Asks, EndsBy, IsTold};
 ghost use Rattle.own_life.specs.Backed.{Archives, BacksUp};
 ghost use Rattle.own_life.specs.Pages.{AreRestored, AwaitsRedo, HasNone, IsIdle, IsKnownRestored, IsNextRedone, IsNextWritten, Lacks, OneLess, WritesUpto};
 
+use crate::supply::LifeSupply;
 use archiving::archive;
 use backups::backup;
 use buffer_pool::PlainPool;
@@ -27,10 +28,9 @@ use engine::Answered;
 use front::Pass;
 use media::{PageDevice, Vault};
 use named_objects::OwnObjects;
-use page_ops::{Entering, Journaling, Life, Pages, VaultFaults};
+use page_ops::{Entering, Journaling, Life, Pages};
 use page_repair::OwnImages;
 use script::Name;
-use segment_restore::LogSupply;
 use std::alloc::Global;
 use std::sync::Wait;
 use store_life::StoreLife;
@@ -43,11 +43,7 @@ use wal_record::Entry;
 /// journal. Between calls no page is in hand.
 #[derive(Drop)]
 pub struct StorePages<'a, D: PageDevice, V: Vault, N: Life> {
-    pub(crate) pool: PlainPool<
-        OwnImages<'a, D, N>,
-        LogSupply<'a, VaultBases<OwnObjects<V, N>, VaultFaults<N>>>,
-        N,
-    >,
+    pub(crate) pool: PlainPool<OwnImages<'a, D, N>, LifeSupply<'a, V, N>, N>,
     ghost idle: { IsIdle pool.out pool.reserves },
 }
 
@@ -299,7 +295,7 @@ impl<'a, D: PageDevice, V: Vault, N: Life> StorePages<'a, D, V, N> {
     {
         let StorePages { pool } = self;
         let (images, supply) = pool.into_parts();
-        let LogSupply { bases, .. } = supply;
+        let LifeSupply { bases, .. } = supply;
         let VaultBases { objects, .. } = bases;
         (images.into_device(pass), objects)
     }

@@ -64,20 +64,30 @@ fn a_lost_device_comes_back_from_the_log(rt: HostRuntime) -> Result<(), Fail> {
     try_cases(&rt, rt.alloc(), &LOSSES)
 }
 
-/// Two hundred rows with values of 256 letters, on 26 pages; one of them is written twice more.
-fn two_hundred_rows(alloc: Global) -> Result<(String, String), Fail> {
+/// Two hundred rows with values of 256 letters, on 26 pages; one of them is written twice more. Before the first time stands a
+/// backup, where one is made, and before the second one an archive run.
+fn two_hundred_rows(alloc: Global, stores: bool) -> Result<(String, String), Fail> {
     let mut script = String::from_str(alloc, "format\nopen\nbegin A\n")?;
     let mut printed = String::from_str(alloc, "format ok\nopen commits=0 losers=0\nA begin\n")?;
     for number in 0..200 {
         script.push_str(&format!(in alloc; "put A k{number:03} V\n")?)?;
         printed.push_str(&format!(in alloc; "A put k{number:03} was none\n")?)?;
     }
-    script.push_str(
-        "commit A\nbegin B\nput B k000 b\ncommit B\nbegin C\nput C k000 c\ncommit C\n",
-    )?;
-    printed.push_str(
-        "A commit 1\nB begin\nB put k000 was = V\nB commit 2\nC begin\nC put k000 was = b\nC commit 3\n",
-    )?;
+    let (backup, archive) = if stores {
+        ("backup\n", "archive\n")
+    } else {
+        ("", "")
+    };
+    let (backed_up, archived) = if stores {
+        ("backup ok\n", "archive runs=1\n")
+    } else {
+        ("", "")
+    };
+    script.push_str(&format!(in alloc; "commit A\n{backup}begin B\nput B k000 b\ncommit B\n")?)?;
+    script.push_str(&format!(in alloc; "{archive}begin C\nput C k000 c\ncommit C\n")?)?;
+    printed.push_str(&format!(in alloc; "A commit 1\n{backed_up}B begin\n")?)?;
+    printed.push_str("B put k000 was = V\nB commit 2\n")?;
+    printed.push_str(&format!(in alloc; "{archived}C begin\nC put k000 was = b\nC commit 3\n")?)?;
     Ok((script, printed))
 }
 
@@ -93,8 +103,11 @@ const ANSWERED: &str = "lose ok\nD begin\nD get k000 = c\nD commit 4\n\
 #[test]
 fn segments_come_back_one_by_one(rt: HostRuntime) -> Result<(), Fail> {
     let alloc = rt.alloc();
-    let (rows, answers) = two_hundred_rows(alloc)?;
-    let script = format!(in alloc; "{rows}{LOST}")?;
-    let printed = format!(in alloc; "{answers}{ANSWERED}")?;
-    try_script(&rt, alloc, &script, &printed)
+    for stores in [false, true] {
+        let (rows, answers) = two_hundred_rows(alloc, stores)?;
+        let script = format!(in alloc; "{rows}{LOST}")?;
+        let printed = format!(in alloc; "{answers}{ANSWERED}")?;
+        try_script(&rt, alloc, &script, &printed)?;
+    }
+    Ok(())
 }

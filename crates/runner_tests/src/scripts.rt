@@ -101,14 +101,12 @@ const UNLAWFUL: [(&str, u64); 28] = [
 ];
 
 /// Lines that ask for what isn't built.
-const UNBUILT: [&str; 9] = [
+const UNBUILT: [&str; 7] = [
     "beg",
     "fuse",
     "fuse vault 1",
     "renew vault",
     "recycle",
-    "backup",
-    "archive",
     "merge",
     "parallel 1 0",
 ];

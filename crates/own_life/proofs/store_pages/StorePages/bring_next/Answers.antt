@@ -1,5 +1,5 @@
 use Rattle.std.proofs.Common.{◌<◌, arith, sym, ◌∙◌}
-use Rattle.buffer_pool.specs.Writes.{no_faults}
+use Rattle.segment_restore.specs.Faults.{of_vault}
 use Rattle.store_life.specs.SoFar.{actives}
 use Rattle.store_life.proofs.Looked.{looked_alone, looked_same}
 use Rattle.store_life.proofs.Stepped.{upkeep_named}
@@ -33,6 +33,8 @@ returns-in-Err-bring-clause-named g c = λ named. upkeep_named c.args.life.now.p
 
 pub returns-in-Err-bring-clause-refused : goal.returns-in-Err-bring-clause-refused
 returns-in-Err-bring-clause-refused g c =
+    let before = of_vault c.args.self.now.pool.supply.bases.faults in
+    let now = of_vault c.bring.new.self.supply.bases.faults in
     let none = done_meets_none g.N.Life.opens g.N.Life.log_faults g.N.Life.made (g.J.Entering.account c.args.journal.now) (g.J.Entering.account c.work.new.self) c.work.new.pass.log c.in-Ok.work c.in-Ok.ensures.ends in
-    bring_then g.N.Life.opens g.N.Life.log_faults g.N.Life.made (g.J.Entering.account c.args.journal.now) (g.J.Entering.account c.work.new.self) (g.J.Entering.account c.bring.new.journal) c.bring.new.pass.log none c.work.ensures.seen.keeps no_faults no_faults no_faults c.in-Err-bring.fault (faults_self no_faults)
-    (bring_then g.N.Life.opens g.N.Life.log_faults g.N.Life.made (g.J.Entering.account c.work.new.self) (g.J.Entering.account c.pages.new.self) (g.J.Entering.account c.bring.new.journal) c.bring.new.pass.log c.pages.ensures.calm.end c.pages.ensures.seen.keeps no_faults no_faults no_faults c.in-Err-bring.fault (faults_self no_faults) c.in-Err-bring.ensures.refused)
+    bring_then g.N.Life.opens g.N.Life.log_faults g.N.Life.made (g.J.Entering.account c.args.journal.now) (g.J.Entering.account c.work.new.self) (g.J.Entering.account c.bring.new.journal) c.bring.new.pass.log none c.work.ensures.seen.keeps before before now c.in-Err-bring.fault (faults_self before)
+    (bring_then g.N.Life.opens g.N.Life.log_faults g.N.Life.made (g.J.Entering.account c.work.new.self) (g.J.Entering.account c.pages.new.self) (g.J.Entering.account c.bring.new.journal) c.bring.new.pass.log c.pages.ensures.calm.end c.pages.ensures.seen.keeps before before now c.in-Err-bring.fault (faults_self before) c.in-Err-bring.ensures.refused)
