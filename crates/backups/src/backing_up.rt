@@ -129,8 +129,6 @@ pub fn backup<N: Life, J: Journaling<N>, P: BackedPages<N, J>, R: Wait>(
     let since = pages.last_named(rt, journal, pass);
     let backup = next_backup(rt, alloc, journal, pass)?;
     let most = journal.pages(rt, pass);
-    back_up_all(
-        rt, alloc, pages, journal, backup, most, since, pass,
-    )?;
+    back_up_all(rt, alloc, pages, journal, backup, most, since, pass)?;
     Ok(backup)
 }

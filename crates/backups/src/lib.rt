@@ -13,7 +13,8 @@
 //! page is in hand and no frame more is reserved. Each refusal has its cause (`refused`, `open`).
 //!
 //! The pages and the vault come as one object ([`BackedPages`]), since a pool's supply owns the vault that its repairs and
-//! restores read: so it is with the pool of one thread over a log's supply (`buffer_pool`, `segment_restore`, `vault_bases`).
+//! restores read ([`VaultSupply`]): so it is with the pool of one thread over a log's supply (`buffer_pool`, `segment_restore`,
+//! `vault_bases`).
 #![tactic(auto)]
 
 mod backed_pages;
@@ -21,6 +22,8 @@ mod backed_pool;
 mod backing_up;
 mod copies;
 mod copying;
+mod vault_supply;
 
 pub use backed_pages::BackedPages;
 pub use backing_up::backup;
+pub use vault_supply::VaultSupply;
