@@ -1,11 +1,11 @@
 //! A life that one thread owns: from its opening to its stop.
 //!
-//! [`open_life`] makes of a log that was read, of a data device and of what names a life, an [`OwnLife`] and its pages
+//! [`open_life`] makes of a log that was read, of a data device, a vault and what names a life, an [`OwnLife`] and its pages
 //! ([`StorePages`]): the journal and the pool of a store (`plain_store`), and its named transactions (`store_life`). Pages come from
-//! the data device, and by repair from the log where this lacks them, or gives them damaged or too old; behind a loss of the
-//! device a segment is restored whole from the log before the first of its pages is given. They are lent to each call
-//! that wants them. Each command of the life is a call: [`OwnLife::begin`],
-//! [`OwnLife::ask`], [`OwnLife::commit`], [`OwnLife::abort`], [`OwnLife::checkpoint`], [`OwnLife::lose`], [`OwnLife::help`],
+//! the data device, and by repair from their last backup in the vault and from the log where this lacks them, or gives them damaged
+//! or too old; behind a loss of the device a segment is so restored whole before the first of its pages is given. They are lent to
+//! each call that wants them. Each command of the life is a call: [`OwnLife::begin`], [`OwnLife::ask`], [`OwnLife::commit`],
+//! [`OwnLife::abort`], [`OwnLife::checkpoint`], [`OwnLife::backup`], [`OwnLife::archive`], [`OwnLife::lose`], [`OwnLife::help`],
 //! [`OwnLife::survey`] and [`OwnLife::close`]. They are for a life that goes on; whether it has ended, and with which LSN, [`OwnLife::ended`] tells at any moment.
 //! [`OwnLife::into_devices`] stops it.
 //!
@@ -15,14 +15,14 @@
 //! 1. Each call adds to the history its command's own entries, and beside them what may stand there, as `store_life` has it. A
 //!    close adds what tells of pages that were written, and behind it no page is dirty and the whole log is durable. A help adds
 //!    Undos and Ends of losers, then what the segments that it restores and the pages that it brings enter, then that
-//!    pages were written (`specs/Helps`). It takes the steps that were asked for, or fewer, and then no loser is left without an
+//!    pages were written (`specs/Helps`). A backup adds that its segments are done, an archive that runs are (`specs/Backed`). It takes the steps that were asked for, or fewer, and then no loser is left without an
 //!    End, no segment is unrestored, no page awaits redo and none is dirty; while a loser is left each step is an Undo or an End.
 //! 2. A life ends only where a call answers `LogFault`: then the log disk failed by itself, or an armed fuse refused a call;
 //!    the opening log and each acknowledged commit are durable. After any other answer or refusal it goes on. No answer tells of a
-//!    fault of the data device.
+//!    fault of the data device; one of the vault is told only where the pages have counted one more.
 //! 3. At each moment the history is legal and serial, and a stop leaves the first of its transactions ([`OwnLife::look`]); what
-//!    the log disk keeps as it is handed back, and whatever a crash leaves of it then, stands for such a log, and each image of the
-//!    data device is of that log (`AreLeft`).
+//!    the log disk keeps as it is handed back, and whatever a crash leaves of it then, stands for such a log, each image of the
+//!    data device is of that log, and each object that it names is synced in the vault (`AreLeft`).
 //!
 //! Where a count of the life is used up, calls want memory.
 #![tactic(auto)]

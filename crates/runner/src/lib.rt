@@ -4,7 +4,7 @@
 //! where no life is open and else by `life_commands`, and writes the lines that answer it before it reads on. A run is a row of
 //! lives, each from an `open` to a `close`, a `stop` or the end of the run. A life (`own_life`) owns its journal, with the log
 //! and the log's disk, under a name that `living` picks; its pages, over the data device, are lent to each command. Between two
-//! lives there are the two devices alone. Each is in a fuse, which lines arm and renew, and which a stop renews.
+//! lives there are the three devices alone. Log disk and data device are in fuses, which lines arm and renew, and which a stop renews.
 //!
 //! The states of a run, and what leads from one to another (a line that isn't here is refused with its status):
 //!
@@ -17,9 +17,9 @@
 //!                                    open |                          | close, stop
 //!                                         v                          |
 //!   begin, get, put, del, scan, op,   ( a life ) --------------------+
-//!   commit, abort, checkpoint, lose,      |                          |
-//!   help, stat, damage,     +---------    |                          |
-//!   fuse, renew             +-------->    | a fuse refuses a call    |
+//!   commit, abort, checkpoint, backup,    |                          |
+//!   archive, lose, help, stat, +------    |                          |
+//!   damage, fuse, renew        +----->    | a fuse refuses a call    |
 //!                                         | of one of the commands   |
 //!                                         v                          |
 //!   the same commands:           ( an ended life ) ------------------+
@@ -36,9 +36,8 @@
 //! written, all of it where the run is done (`specs/Clause`). Each life of theirs opens a log that the life before may have
 //! left, or that was handed in or made; it is legal, has the replies of a serial run, and whatever a stop may leave of it has
 //! its first transactions. The log disk that is handed back holds such a rest, also after a crash (`specs/LogDisk` of
-//! `life_commands`), and each image on the data device is of it (`specs/Devices`; `specs/Images` of `life_commands`). The vault is
-//! as it was until the machine stops, and then as stops leave it (`specs/Vault`). Each status
-//! comes for its own cause (`specs/Refusals` of `life_commands`, `specs/Causes` of both).
+//! `life_commands`), each image on the data device is of it, and each object that it names is synced in the vault
+//! (`specs/Devices`; `specs/Stores` of `life_commands`). Each status comes for its own cause (`specs/Refusals` of `life_commands`, `specs/Causes` of both).
 //!
 //! A call may begin with any use that may have left the devices so (`Last` in `specs/Turns` of `life_commands`), and those that
 //! it hands back may be handed to the next call (`laws`). It may begin, too, with what is known of the bytes alone
