@@ -26,7 +26,7 @@ use std::sync::Wait;
 
 /// Runs the script that the source has, prints its transcript to the sink, and hands the devices back. The words are those
 /// of a call behind its place (`call_words`). Workers and frames have no effect, and no script is generated yet. A call of the
-/// data device that fails ends nothing: its page is repaired from the log, or stays in memory.
+/// data device that fails ends nothing: its page is repaired, or stays in memory.
 pub fn run_words<S: Source, K: Sink, L: Disk, D: PageDevice, V: Vault, R: Wait>(
     rt: &R,
     alloc: Global,
@@ -41,13 +41,14 @@ pub fn run_words<S: Source, K: Sink, L: Disk, D: PageDevice, V: Vault, R: Wait>(
     // handed in or made; their text is what was written; and each life of theirs is legal, has the replies of a serial
     // run, and whatever a stop may leave of it has its first transactions. The log disk that is handed back keeps a log
     // that may be found next, also after any crash, the images on the data device are of each such log, and each object that
-    // one names is synced in the vault, so they may be handed to the next call. What the reader has read and given to no line yet is still pending; at most the longest
-    // script is read, and one byte more.
+    // one names is synced in the vault, so they may be handed to the next call. What the reader has read and given to no line
+    // yet is still pending; at most the longest script is read, and one byte more.
     ensures headline { (v : View L.tells) (start : Start) → (IsWhole v → (stores D.PageDevice V.Vault).tells × Keeps L.Disk start.last devices.log × AreOf ((stores D.PageDevice V.Vault).are_of (devices.pages, devices.vault)) start.last) → Known L.tells L.Disk start.bytes devices.log
         → (pending : List ℕ) × Headline (IsWhole v) start (HandsBack L.tells (seen L.Disk v) (stores D.PageDevice V.Vault) result.1.log (result.1.pages, result.1.vault))
         (S.left source.old) pending (S.left source.new) (K.told sink.old) (K.told sink.new) result.0 }
 
-    // Where the words are a call, the log disk keeps a log, what is beside it is of that, and no device failed, the run is done, the script asked for its end, or memory ran out.
+    // Where the words are a call, the log disk keeps a log, what is beside it is of that, and no device failed, the run is
+    // done, the script asked for its end, or memory ran out.
     ensures complete { AsksRun (call_of (map (λ word. word.bytes.items) words.now)) → L.tells → D.tells → V.tells → (start : Last) → Keeps L.Disk start devices.log → AreOf ((stores D.PageDevice V.Vault).are_of (devices.pages, devices.vault)) start
         → (Rose (S.faults source.old) (S.faults source.new) → ⊥) → (Rose (K.faults sink.old) (K.faults sink.new) → ⊥) → (Rose (L.faults devices.log) (L.faults result.1.log) → ⊥) → (Rose (V.faults devices.vault) (V.faults result.1.vault) → ⊥) → IsAsked result.0 }
 
