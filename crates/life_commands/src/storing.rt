@@ -23,7 +23,7 @@ pub fn backup_open<'a, N: Life, L: Disk, D: PageDevice, V: Vault, R: Wait>(
     pages: &mut StorePages<'a, D, V, N>,
 ) -> Result<Vec<u8>, Status>
     requires idle { IsIdle pages.old.pool.out pages.old.pool.reserves }
-    requires { life.old.ended ≡ None }
+    requires goes { life.old.ended ≡ None }
     ensures idle { IsIdle pages.new.pool.out pages.new.pool.reserves }
     ensures ok { IfOk result (λ lines. Did L.Disk N.opens life.old life.new commands.Backup lines.items) }
     ensures err { IfErr result (λ status. (line : ℕ) → Refused L.Disk N.opens life.old life.new commands.Backup line status) }
@@ -52,7 +52,7 @@ pub fn archive_open<'a, N: Life, L: Disk, D: PageDevice, V: Vault, R: Wait>(
     pages: &mut StorePages<'a, D, V, N>,
 ) -> Result<Vec<u8>, Status>
     requires idle { IsIdle pages.old.pool.out pages.old.pool.reserves }
-    requires { life.old.ended ≡ None }
+    requires goes { life.old.ended ≡ None }
     ensures idle { IsIdle pages.new.pool.out pages.new.pool.reserves }
     ensures ok { IfOk result (λ lines. Did L.Disk N.opens life.old life.new commands.Archive lines.items) }
     ensures err { IfErr result (λ status. (line : ℕ) → Refused L.Disk N.opens life.old life.new commands.Archive line status) }

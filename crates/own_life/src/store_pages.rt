@@ -307,8 +307,8 @@ impl<'a, D: PageDevice, V: Vault, N: Life> StorePages<'a, D, V, N> {
 
     /// The data device, as it is, and what has the vault. The pass then has seen what the images are made of.
     pub(crate) fn into_parts(self, pass: &mut Pass<Entry, N>) -> (D, OwnObjects<V, N>)
-        ensures device { result.0 ≡ self.pool.images }
-        ensures vault { result.1.vault ≡ self.pool.supply.bases.objects.vault }
+        ensures device { result.0 ≡ self.entry.pool.images }
+        ensures vault { result.1.vault ≡ self.entry.pool.supply.bases.objects.vault }
         ensures written { D.tells → AreWritten N.opens D.told pass.new result.0 }
         ensures seen { IsPrefix pass.old.log pass.new.log × (pass.old.durable ≤ pass.new.durable) }
     {

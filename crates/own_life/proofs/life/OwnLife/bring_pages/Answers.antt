@@ -11,11 +11,15 @@ loop-taken-init g c = record {
   goes = goes_self c.args.self.now c.requires.open;
   upkeep = upkeep_none c.args.self.now.history;
   counted = omega arith;
+  idle = c.requires.idle;
   names = refl;
 }
 
 pub bring_next-requires-clause-open : goal.bring_next-requires-clause-open
 bring_next-requires-clause-open g c = c.loop-taken.invariant.goes.ended
+
+pub bring_next-requires-clause-idle : goal.bring_next-requires-clause-idle
+bring_next-requires-clause-idle g c = c.loop-taken.invariant.idle
 
 pub returns-in_err-bring_next-clause-upkeep : goal.returns-in_err-bring_next-clause-upkeep
 returns-in_err-bring_next-clause-upkeep g c = upkeep_then c.args.self.now.history c.loop-taken.self.history c.bring_next.new.self.history c.loop-taken.invariant.upkeep c.bring_next.ensures.upkeep
@@ -34,5 +38,6 @@ loop-taken-preserved g c = record {
   goes = goes_then c.args.self.now c.loop-taken.self c.bring_next.new.self c.loop-taken.invariant.goes c.in_ok-bring_next.ensures.goes;
   upkeep = upkeep_then c.args.self.now.history c.loop-taken.self.history c.bring_next.new.self.history c.loop-taken.invariant.upkeep c.bring_next.ensures.upkeep;
   counted = let low = c.loop-taken.invariant.counted in let more = c.bring_next.ensures.counted in omega (arith, low, more);
+  idle = c.bring_next.ensures.idle;
   names = c.bring_next.ensures.names ∙ c.loop-taken.invariant.names;
 }

@@ -12,10 +12,14 @@ loop-page-init g c = record {
   writes = writes_none c.args.self.now.history;
   names = refl;
   clean = λ page some low. absurd (omega (arith, some, low));
+  idle = c.requires.idle;
 }
 
 pub write_next-requires-clause-open : goal.write_next-requires-clause-open
 write_next-requires-clause-open g c = c.loop-page.invariant.goes.ended
+
+pub write_next-requires-clause-idle : goal.write_next-requires-clause-idle
+write_next-requires-clause-idle g c = c.loop-page.invariant.idle
 
 pub returns-in_err-page-clause-written : goal.returns-in_err-page-clause-written
 returns-in_err-page-clause-written g c = writes_then c.args.self.now.history c.loop-page.self.history c.write_next.new.self.history c.loop-page.invariant.writes (upto_pages 1 c.loop-page.self.history c.write_next.new.self.history c.write_next.ensures.written)
@@ -42,6 +46,7 @@ loop-page-preserved g c =
       writes = writes_then c.args.self.now.history c.loop-page.self.history c.write_next.new.self.history c.loop-page.invariant.writes (upto_pages 1 c.loop-page.self.history c.write_next.new.self.history c.write_next.ensures.written);
       names = c.write_next.ensures.names ∙ c.loop-page.invariant.names;
       clean = more_clean (Lacks c.loop-page.pages.pool.frames) (Lacks c.write_next.new.pages.pool.frames) c.loop-page.after c.in-Some.page c.loop-page.invariant.clean c.write_next.ensures.fewer next;
+      idle = c.write_next.ensures.idle;
     }
 
 pub returns-clause-written : goal.returns-clause-written

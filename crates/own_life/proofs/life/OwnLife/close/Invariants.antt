@@ -1,5 +1,5 @@
 use Rattle.std.proofs.Common.{◌≡◌, ◌-◌, ◌^◌}
-use Rattle.own_life.specs.Pages.{Lacks, WritesPages}
+use Rattle.own_life.specs.Pages.{IsIdle, Lacks, WritesPages}
 use Rattle.own_life.specs.State.{GoesOn}
 use Rattle.own_life.proofs.Sequences.{CleanUpto}
 use Rattle.own_life.proofs.life.OwnLife.close.Given as goal
@@ -10,6 +10,7 @@ invariant-loop-page g l = record {
   writes : WritesPages l.fn.self.history l.self.history;
   names : l.self.active ≡ l.fn.self.active;
   clean : CleanUpto (Lacks l.pages.pool.frames) l.after;
+  idle : IsIdle l.pages.pool.out l.pages.pool.reserves;
 }
 
 abbrev pub decreases-loop-page : goal.decreases-loop-page

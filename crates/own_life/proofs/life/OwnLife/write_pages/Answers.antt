@@ -13,10 +13,14 @@ loop-taken-init g c = record {
   awaits = λ page is. is;
   counted = refl;
   names = refl;
+  idle = c.requires.idle;
 }
 
 pub write_next-requires-clause-open : goal.write_next-requires-clause-open
 write_next-requires-clause-open g c = c.loop-taken.invariant.goes.ended
+
+pub write_next-requires-clause-idle : goal.write_next-requires-clause-idle
+write_next-requires-clause-idle g c = c.loop-taken.invariant.idle
 
 pub returns-in_err-write_next-clause-written : goal.returns-in_err-write_next-clause-written
 returns-in_err-write_next-clause-written g c =
@@ -41,4 +45,5 @@ loop-taken-preserved g c = record {
   awaits = λ page is. c.loop-taken.invariant.awaits page (c.write_next.ensures.awaits page is);
   counted = c.write_next.ensures.counted ∙ c.loop-taken.invariant.counted;
   names = c.write_next.ensures.names ∙ c.loop-taken.invariant.names;
+  idle = c.write_next.ensures.idle;
 }

@@ -1,5 +1,5 @@
 use Rattle.std.proofs.Common.{◌≡◌, ℕ}
-use Rattle.own_life.specs.Pages.{AllBut, AwaitsRedo, Lacks, WritesUpto}
+use Rattle.own_life.specs.Pages.{AllBut, AwaitsRedo, IsIdle, Lacks, WritesUpto}
 use Rattle.own_life.specs.State.{GoesOn}
 use Rattle.own_life.proofs.life.OwnLife.write_pages.Given as goal
 
@@ -11,4 +11,5 @@ invariant-loop-taken g l = record {
   awaits : (page : ℕ) → AwaitsRedo l.pages.pool.plan page → AwaitsRedo l.fn.pages.pool.plan page;
   counted : l.pages.pool.supply.bases.faults ≡ l.fn.pages.pool.supply.bases.faults;
   names : l.self.active ≡ l.fn.self.active;
+  idle : IsIdle l.pages.pool.out l.pages.pool.reserves;
 }
