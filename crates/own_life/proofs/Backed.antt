@@ -99,7 +99,10 @@ module _ (opens : List Record → Type 0) (ledger sessions : LedgerName) (a a' :
   adds_backup backup own b = record { own = own; each = each_by (backups.is_of_backup backup) (IsOfBackup backup) (of_backup backup) own b.kinds; added = gained own b.gains }
 
   pub backed_up : (r : Result ℕ Fault) → backups.BacksUpOr opens ledger sessions r (known a t no_claims) (known a' t' no_claims) → BacksUp opens r t.log t'.log t'.durable
-  backed_up (Ok backup) b = (adds_backup backup b.own b.adds, λ opening may. (record { above = b.above opening may; pages = λ page is. b.pages opening page may is }, b.durable opening may))
+  backed_up (Ok backup) b = (
+    record { own = b.own; each = each_by (backups.is_of_backup backup) (IsOfBackup backup) (of_backup backup) b.own b.adds.kinds; added = gained b.own b.adds.gains },
+    λ opening may. (record { above = b.above opening may; pages = λ page is. b.pages opening page may is }, b.durable opening may),
+  )
   backed_up (Err f) b = (b.backup, adds_backup b.backup b.own b.adds)
 
   backed_gains : (r : Result ℕ Fault) → backups.BacksUpOr opens ledger sessions r (known a t no_claims) (known a' t' no_claims) → (own : List Entry) × Gains opens ledger sessions own (known a t no_claims) (known a' t' no_claims)
@@ -162,5 +165,5 @@ archive_fails opens log_faults made w w' v v' a a' h faults.Memory more e = e.1
 archive_fails opens log_faults made w w' v v' a a' h faults.LogFault more e = (e.1.1, inr e.1.2)
 archive_fails opens log_faults made w w' v v' a a' h faults.VaultFault more e = (e.0, more refl)
 archive_fails opens log_faults made w w' v v' a a' h (faults.Ended at) more e = e.1
-archive_fails opens log_faults made w w' v v' a a' h (faults.LogBad block byte) more e = (record { ended = e.1.2.0 ∙ sym e.1.0.0; amount = e.1.2.1 ∙ sym e.1.0.1 }, e.0)
+archive_fails opens log_faults made w w' v v' a a' h (faults.LogBad block byte) more e = (record { ended = e.1.1.0 ∙ sym e.1.0.0; amount = e.1.1.1 ∙ sym e.1.0.1 }, e.0)
 archive_fails opens log_faults made w w' v v' a a' h _ more e = absurd e.0

@@ -7,6 +7,7 @@ pub mod Named
 pub mod Numbered
 pub mod Surveyed
 pub mod Written
+mod Begun
 mod Helped
 mod Redone
 mod Restored

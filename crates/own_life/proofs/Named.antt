@@ -11,7 +11,7 @@ use Rattle.command_laws.specs.Names.{Active}
 use Rattle.store_life.specs.SoFar.{left_by}
 use Rattle.store_life.specs.Steps.{StepsBack}
 use Rattle.store_life.specs.Turns.{Asks, EndsBy}
-use Rattle.own_life.specs.Kept.{without_crowd, without_vault}
+use Rattle.own_life.specs.Kept.{without_crowd}
 use Rattle.own_life.specs.State.{BeginsAs, LifeState}
 
 -- ---- a crowd

@@ -15,9 +15,11 @@ use listed_log::ListedLog;
 use media::{Disk, PageDevice, Vault};
 use named_objects::OwnObjects;
 use operators::Operators;
-use page_ops::{Ground, Life, Tokens};
+use own_journal::OwnJournal;
+use page_ops::{Ground, Life, Tokens, VaultFaults};
 use plain_store::{PlainStore, StoreRefused, open_store};
 use std::alloc::Global;
+use std::sync::ledger::Share;
 use store_life::StoreLife;
 use vault_bases::{Tally, VaultBases};
 
@@ -63,7 +65,7 @@ pub fn open_life<'a, L: Disk, D: PageDevice, V: Vault, N: Life>(
                 vault_faults,
                 ..
             } = store;
-            let share = journal.counts.vault_faults.split_off(1, 0);
+            let share = vault_share(&mut journal);
             let objects = OwnObjects::new(vault, maint, pass.copy(&ground.board));
             let faults = Tally::new(vault_faults, share);
             let bases = VaultBases { objects, faults };
@@ -78,4 +80,17 @@ pub fn open_life<'a, L: Disk, D: PageDevice, V: Vault, N: Life>(
             Err(LifeRefused { log, device, vault })
         }
     }
+}
+
+/// A part of the count of the vault's faults, of which none was counted.
+fn vault_share<L: Disk, N: Life>(journal: &mut OwnJournal<'_, L, N>) -> Share<VaultFaults<N>>
+    requires parts { 0 < journal.old.counts.vault_faults.parts }
+    requires none { journal.old.counts.vault_faults.amount ≡ 0 }
+    ensures parts { 0 < result.parts }
+    ensures journal { journal.new.journal ≡ journal.old.journal }
+    ensures entries { journal.new.counts.entries ≡ journal.old.counts.entries }
+    ensures log_faults { journal.new.counts.log_faults ≡ journal.old.counts.log_faults }
+    ensures ended { journal.new.counts.ended ≡ journal.old.counts.ended }
+{
+    journal.counts.vault_faults.split_off(1, 0)
 }
