@@ -1,19 +1,18 @@
 -- What a backup and an archive add to a life of which nobody else enters anything.
-use Rattle.std.proofs.Common.{◌≡◌, ℕ, ◌+◌, ◌<◌, ◌≤◌, true, List, [], ◌∷◌, ◌++◌, length, Result, Ok, Err, sym, ap, subst, ◌∙◌, append-nil, arith, inl, inr, refl}
+use Rattle.std.proofs.Common.{◌≡◌, ℕ, ◌+◌, ◌<◌, ◌≤◌, true, List, [], ◌∷◌, ◌++◌, Result, Ok, Err, sym, subst, ◌∙◌, arith, inl, inr, refl}
 use Rattle.std.specs.Prelude.{◌⊎◌}
 use Rattle.std.specs.List.{All}
 use Rattle.std.proofs.lemmas.Bool.{eqb-true}
 use Rattle.std.proofs.lemmas.List.Elements.{All-cons, All-nil}
 use Rattle.front.specs.Seen.{PassSeen}
 use Rattle.front.proofs.Keeping.{prefix_self}
-use Rattle.media.specs.Cause.{Rose}
 use Rattle.store_model.specs.declared.fault.Fault.{Fault}
 use Rattle.store_model.specs.declared.fault.Fault.TheVariants as faults
 use Rattle.wal_record.specs.declared.entry.Entry.{Entry}
 use Rattle.wal_record.specs.declared.entry.Entry.TheVariants.{Rec, Repaired}
 use Rattle.wal_record.specs.declared.record.Record.{Record}
 use Rattle.wal_record.specs.declared.record.Record.TheVariants as kinds
-use Rattle.page_ops.specs.Causes.{EndsBy, FailsToBring, FailsToRead}
+use Rattle.page_ops.specs.Causes.{FailsToBring}
 use Rattle.page_ops.specs.Claims.{no_claims}
 use Rattle.page_ops.specs.Gains.{Gains}
 use Rattle.page_ops.specs.Groups.{Each}
@@ -21,7 +20,6 @@ use Rattle.page_ops.specs.Names.{LedgerName}
 use Rattle.page_ops.specs.Seeing.{Account, Keeps, known}
 use Rattle.segment_restore.specs.Faults.{of_vault}
 use Rattle.command_laws.specs.Alone.{IsAlone}
-use Rattle.command_laws.specs.Commands.{IsUpkeep}
 use Rattle.command_laws.specs.Names.{Active, AreNamed}
 use Rattle.command_laws.proofs.Alone.{entered, still_alone}
 use Rattle.command_laws.proofs.Listed.{each_by}

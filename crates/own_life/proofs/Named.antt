@@ -1,16 +1,8 @@
 -- A refusal that is told as want of memory says no less.
-use Rattle.std.proofs.Common.{◌≡◌, ℕ, Bool, true, false, List, Result, Ok, Err, refl}
-use Rattle.std.specs.Prelude.{IfErr, IfOk, OnOk}
+use Rattle.std.proofs.Common.{◌≡◌, ℕ, List, Result, Ok, Err}
+use Rattle.std.specs.Prelude.{OnOk}
 use Rattle.store_model.specs.declared.fault.Fault.{Fault}
 use Rattle.store_model.specs.declared.fault.Fault.TheVariants as faults
-use Rattle.store_model.specs.declared.request.Request.{Request}
-use Rattle.wal_record.specs.declared.entry.Entry.{Entry}
-use Rattle.wal_record.specs.declared.record.Record.{Record}
-use Rattle.engine.specs.declared.answered.Answered.{Answered}
-use Rattle.command_laws.specs.Names.{Active}
-use Rattle.store_life.specs.SoFar.{left_by}
-use Rattle.store_life.specs.Steps.{StepsBack}
-use Rattle.store_life.specs.Turns.{Asks, EndsBy}
 use Rattle.own_life.specs.Kept.{without_crowd}
 use Rattle.own_life.specs.State.{BeginsAs, LifeState}
 

@@ -1,6 +1,5 @@
 -- What a page that is written adds to a life, and which pages are dirty then.
-use Rattle.std.proofs.Common.{◌≡◌, ◌≢◌, ℕ, ◌<◌, ◌≤◌, List, [], ◌∷◌, ◌++◌, length, Bool, cond, Some, None, Result, Ok, Err, true, false, refl, sym, ap, subst, ◌∙◌, arith, append-nil, append_assoc, inl, inr}
-use Rattle.std.specs.Prelude.{◌⊎◌}
+use Rattle.std.proofs.Common.{◌≡◌, ◌≢◌, ℕ, ◌<◌, ◌≤◌, List, [], ◌∷◌, ◌++◌, length, Bool, cond, Some, None, Result, Ok, Err, true, false, sym, ap, subst, ◌∙◌, arith, append-nil, append_assoc, inl, inr}
 use Rattle.std.specs.List.{All}
 use Rattle.std.proofs.lemmas.List.Elements.{All-append, All-cons, All-nil}
 use Rattle.front.specs.Seen.{PassSeen}

@@ -9,10 +9,11 @@ use Rattle.runner.proofs.Runs.{ends_here}
 use Rattle.runner.proofs.living.run_life.Goals as goal
 
 pub loop-init : goal.loop-init
-loop-init g c = record { turns = λ v start left told turns b. (turns, b); source = omega arith; sink = omega arith; log = omega arith }
+loop-init g c = record { idle = c.requires.idle; turns = λ v start left told turns b. (turns, b); source = omega arith; sink = omega arith; log = omega arith }
 
 pub loop-preserved : goal.loop-preserved
 loop-preserved g c = record {
+  idle = c.in-Goes.ensures.idle;
   turns = λ v start left told turns b.
       let p = c.loop.invariant.turns v start left told turns b in
       let t = c.in-Goes.ensures.turns v start left told p.0 p.1 in

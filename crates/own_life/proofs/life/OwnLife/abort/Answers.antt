@@ -1,13 +1,11 @@
-use Rattle.std.proofs.Common.{ℕ, List, Some, ap, subst, sym, ◌∙◌, ◌≡◌, Result}
-use Rattle.std.specs.Prelude.{IfErr, OnOk}
-use Rattle.store_model.specs.declared.fault.Fault.{Fault}
+use Rattle.std.proofs.Common.{List, Some, ap, subst, sym, ◌∙◌, ◌≡◌}
 use Rattle.wal_record.specs.declared.entry.Entry.{Entry}
 use Rattle.command_laws.specs.Names.{Active, active_of}
-use Rattle.store_life.specs.SoFar.{actives, left_by}
+use Rattle.store_life.specs.SoFar.{left_by}
 use Rattle.store_life.specs.Turns.{EndsBy}
-use Rattle.own_life.specs.State.{Fails, GoesOn, LifeState}
+use Rattle.own_life.specs.State.{LifeState}
 use Rattle.own_life.proofs.Called.{bring_refused, brings, meets_done}
-use Rattle.own_life.proofs.Going.{called_by, kept_by, names_left, state_of}
+use Rattle.own_life.proofs.Going.{called_by, kept_by, names_left}
 use Rattle.own_life.proofs.life.OwnLife.abort.Goals as goal
 
 pub invariant_of-self : goal.invariant_of-self

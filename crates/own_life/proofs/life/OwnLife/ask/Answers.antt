@@ -1,17 +1,15 @@
-use Rattle.std.proofs.Common.{List, Some, ap, subst, sym, ◌∙◌, ◌≡◌, Result}
-use Rattle.std.specs.Prelude.{IfErr, IfOk, OnOk}
-use Rattle.store_model.specs.declared.fault.Fault.{Fault}
+use Rattle.std.proofs.Common.{List, Some, ap, subst, sym, ◌∙◌, ◌≡◌}
+use Rattle.std.specs.Prelude.{IfErr, IfOk}
 use Rattle.wal_record.specs.declared.entry.Entry.{Entry}
 use Rattle.command_laws.specs.Names.{Active, active_of}
 use Rattle.engine.specs.Applies.{GivesNone}
 use Rattle.engine.specs.Requests.{IsRefusal, lock_of}
 use Rattle.engine.specs.Writes.{LacksRoom}
-use Rattle.engine.specs.declared.answered.Answered.{Answered}
 use Rattle.page_ops.specs.Outcomes.{IsConflict}
 use Rattle.store_life.specs.Turns.{Asks, IsTold}
-use Rattle.own_life.specs.State.{FailsToAnswer, GoesOn, LifeState}
+use Rattle.own_life.specs.State.{LifeState}
 use Rattle.own_life.proofs.Called.{answer_refused, asks, meets_done}
-use Rattle.own_life.proofs.Going.{called_by, kept_by, names_left, state_of}
+use Rattle.own_life.proofs.Going.{called_by, kept_by, names_left}
 use Rattle.own_life.proofs.life.OwnLife.ask.Goals as goal
 
 pub invariant_of-self : goal.invariant_of-self

@@ -1,5 +1,5 @@
 use Rattle.std.proofs.Common.{arith, ℕ, ap, refl, ◌∙◌}
-use Rattle.std.specs.Prelude.{not, IfNone}
+use Rattle.std.specs.Prelude.{not}
 use Rattle.own_life.specs.Pages.{AreRestored, AwaitsRedo}
 use Rattle.own_life.proofs.Helped.{upkeep_none, upkeep_then}
 use Rattle.own_life.proofs.Restored.{when_none}

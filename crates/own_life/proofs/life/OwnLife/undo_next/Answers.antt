@@ -1,13 +1,10 @@
-use Rattle.std.proofs.Common.{ℕ, Bool, List, Option, ap, subst, sym, ◌∙◌, Result}
-use Rattle.std.specs.Prelude.{IfErr, IfOk, OnOk}
-use Rattle.store_model.specs.declared.fault.Fault.{Fault}
+use Rattle.std.proofs.Common.{List, ap, subst, sym, ◌∙◌}
 use Rattle.wal_record.specs.declared.entry.Entry.{Entry}
 use Rattle.store_life.specs.SoFar.{actives}
-use Rattle.store_life.specs.Steps.{AddsUpkeep, StepsBack}
-use Rattle.own_life.specs.Pages.{IsNextRedone}
-use Rattle.own_life.specs.State.{Fails, GoesOn, LifeState}
+use Rattle.store_life.specs.Steps.{StepsBack}
+use Rattle.own_life.specs.State.{LifeState}
 use Rattle.own_life.proofs.Called.{bring_refused, brings, meets_done}
-use Rattle.own_life.proofs.Going.{called_by, kept_by, names_left, state_of}
+use Rattle.own_life.proofs.Going.{called_by, kept_by, names_left}
 use Rattle.own_life.proofs.life.OwnLife.undo_next.Goals as goal
 
 pub invariant_of-self : goal.invariant_of-self

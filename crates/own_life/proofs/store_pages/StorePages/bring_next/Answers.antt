@@ -1,12 +1,11 @@
-use Rattle.std.proofs.Common.{◌<◌, arith, sym, ◌∙◌}
+use Rattle.std.proofs.Common.{◌<◌, arith}
 use Rattle.segment_restore.specs.Faults.{of_vault}
 use Rattle.store_life.specs.SoFar.{actives}
-use Rattle.store_life.proofs.Looked.{looked_alone, looked_same}
 use Rattle.store_life.proofs.Stepped.{upkeep_named}
 use Rattle.rollback.proofs.Composing.{faults_self}
 use Rattle.page_ops.proofs.Composing.{bring_then, done_meets_none}
 use Rattle.own_life.proofs.Redone.{made_upto}
-use Rattle.own_life.proofs.Restored.{none_unrestored, restored_upkeep}
+use Rattle.own_life.proofs.Restored.{restored_upkeep}
 use Rattle.own_life.proofs.store_pages.StorePages.bring_next.Goals as goal
 use Rattle.own_life.proofs.store_pages.StorePages.bring_next.Goals.{in-Some, in-None}
 
