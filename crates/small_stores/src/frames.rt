@@ -49,14 +49,6 @@ impl<N: Life> Frames<N> {
         }
     }
 
-    /// Whether somebody holds the page.
-    pub fn is_held(&self, page: PageNo) -> bool {
-        match self.place_of(page) {
-            Some(place) => self.frames[place].is_none() && self.away[place].is_none(),
-            None => false,
-        }
-    }
-
     /// Whether the page is in its frame.
     fn is_framed(&self, place: usize, page: PageNo) -> bool
         requires { place < length self.now.frames }
