@@ -16,6 +16,8 @@ pub struct OwnPages<N: Life> {
     frames: Frames<N>,
     out: u32,
     reserves: bool,
+    /// How many frames may be asked for until one is refused, and that one; 0 where none is.
+    refused: u32,
 }
 
 impl<N: Life> OwnPages<N> {
@@ -27,7 +29,15 @@ impl<N: Life> OwnPages<N> {
             frames,
             out: 0,
             reserves: false,
+            refused: 0,
         }
+    }
+
+    /// Of the frames that are asked for from now on, the one of this number is refused, as if there were no memory for it.
+    pub fn refuse(&mut self, number: u32)
+        ensures out { self.new.out ≡ self.old.out }
+    {
+        self.refused = number;
     }
 }
 
@@ -62,20 +72,11 @@ impl<N: Life, J: Entering<N>> Pages<N, J> for OwnPages<N> {
         rt: &R,
         _alloc: Global,
         journal: &mut J,
-        page: PageNo,
+        _page: PageNo,
         pass: &mut Pass<Entry, N>,
     ) -> Result<(), Fault> {
-        match self.frames.fetch(page) {
-            Some(mut held) => {
-                see_page(rt, journal, &mut held, pass);
-                self.frames.put_back(held);
-                Ok(())
-            }
-            None => {
-                journal.see(rt, &mut Rights::none(), pass);
-                Err(Fault::Memory)
-            }
-        }
+        journal.see(rt, &mut Rights::none(), pass);
+        Err(Fault::Memory)
     }
 
     #[tactic(auto, using(page_ops::proofs::Gaining::upheld, page_ops::proofs::Gaining::looked))]
@@ -113,6 +114,11 @@ impl<N: Life, J: Entering<N>> Pages<N, J> for OwnPages<N> {
         pass: &mut Pass<Entry, N>,
     ) -> Result<(), Fault> {
         journal.see(rt, &mut Rights::none(), pass);
+        let refused = self.refused;
+        self.refused = refused.saturating_sub(1);
+        if refused == 1 {
+            return Err(Fault::Memory);
+        }
         self.reserves = true;
         Ok(())
     }
