@@ -14,7 +14,7 @@ abbrev pub AreStored : (ObjectName → Stored) → List Record → Type 0
 AreStored told log = (name : ObjectName) (bytes : List ℕ) → Names log name bytes → told name ≡ Synced bytes
 
 -- devices beside the log disk: whether they tell what they hold, and whether that is of a log
-pub record Stores (S : Type 0) : Type 0 where
+pub record Stores (S : Type 0) : Type 1 where
   pub tells : Type 0
   pub are_of : S → List Record → Type 0
 
