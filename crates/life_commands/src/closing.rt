@@ -3,6 +3,7 @@ ghost use Rattle.std.specs.Prelude.{◌≡◌, ◌≤◌, ℕ, None, [], IfErr, 
 ghost use Rattle.script.specs.declared.command.Command.TheVariants as commands;
 ghost use Rattle.life_commands.specs.Causes.{LifeCause};
 ghost use Rattle.life_commands.specs.Promises.{Closed, Refused};
+ghost use Rattle.own_life.specs.Pages.{IsIdle};
 
 use crate::failing::{MOST, fail};
 use crate::status::Status;
@@ -23,6 +24,8 @@ pub fn close<'a, N: Life, L: Disk, D: PageDevice, V: Vault, R: Wait>(
     pages: &mut StorePages<'a, D, V, N>,
     line: u64,
 ) -> Result<Vec<u8>, Status>
+    requires idle { IsIdle pages.old.pool.out pages.old.pool.reserves }
+    ensures idle { IsIdle pages.new.pool.out pages.new.pool.reserves }
     ensures ok { IfOk result (λ lines. Closed L.Disk D.PageDevice V.Vault N.opens life.old life.new lines.items) }
     ensures err { IfErr result (Refused L.Disk N.opens life.old life.new commands.Close line) }
     ensures cause { IfErr result (LifeCause life.old.calls.own life.new.calls.own) }
@@ -44,8 +47,10 @@ fn close_open<'a, N: Life, L: Disk, D: PageDevice, V: Vault, R: Wait>(
     life: &mut OwnLife<'a, L, N>,
     pages: &mut StorePages<'a, D, V, N>,
 ) -> Result<Vec<u8>, Status>
+    requires idle { IsIdle pages.old.pool.out pages.old.pool.reserves }
     requires goes { life.old.ended ≡ None }
     requires active { life.old.active ≡ [] }
+    ensures idle { IsIdle pages.new.pool.out pages.new.pool.reserves }
     ensures ok { IfOk result (λ lines. Closed L.Disk D.PageDevice V.Vault N.opens life.old life.new lines.items) }
     ensures err { IfErr result (λ status. (line : ℕ) → Refused L.Disk N.opens life.old life.new commands.Close line status) }
     ensures cause { IfErr result (LifeCause life.old.calls.own life.new.calls.own) }

@@ -9,6 +9,7 @@ ghost use Rattle.script.specs.declared.command.Device.TheVariants.{Data, Log};
 ghost use Rattle.life_commands.specs.Causes.{LifeCause};
 ghost use Rattle.life_commands.specs.Promises.{Did, Refused};
 ghost use Rattle.life_commands.specs.declared.status.Status.TheVariants as statuses;
+ghost use Rattle.own_life.specs.Pages.{IsIdle};
 
 use crate::status::Status;
 use media::{Disk, PageDevice, Vault};
@@ -25,6 +26,8 @@ pub fn damage<'a, N: Life, D: PageDevice, V: Vault>(
     pages: &mut StorePages<'a, D, V, N>,
     page: PageNo,
 ) -> Result<Vec<u8>, Status>
+    requires idle { IsIdle pages.old.pool.out pages.old.pool.reserves }
+    ensures idle { IsIdle pages.new.pool.out pages.new.pool.reserves }
     ensures line { IfOk result (λ out. out.items ≡ codes "damage " ++ decimal page ++ codes "\n") }
     ensures memory { IfErr result (λ status. status ≡ statuses.Memory) }
     ensures damaged { OnOk result (D.tells → D.spoiled pages.new.pool.images page ⊎ Rose (D.faults pages.old.pool.images) (D.faults pages.new.pool.images)) }
@@ -43,6 +46,8 @@ pub fn fuse<'a, N: Life, L: Disk, D: PageDevice, V: Vault>(
     calls: u64,
     line: u64,
 ) -> Result<Vec<u8>, Status>
+    requires idle { IsIdle pages.old.pool.out pages.old.pool.reserves }
+    ensures idle { IsIdle pages.new.pool.out pages.new.pool.reserves }
     ensures ok { IfOk result (λ lines. Did L.Disk N.opens life.old life.new (commands.Fuse device calls) lines.items) }
     ensures err { IfErr result (Refused L.Disk N.opens life.old life.new (commands.Fuse device calls) line) }
     ensures data { OnOk result (device ≡ Data → Armed D.fuses D.passes D.refused D.own (Some calls) pages.old.pool.images pages.new.pool.images) }
@@ -65,6 +70,8 @@ pub fn renew<'a, N: Life, L: Disk, D: PageDevice, V: Vault>(
     device: Device,
     line: u64,
 ) -> Result<Vec<u8>, Status>
+    requires idle { IsIdle pages.old.pool.out pages.old.pool.reserves }
+    ensures idle { IsIdle pages.new.pool.out pages.new.pool.reserves }
     ensures ok { IfOk result (λ lines. Did L.Disk N.opens life.old life.new (commands.Renew device) lines.items) }
     ensures err { IfErr result (Refused L.Disk N.opens life.old life.new (commands.Renew device) line) }
     ensures data { OnOk result (device ≡ Data → Armed D.fuses D.passes D.refused D.own None pages.old.pool.images pages.new.pool.images) }
@@ -86,6 +93,8 @@ fn arm<'a, N: Life, L: Disk, D: PageDevice, V: Vault>(
     device: Device,
     n: Option<u64>,
 )
+    requires idle { IsIdle pages.old.pool.out pages.old.pool.reserves }
+    ensures idle { IsIdle pages.new.pool.out pages.new.pool.reserves }
     ensures same { (life.new.history ≡ life.old.history) × (life.new.active ≡ life.old.active) × (life.new.ended ≡ life.old.ended) }
     ensures own { life.new.calls.own ≡ life.old.calls.own }
     ensures log { device ≡ Log → ArmsDisk L.fuses n life.old.calls life.new.calls }

@@ -4,6 +4,7 @@ ghost use Rattle.command_laws.specs.Names.{is_active};
 ghost use Rattle.script.specs.declared.command.Command.TheVariants as commands;
 ghost use Rattle.life_commands.specs.Causes.{LifeCause};
 ghost use Rattle.life_commands.specs.Promises.{Did, Refused};
+ghost use Rattle.own_life.specs.Pages.{IsIdle};
 
 use crate::failing::{MOST, fail};
 use crate::status::Status;
@@ -49,8 +50,10 @@ pub fn abort_open<'a, N: Life, L: Disk, D: PageDevice, V: Vault, R: Wait>(
     pages: &mut StorePages<'a, D, V, N>,
     name: &Name,
 ) -> Result<Vec<u8>, Status>
+    requires idle { IsIdle pages.old.pool.out pages.old.pool.reserves }
     requires active { is_active life.old.active name.now ≡ true }
     requires goes { life.old.ended ≡ None }
+    ensures idle { IsIdle pages.new.pool.out pages.new.pool.reserves }
     ensures ok { IfOk result (λ lines. Did L.Disk N.opens life.old life.new (commands.Abort name.now) lines.items) }
     ensures err { IfErr result (λ status. (line : ℕ) → Refused L.Disk N.opens life.old life.new (commands.Abort name.now) line status) }
     ensures cause { IfErr result (LifeCause life.old.calls.own life.new.calls.own) }

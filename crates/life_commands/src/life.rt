@@ -7,6 +7,7 @@ ghost use Rattle.life_commands.specs.Causes.{LifeCause};
 ghost use Rattle.life_commands.specs.Promises.{Did, Refused};
 ghost use Rattle.life_commands.specs.Rows.{IsNoClose, IsNoStop};
 ghost use Rattle.life_commands.specs.declared.status.Status.TheVariants as statuses;
+ghost use Rattle.own_life.specs.Pages.{IsIdle};
 
 use crate::asking::ask_open;
 use crate::devices::{damage, fuse, renew};
@@ -32,8 +33,10 @@ pub fn step<'a, N: Life, L: Disk, D: PageDevice, V: Vault, R: Wait>(
     command: &Command,
     line: u64,
 ) -> Result<Vec<u8>, Status>
+    requires idle { IsIdle pages.old.pool.out pages.old.pool.reserves }
     requires stop { IsNoStop command.now }
     requires close { IsNoClose command.now }
+    ensures idle { IsIdle pages.new.pool.out pages.new.pool.reserves }
     ensures ok { IfOk result (λ lines. Did L.Disk N.opens life.old life.new command.now lines.items) }
     ensures err { IfErr result (Refused L.Disk N.opens life.old life.new command.now line) }
     ensures cause { IfErr result (LifeCause life.old.calls.own life.new.calls.own) }
@@ -123,6 +126,8 @@ fn ask<'a, N: Life, L: Disk, D: PageDevice, V: Vault, R: Wait>(
     request: &Request,
     line: u64,
 ) -> Result<Vec<u8>, Status>
+    requires idle { IsIdle pages.old.pool.out pages.old.pool.reserves }
+    ensures idle { IsIdle pages.new.pool.out pages.new.pool.reserves }
     ensures ok { IfOk result (λ lines. Did L.Disk N.opens life.old life.new (commands.Ask name.now request.now) lines.items) }
     ensures err { IfErr result (Refused L.Disk N.opens life.old life.new (commands.Ask name.now request.now) line) }
     ensures cause { IfErr result (LifeCause life.old.calls.own life.new.calls.own) }
@@ -166,6 +171,8 @@ fn abort<'a, N: Life, L: Disk, D: PageDevice, V: Vault, R: Wait>(
     name: &Name,
     line: u64,
 ) -> Result<Vec<u8>, Status>
+    requires idle { IsIdle pages.old.pool.out pages.old.pool.reserves }
+    ensures idle { IsIdle pages.new.pool.out pages.new.pool.reserves }
     ensures ok { IfOk result (λ lines. Did L.Disk N.opens life.old life.new (commands.Abort name.now) lines.items) }
     ensures err { IfErr result (Refused L.Disk N.opens life.old life.new (commands.Abort name.now) line) }
     ensures cause { IfErr result (LifeCause life.old.calls.own life.new.calls.own) }
@@ -202,6 +209,8 @@ fn backup<'a, N: Life, L: Disk, D: PageDevice, V: Vault, R: Wait>(
     life: &mut OwnLife<'a, L, N>,
     pages: &mut StorePages<'a, D, V, N>,
 ) -> Result<Vec<u8>, Status>
+    requires idle { IsIdle pages.old.pool.out pages.old.pool.reserves }
+    ensures idle { IsIdle pages.new.pool.out pages.new.pool.reserves }
     ensures ok { IfOk result (λ lines. Did L.Disk N.opens life.old life.new commands.Backup lines.items) }
     ensures err { IfErr result (λ status. (line : ℕ) → Refused L.Disk N.opens life.old life.new commands.Backup line status) }
     ensures cause { IfErr result (LifeCause life.old.calls.own life.new.calls.own) }
@@ -219,6 +228,8 @@ fn archive<'a, N: Life, L: Disk, D: PageDevice, V: Vault, R: Wait>(
     life: &mut OwnLife<'a, L, N>,
     pages: &mut StorePages<'a, D, V, N>,
 ) -> Result<Vec<u8>, Status>
+    requires idle { IsIdle pages.old.pool.out pages.old.pool.reserves }
+    ensures idle { IsIdle pages.new.pool.out pages.new.pool.reserves }
     ensures ok { IfOk result (λ lines. Did L.Disk N.opens life.old life.new commands.Archive lines.items) }
     ensures err { IfErr result (λ status. (line : ℕ) → Refused L.Disk N.opens life.old life.new commands.Archive line status) }
     ensures cause { IfErr result (LifeCause life.old.calls.own life.new.calls.own) }
@@ -236,6 +247,8 @@ fn lose<'a, N: Life, L: Disk, D: PageDevice, V: Vault, R: Wait>(
     life: &mut OwnLife<'a, L, N>,
     pages: &mut StorePages<'a, D, V, N>,
 ) -> Result<Vec<u8>, Status>
+    requires idle { IsIdle pages.old.pool.out pages.old.pool.reserves }
+    ensures idle { IsIdle pages.new.pool.out pages.new.pool.reserves }
     ensures ok { IfOk result (λ lines. Did L.Disk N.opens life.old life.new commands.Lose lines.items) }
     ensures err { IfErr result (λ status. (line : ℕ) → Refused L.Disk N.opens life.old life.new commands.Lose line status) }
     ensures cause { IfErr result (LifeCause life.old.calls.own life.new.calls.own) }
@@ -254,6 +267,8 @@ fn help<'a, N: Life, L: Disk, D: PageDevice, V: Vault, R: Wait>(
     pages: &mut StorePages<'a, D, V, N>,
     steps: u32,
 ) -> Result<Vec<u8>, Status>
+    requires idle { IsIdle pages.old.pool.out pages.old.pool.reserves }
+    ensures idle { IsIdle pages.new.pool.out pages.new.pool.reserves }
     ensures ok { IfOk result (λ lines. Did L.Disk N.opens life.old life.new (commands.Help steps) lines.items) }
     ensures err { IfErr result (λ status. (line : ℕ) → Refused L.Disk N.opens life.old life.new (commands.Help steps) line status) }
     ensures cause { IfErr result (LifeCause life.old.calls.own life.new.calls.own) }

@@ -3,6 +3,7 @@ ghost use Rattle.std.specs.Prelude.{◌≡◌, ◌≤◌, ℕ, None, IfErr, IfOk
 ghost use Rattle.script.specs.declared.command.Command.TheVariants as commands;
 ghost use Rattle.life_commands.specs.Causes.{LifeCause};
 ghost use Rattle.life_commands.specs.Promises.{Did, Refused};
+ghost use Rattle.own_life.specs.Pages.{IsIdle};
 
 use crate::failing::{MOST, fail};
 use crate::status::Status;
@@ -21,7 +22,9 @@ pub fn backup_open<'a, N: Life, L: Disk, D: PageDevice, V: Vault, R: Wait>(
     life: &mut OwnLife<'a, L, N>,
     pages: &mut StorePages<'a, D, V, N>,
 ) -> Result<Vec<u8>, Status>
+    requires idle { IsIdle pages.old.pool.out pages.old.pool.reserves }
     requires { life.old.ended ≡ None }
+    ensures idle { IsIdle pages.new.pool.out pages.new.pool.reserves }
     ensures ok { IfOk result (λ lines. Did L.Disk N.opens life.old life.new commands.Backup lines.items) }
     ensures err { IfErr result (λ status. (line : ℕ) → Refused L.Disk N.opens life.old life.new commands.Backup line status) }
     ensures cause { IfErr result (LifeCause life.old.calls.own life.new.calls.own) }
@@ -48,7 +51,9 @@ pub fn archive_open<'a, N: Life, L: Disk, D: PageDevice, V: Vault, R: Wait>(
     life: &mut OwnLife<'a, L, N>,
     pages: &mut StorePages<'a, D, V, N>,
 ) -> Result<Vec<u8>, Status>
+    requires idle { IsIdle pages.old.pool.out pages.old.pool.reserves }
     requires { life.old.ended ≡ None }
+    ensures idle { IsIdle pages.new.pool.out pages.new.pool.reserves }
     ensures ok { IfOk result (λ lines. Did L.Disk N.opens life.old life.new commands.Archive lines.items) }
     ensures err { IfErr result (λ status. (line : ℕ) → Refused L.Disk N.opens life.old life.new commands.Archive line status) }
     ensures cause { IfErr result (LifeCause life.old.calls.own life.new.calls.own) }

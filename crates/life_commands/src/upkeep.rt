@@ -4,6 +4,7 @@ ghost use Rattle.script.specs.declared.command.Command.TheVariants as commands;
 ghost use Rattle.life_commands.specs.Causes.{LifeCause};
 ghost use Rattle.life_commands.specs.Faults.{counts_of};
 ghost use Rattle.life_commands.specs.Promises.{Did, Refused};
+ghost use Rattle.own_life.specs.Pages.{IsIdle};
 
 use crate::failing::{MOST, fail};
 use crate::status::Status;
@@ -49,7 +50,9 @@ pub fn lose_open<'a, N: Life, L: Disk, D: PageDevice, V: Vault, R: Wait>(
     life: &mut OwnLife<'a, L, N>,
     pages: &mut StorePages<'a, D, V, N>,
 ) -> Result<Vec<u8>, Status>
+    requires idle { IsIdle pages.old.pool.out pages.old.pool.reserves }
     requires goes { life.old.ended ≡ None }
+    ensures idle { IsIdle pages.new.pool.out pages.new.pool.reserves }
     ensures ok { IfOk result (λ lines. Did L.Disk N.opens life.old life.new commands.Lose lines.items) }
     ensures err { IfErr result (λ status. (line : ℕ) → Refused L.Disk N.opens life.old life.new commands.Lose line status) }
     ensures cause { IfErr result (LifeCause life.old.calls.own life.new.calls.own) }
@@ -77,7 +80,9 @@ pub fn help_open<'a, N: Life, L: Disk, D: PageDevice, V: Vault, R: Wait>(
     pages: &mut StorePages<'a, D, V, N>,
     steps: u32,
 ) -> Result<Vec<u8>, Status>
+    requires idle { IsIdle pages.old.pool.out pages.old.pool.reserves }
     requires goes { life.old.ended ≡ None }
+    ensures idle { IsIdle pages.new.pool.out pages.new.pool.reserves }
     ensures ok { IfOk result (λ lines. Did L.Disk N.opens life.old life.new (commands.Help steps) lines.items) }
     ensures err { IfErr result (λ status. (line : ℕ) → Refused L.Disk N.opens life.old life.new (commands.Help steps) line status) }
     ensures cause { IfErr result (LifeCause life.old.calls.own life.new.calls.own) }

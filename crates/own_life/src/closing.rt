@@ -2,7 +2,7 @@
 ghost use Rattle.std.specs.Prelude.{◌≡◌, ◌<◌, ◌≤◌, ℕ, List, None, IfErr, IfOk, OnOk, length};
 ghost use Rattle.wal_record.specs.History.{life_log};
 ghost use Rattle.wal_record.specs.declared.record.Record.{Record};
-ghost use Rattle.own_life.specs.Pages.{AwaitsRedo, IsNextWritten, Lacks, OneLess, WritesPages, WritesUpto};
+ghost use Rattle.own_life.specs.Pages.{AwaitsRedo, IsIdle, IsNextWritten, Lacks, OneLess, WritesPages, WritesUpto};
 ghost use Rattle.own_life.specs.State.{Fails, FailsToFlush, GoesOn};
 
 use crate::life::OwnLife;
@@ -23,7 +23,9 @@ impl<'a, L: Disk, N: Life> OwnLife<'a, L, N> {
         pages: &mut StorePages<'a, D, V, N>,
         after: PageNo,
     ) -> Result<Option<PageNo>, Fault>
+        requires idle { IsIdle pages.old.pool.out pages.old.pool.reserves }
         requires open { self.old.ended ≡ None }
+        ensures idle { IsIdle pages.new.pool.out pages.new.pool.reserves }
         ensures next { IfOk result (IsNextWritten (Lacks pages.new.pool.frames) after) }
         ensures fewer { (page : ℕ) → Lacks pages.new.pool.frames page → Lacks pages.old.pool.frames page }
         ensures one { IfOk result (OneLess (Lacks pages.old.pool.frames) (Lacks pages.new.pool.frames)) }
@@ -64,7 +66,9 @@ impl<'a, L: Disk, N: Life> OwnLife<'a, L, N> {
         alloc: Global,
         pages: &mut StorePages<'a, D, V, N>,
     ) -> Result<(), Fault>
+        requires idle { IsIdle pages.old.pool.out pages.old.pool.reserves }
         requires open { self.old.ended ≡ None }
+        ensures idle { IsIdle pages.new.pool.out pages.new.pool.reserves }
         ensures written { WritesPages self.old.history self.new.history }
         ensures clean { OnOk result ((page : ℕ) → 0 < page → Lacks pages.new.pool.frames page → ⊥) }
         ensures names { self.new.active ≡ self.old.active }

@@ -4,7 +4,7 @@ ghost use Rattle.maintenance.specs.Steps.{AreAllOver};
 ghost use Rattle.rollback.specs.Owners.{IsLoserOf};
 ghost use Rattle.store_life.specs.Steps.{AddsUpkeep, StepsBack};
 ghost use Rattle.own_life.specs.Helps.{AddsSteps, Helps, Undoes, UndoesSome};
-ghost use Rattle.own_life.specs.Pages.{AllBut, AreRestored, AwaitsRedo, Lacks, WritesUpto};
+ghost use Rattle.own_life.specs.Pages.{AllBut, AreRestored, AwaitsRedo, IsIdle, Lacks, WritesUpto};
 ghost use Rattle.own_life.specs.State.{Fails, FailsOver, GoesOn};
 
 use crate::life::OwnLife;
@@ -29,7 +29,9 @@ impl<'a, L: Disk, N: Life> OwnLife<'a, L, N> {
         pages: &mut StorePages<'a, D, V, N>,
         steps: u32,
     ) -> Result<u32, Fault>
+        requires idle { IsIdle pages.old.pool.out pages.old.pool.reserves }
         requires open { self.old.ended ≡ None }
+        ensures idle { IsIdle pages.new.pool.out pages.new.pool.reserves }
         ensures helps { Helps (IsLoserOf N.opens) steps self.old.history self.new.history }
         ensures taken { IfOk result (λ taken. taken ≤ steps) }
         ensures losers { IfOk result (λ taken. AreAllOver N.opens self.new.history ⊎ ((taken ≡ steps) × AddsSteps steps self.old.history self.new.history)) }
@@ -55,7 +57,9 @@ impl<'a, L: Disk, N: Life> OwnLife<'a, L, N> {
         pages: &mut StorePages<'a, D, V, N>,
         steps: u32,
     ) -> Result<u32, Fault>
+        requires idle { IsIdle pages.old.pool.out pages.old.pool.reserves }
         requires open { self.old.ended ≡ None }
+        ensures idle { IsIdle pages.new.pool.out pages.new.pool.reserves }
         ensures few { IfOk result (λ taken. taken ≤ steps) }
         ensures undoes { IfOk result (λ taken. Undoes (IsLoserOf N.opens) taken self.old.history self.new.history) }
         ensures over { IfOk result (λ taken. taken < steps → AreAllOver N.opens self.new.history) }
@@ -81,7 +85,9 @@ impl<'a, L: Disk, N: Life> OwnLife<'a, L, N> {
         pages: &mut StorePages<'a, D, V, N>,
         steps: u32,
     ) -> Result<u32, Fault>
+        requires idle { IsIdle pages.old.pool.out pages.old.pool.reserves }
         requires open { self.old.ended ≡ None }
+        ensures idle { IsIdle pages.new.pool.out pages.new.pool.reserves }
         ensures few { IfOk result (λ taken. taken ≤ steps) }
         ensures restored { IfOk result (λ taken. taken < steps → AreRestored N.opens self.new.history) }
         ensures redone { IfOk result (λ taken. taken < steps → (page : ℕ) → AwaitsRedo pages.new.pool.plan page → ⊥) }
@@ -107,7 +113,9 @@ impl<'a, L: Disk, N: Life> OwnLife<'a, L, N> {
         pages: &mut StorePages<'a, D, V, N>,
         steps: u32,
     ) -> Result<u32, Fault>
+        requires idle { IsIdle pages.old.pool.out pages.old.pool.reserves }
         requires open { self.old.ended ≡ None }
+        ensures idle { IsIdle pages.new.pool.out pages.new.pool.reserves }
         ensures few { IfOk result (λ taken. taken ≤ steps) }
         ensures stored { OnOk result (AllBut steps (Lacks pages.old.pool.frames) (Lacks pages.new.pool.frames)) }
         ensures clean { IfOk result (λ taken. taken < steps → (page : ℕ) → 0 < page → Lacks pages.new.pool.frames page → ⊥) }
@@ -133,7 +141,9 @@ impl<'a, L: Disk, N: Life> OwnLife<'a, L, N> {
         alloc: Global,
         pages: &mut StorePages<'a, D, V, N>,
     ) -> Result<bool, Fault>
+        requires idle { IsIdle pages.old.pool.out pages.old.pool.reserves }
         requires open { self.old.ended ≡ None }
+        ensures idle { IsIdle pages.new.pool.out pages.new.pool.reserves }
         ensures steps { StepsBack N.opens result self.old.history self.new.history }
         ensures names { self.new.active ≡ self.old.active }
         ensures goes { OnOk result (GoesOn self.old self.new) }
@@ -153,7 +163,9 @@ impl<'a, L: Disk, N: Life> OwnLife<'a, L, N> {
         alloc: Global,
         pages: &mut StorePages<'a, D, V, N>,
     ) -> Result<Option<PageNo>, Fault>
+        requires idle { IsIdle pages.old.pool.out pages.old.pool.reserves }
         requires open { self.old.ended ≡ None }
+        ensures idle { IsIdle pages.new.pool.out pages.new.pool.reserves }
         ensures restored { IfOk result (λ page. IfNone page (AreRestored N.opens self.new.history)) }
         ensures redone { IfOk result (λ page. IfNone page ((q : ℕ) → AwaitsRedo pages.new.pool.plan q → ⊥)) }
         ensures upkeep { AddsUpkeep self.old.history self.new.history }

@@ -17,7 +17,7 @@ ghost use Rattle.wal_record.specs.declared.record.Record.{Record};
 ghost use Rattle.store_life.specs.SoFar.{left_by};
 ghost use Rattle.store_life.specs.Turns.{Asks, EndsBy, IsCheckpointed, IsLost, IsTold};
 ghost use Rattle.own_life.specs.Kept.{without_crowd};
-ghost use Rattle.own_life.specs.Pages.{HasNone, Lacks};
+ghost use Rattle.own_life.specs.Pages.{HasNone, IsIdle, Lacks};
 ghost use Rattle.own_life.specs.State.{AreLeft, BeginsAs, FailsToAnswer, FailsToBegin, FailsToCommit, FailsToFlush, FailsOver, FailsToLook, GoesOn, IsCommitted, name_by};
 
 use crate::leaving::leave_vault;
@@ -131,8 +131,10 @@ impl<'a, L: Disk, N: Life> OwnLife<'a, L, N> {
         name: &Name,
         request: Request,
     ) -> Result<Answered, Fault>
+        requires idle { IsIdle pages.old.pool.out pages.old.pool.reserves }
         requires open { self.old.ended ≡ None }
         requires active { is_active self.old.active name.now ≡ true }
+        ensures idle { IsIdle pages.new.pool.out pages.new.pool.reserves }
         ensures asks { (a : Active) → active_of self.old.active name.now ≡ Some a → Asks N.opens a.session a.tx request result self.old.history self.new.history }
         ensures told { (a : Active) → active_of self.old.active name.now ≡ Some a → IfOk result (IsTold N.opens a.session a.tx request self.new.history) }
         ensures names { self.new.active ≡ self.old.active }
@@ -174,8 +176,10 @@ impl<'a, L: Disk, N: Life> OwnLife<'a, L, N> {
         pages: &mut StorePages<'a, D, V, N>,
         name: &Name,
     ) -> Result<Pos, Fault>
+        requires idle { IsIdle pages.old.pool.out pages.old.pool.reserves }
         requires open { self.old.ended ≡ None }
         requires active { is_active self.old.active name.now ≡ true }
+        ensures idle { IsIdle pages.new.pool.out pages.new.pool.reserves }
         ensures aborts { (a : Active) → active_of self.old.active name.now ≡ Some a → EndsBy N.opens a.tx result self.old.history self.new.history }
         ensures names { self.new.active ≡ left_by result self.old.active name.now }
         ensures goes { OnOk result (GoesOn self.old self.new) }
@@ -212,7 +216,9 @@ impl<'a, L: Disk, N: Life> OwnLife<'a, L, N> {
         alloc: Global,
         pages: &mut StorePages<'a, D, V, N>,
     ) -> Result<Lsn, Fault>
+        requires idle { IsIdle pages.old.pool.out pages.old.pool.reserves }
         requires open { self.old.ended ≡ None }
+        ensures idle { IsIdle pages.new.pool.out pages.new.pool.reserves }
         ensures entered { IsLost result self.old.history self.new.history }
         ensures flushed { IfOk result (λ lsn. (opening : List Record) → N.opens opening → lsn ≤ self.new.durable) }
         ensures clean { OnOk result ((page : ℕ) → Lacks pages.new.pool.frames page → ⊥) }

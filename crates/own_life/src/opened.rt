@@ -6,6 +6,7 @@ ghost use Rattle.named_objects.specs.Named.{AreNamed};
 ghost use Rattle.plain_store.specs.Opens.{AreEarlier};
 ghost use Rattle.wal_record.specs.declared.record.Record.{Record};
 ghost use Rattle.own_life.specs.State.{HasJustBegun};
+ghost use Rattle.own_life.specs.Pages.{IsIdle};
 
 use crate::life::OwnLife;
 use crate::store_pages::StorePages;
@@ -49,6 +50,7 @@ pub fn open_life<'a, L: Disk, D: PageDevice, V: Vault, N: Life>(
     requires history { (tokens.front ≡ []) × (tokens.mark ≡ 0) × (tokens.pass.log ≡ []) }
     requires books { (tokens.books.pages ≡ []) × (tokens.books.sessions ≡ []) × (tokens.books.maint ≡ []) }
     ensures begins { IfOk result (λ opened. HasJustBegun N.opens (calls_of L.passes L.refused L.own log.log.log.device) opened.0) }
+    ensures idle { IfOk result (λ opened. IsIdle opened.1.pool.out opened.1.pool.reserves) }
     ensures refused { IfErr result (λ r. r ≡ record { log = log.log.log.device; device = device; vault = vault }) }
 {
     match open_store(alloc, ground, tokens, log, device, ()) {

@@ -40,11 +40,10 @@ use wal_record::Entry;
 
 /// The pages of a life over a data device and a vault, with the operators that change their rows: a page that the device lacks,
 /// or gives damaged or too old, is rebuilt from its last backup and from the log. No call of a log disk is made here but by the
-/// journal. Between calls no page is in hand.
+/// journal. Each call wants no page in hand, and leaves none.
 #[derive(Drop)]
 pub struct StorePages<'a, D: PageDevice, V: Vault, N: Life> {
     pub(crate) pool: PlainPool<OwnImages<'a, D, N>, LifeSupply<'a, V, N>, N>,
-    ghost idle: { IsIdle pool.out pool.reserves },
 }
 
 impl<'a, D: PageDevice, V: Vault, N: Life> StorePages<'a, D, V, N> {
@@ -58,8 +57,10 @@ impl<'a, D: PageDevice, V: Vault, N: Life> StorePages<'a, D, V, N> {
         name: &Name,
         request: Request,
     ) -> Result<Answered, Fault>
+        requires idle { IsIdle self.old.pool.out self.old.pool.reserves }
         requires runs { Runs N.opens N.entries (J.account journal.old) life.old }
         requires active { is_active (actives life.old.named.items) name.now ≡ true }
+        ensures idle { IsIdle self.new.pool.out self.new.pool.reserves }
         ensures runs { Runs N.opens N.entries (J.account journal.new) life.new }
         ensures asks { (a : Active) → active_of (actives life.old.named.items) name.now ≡ Some a → Asks N.opens a.session a.tx request result life.old.pass.log life.new.pass.log }
         ensures told { (a : Active) → active_of (actives life.old.named.items) name.now ≡ Some a → IfOk result (IsTold N.opens a.session a.tx request life.new.pass.log) }
@@ -88,8 +89,10 @@ impl<'a, D: PageDevice, V: Vault, N: Life> StorePages<'a, D, V, N> {
         life: &mut StoreLife<N>,
         name: &Name,
     ) -> Result<Pos, Fault>
+        requires idle { IsIdle self.old.pool.out self.old.pool.reserves }
         requires runs { Runs N.opens N.entries (J.account journal.old) life.old }
         requires active { is_active (actives life.old.named.items) name.now ≡ true }
+        ensures idle { IsIdle self.new.pool.out self.new.pool.reserves }
         ensures runs { Runs N.opens N.entries (J.account journal.new) life.new }
         ensures aborts { (a : Active) → active_of (actives life.old.named.items) name.now ≡ Some a → EndsBy N.opens a.tx result life.old.pass.log life.new.pass.log }
         ensures names { actives life.new.named.items ≡ left_by result (actives life.old.named.items) name.now }
@@ -111,7 +114,9 @@ impl<'a, D: PageDevice, V: Vault, N: Life> StorePages<'a, D, V, N> {
         journal: &mut J,
         life: &mut StoreLife<N>,
     ) -> Result<bool, Fault>
+        requires idle { IsIdle self.old.pool.out self.old.pool.reserves }
         requires runs { Runs N.opens N.entries (J.account journal.old) life.old }
+        ensures idle { IsIdle self.new.pool.out self.new.pool.reserves }
         ensures runs { Runs N.opens N.entries (J.account journal.new) life.new }
         ensures steps { StepsBack N.opens result life.old.pass.log life.new.pass.log }
         ensures names { life.new.named ≡ life.old.named }
@@ -134,7 +139,9 @@ impl<'a, D: PageDevice, V: Vault, N: Life> StorePages<'a, D, V, N> {
         journal: &mut J,
         life: &mut StoreLife<N>,
     ) -> Result<Option<PageNo>, Fault>
+        requires idle { IsIdle self.old.pool.out self.old.pool.reserves }
         requires runs { Runs N.opens N.entries (J.account journal.old) life.old }
+        ensures idle { IsIdle self.new.pool.out self.new.pool.reserves }
         ensures runs { Runs N.opens N.entries (J.account journal.new) life.new }
         ensures restored { IfOk result (λ page. IfNone page (AreRestored N.opens life.new.pass.log)) }
         ensures redone { IfOk result (λ page. IfNone page ((q : ℕ) → AwaitsRedo self.new.pool.plan q → ⊥)) }
@@ -180,7 +187,9 @@ impl<'a, D: PageDevice, V: Vault, N: Life> StorePages<'a, D, V, N> {
         life: &mut StoreLife<N>,
         after: PageNo,
     ) -> Result<Option<PageNo>, Fault>
+        requires idle { IsIdle self.old.pool.out self.old.pool.reserves }
         requires runs { Runs N.opens N.entries (J.account journal.old) life.old }
+        ensures idle { IsIdle self.new.pool.out self.new.pool.reserves }
         ensures runs { Runs N.opens N.entries (J.account journal.new) life.new }
         ensures next { IfOk result (IsNextWritten (Lacks self.new.pool.frames) after) }
         ensures fewer { (page : ℕ) → Lacks self.new.pool.frames page → Lacks self.old.pool.frames page }
@@ -215,7 +224,9 @@ impl<'a, D: PageDevice, V: Vault, N: Life> StorePages<'a, D, V, N> {
         journal: &mut J,
         life: &mut StoreLife<N>,
     ) -> Result<u64, Fault>
+        requires idle { IsIdle self.old.pool.out self.old.pool.reserves }
         requires runs { Runs N.opens N.entries (J.account journal.old) life.old }
+        ensures idle { IsIdle self.new.pool.out self.new.pool.reserves }
         ensures runs { Runs N.opens N.entries (J.account journal.new) life.new }
         ensures backs_up { BacksUp N.opens result life.old.pass.log life.new.pass.log life.new.pass.durable }
         ensures names { life.new.named ≡ life.old.named }
@@ -238,7 +249,9 @@ impl<'a, D: PageDevice, V: Vault, N: Life> StorePages<'a, D, V, N> {
         journal: &mut J,
         life: &mut StoreLife<N>,
     ) -> Result<u64, Fault>
+        requires idle { IsIdle self.old.pool.out self.old.pool.reserves }
         requires runs { Runs N.opens N.entries (J.account journal.old) life.old }
+        ensures idle { IsIdle self.new.pool.out self.new.pool.reserves }
         ensures runs { Runs N.opens N.entries (J.account journal.new) life.new }
         ensures archives { Archives N.opens result life.old.pass.log life.new.pass.log life.new.pass.durable }
         ensures names { life.new.named ≡ life.old.named }
@@ -261,6 +274,8 @@ impl<'a, D: PageDevice, V: Vault, N: Life> StorePages<'a, D, V, N> {
     /// The data device is lost, and an empty one takes its place; where it fails, the old images may stay, and no answer tells of
     /// that. Each page that was in memory is dropped.
     pub fn lose<R: Wait>(&mut self, rt: &R)
+        requires idle { IsIdle self.old.pool.out self.old.pool.reserves }
+        ensures idle { IsIdle self.new.pool.out self.new.pool.reserves }
         ensures clean { (page : ℕ) → Lacks self.new.pool.frames page → ⊥ }
         ensures empty { D.tells → HasNone D.newest self.new.pool.images ⊎ Rose (D.faults self.old.pool.images) (D.faults self.new.pool.images) }
         ensures others { (self.new.pool.plan ≡ self.old.pool.plan) × (self.new.pool.supply ≡ self.old.pool.supply) }
@@ -270,6 +285,8 @@ impl<'a, D: PageDevice, V: Vault, N: Life> StorePages<'a, D, V, N> {
 
     /// Reads of the page from the data device fail verification until its next write. No answer tells whether the device did so.
     pub fn damage(&mut self, page: PageNo)
+        requires idle { IsIdle self.old.pool.out self.old.pool.reserves }
+        ensures idle { IsIdle self.new.pool.out self.new.pool.reserves }
         ensures damaged { D.tells → D.spoiled self.new.pool.images page ⊎ Rose (D.faults self.old.pool.images) (D.faults self.new.pool.images) }
         ensures same { D.tells → SameImages D.told D.newest self.old.pool.images self.new.pool.images }
         ensures others { (self.new.pool.frames ≡ self.old.pool.frames) × (self.new.pool.plan ≡ self.old.pool.plan) × (self.new.pool.supply ≡ self.old.pool.supply) }
@@ -279,6 +296,8 @@ impl<'a, D: PageDevice, V: Vault, N: Life> StorePages<'a, D, V, N> {
 
     /// Arms the data device's fuse, which lets n more calls pass, or renews it.
     pub fn fuse(&mut self, n: Option<u64>)
+        requires idle { IsIdle self.old.pool.out self.old.pool.reserves }
+        ensures idle { IsIdle self.new.pool.out self.new.pool.reserves }
         ensures fuse { Armed D.fuses D.passes D.refused D.own n self.old.pool.images self.new.pool.images }
         ensures same { D.tells → SameImages D.told D.newest self.old.pool.images self.new.pool.images }
         ensures others { (self.new.pool.frames ≡ self.old.pool.frames) × (self.new.pool.plan ≡ self.old.pool.plan) × (self.new.pool.supply ≡ self.old.pool.supply) }

@@ -2,6 +2,7 @@
 ghost use Rattle.std.specs.Prelude.{◌≡◌, ◌≤◌, None, IfErr, OnOk};
 ghost use Rattle.own_life.specs.Backed.{Archives, BacksUp};
 ghost use Rattle.own_life.specs.State.{FailsOver, GoesOn};
+ghost use Rattle.own_life.specs.Pages.{IsIdle};
 
 use crate::life::OwnLife;
 use crate::seeing::see_whole;
@@ -21,7 +22,9 @@ impl<'a, L: Disk, N: Life> OwnLife<'a, L, N> {
         alloc: Global,
         pages: &mut StorePages<'a, D, V, N>,
     ) -> Result<u64, Fault>
+        requires idle { IsIdle pages.old.pool.out pages.old.pool.reserves }
         requires open { self.old.ended ≡ None }
+        ensures idle { IsIdle pages.new.pool.out pages.new.pool.reserves }
         ensures backs_up { BacksUp N.opens result self.old.history self.new.history self.new.durable }
         ensures names { self.new.active ≡ self.old.active }
         ensures goes { OnOk result (GoesOn self.old self.new) }
@@ -42,7 +45,9 @@ impl<'a, L: Disk, N: Life> OwnLife<'a, L, N> {
         alloc: Global,
         pages: &mut StorePages<'a, D, V, N>,
     ) -> Result<u64, Fault>
+        requires idle { IsIdle pages.old.pool.out pages.old.pool.reserves }
         requires open { self.old.ended ≡ None }
+        ensures idle { IsIdle pages.new.pool.out pages.new.pool.reserves }
         ensures archives { Archives N.opens result self.old.history self.new.history self.new.durable }
         ensures names { self.new.active ≡ self.old.active }
         ensures goes { OnOk result (GoesOn self.old self.new) }

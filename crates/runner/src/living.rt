@@ -11,6 +11,7 @@ ghost use Rattle.runner.specs.Clause.{Between, Closing, LivedTo, Stopping};
 ghost use Rattle.runner.specs.Devices.{Stored};
 ghost use Rattle.runner.specs.Machine.{Begun, IsAt, OpensOn};
 ghost use Rattle.runner.specs.Causes.{LivedCause, disk_at};
+ghost use Rattle.own_life.specs.Pages.{IsIdle};
 
 use crate::at::At;
 use crate::opened::Opened;
@@ -155,6 +156,7 @@ fn run_life<'a, N: Life, S: Source, K: Sink, V: Vault, L: Disk, D: PageDevice, R
     life: OwnLife<'a, L, N>,
     pages: StorePages<'a, D, V, N>,
 ) -> Lived<L, D, V>
+    requires idle { IsIdle pages.pool.out pages.pool.reserves }
     requires told { (opening : List Record) → N.opens opening → D.tells × V.tells }
     ensures turns { (v : View L.tells) (start : Start) (left told : Option (List ℕ)) (turns : List Turn)
         → Between (IsWhole v) start (Within (seen L.Disk v) N.opens life.entry) left told input.old turns (S.left source.old) (K.told sink.old)

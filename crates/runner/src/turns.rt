@@ -11,6 +11,7 @@ ghost use Rattle.runner.specs.Devices.{AreDevicesOf, Stored};
 ghost use Rattle.runner.specs.Machine.{Begun};
 ghost use Rattle.runner.specs.Vault.{Cycles};
 ghost use Rattle.runner.specs.Causes.{LineCause, PassedCause, TurnedCause};
+ghost use Rattle.own_life.specs.Pages.{IsIdle};
 
 use crate::at::{At, Stepped, disk_opened};
 use crate::opened::Opened;
@@ -91,7 +92,9 @@ pub fn turn_inside<'a, N: Life, S: Source, K: Sink, V: Vault, L: Disk, D: PageDe
     life: &mut OwnLife<'a, L, N>,
     pages: &mut StorePages<'a, D, V, N>,
 ) -> Passed
+    requires idle { IsIdle pages.old.pool.out pages.old.pool.reserves }
     requires told { (opening : List Record) → N.opens opening → D.tells × V.tells }
+    ensures idle { IsIdle pages.new.pool.out pages.new.pool.reserves }
     ensures turns { (v : View L.tells) (start : Start) (left told : Option (List ℕ)) (turns : List Turn)
         → Between (IsWhole v) start (Within (seen L.Disk v) N.opens life.old) left told input.old turns (S.left source.old) (K.told sink.old)
         → PassedTo L.tells (seen L.Disk v) (stores D.PageDevice V.Vault) start (Within (seen L.Disk v) N.opens life.new) (AreDevicesOf L.Disk D.PageDevice V.Vault N.opens life.new)

@@ -52,7 +52,7 @@ fn play_on<'a, L: Disk + Drop, P: PageDevice + Drop, V: Vault + Drop, C: Ledger,
     )?;
     let (_, LogSupply { bases, .. }) = pool.into_parts();
     let VaultBases { objects, faults } = bases;
-    let mut vault = objects.into_vault(rt, &mut journal, &mut pass);
+    let (mut vault, _, _) = objects.into_parts();
     vault.power_cycle();
     Ok(Played {
         answers,
