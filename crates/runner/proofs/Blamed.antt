@@ -1,12 +1,13 @@
 -- A fault of the vault, which is told as one only where the vault has counted it.
-use Rattle.std.proofs.Common.{◌≡◌, ◌≢◌, ℕ, List, Option, sym, subst, ◌∙◌, arith, inl, inr}
-use Rattle.std.specs.Prelude.{◌^◌, ◌-◌, min}
+use Rattle.std.proofs.Common.{◌≡◌, ℕ, List, Option, refl, sym, subst, ◌∙◌, arith, inl, inr}
+use Rattle.std.specs.Prelude.{◌≢◌, ◌^◌, ◌-◌, min}
 use Rattle.media.specs.Cause.{Rose}
 use Rattle.life_commands.specs.Turns.{Stage, Start}
 use Rattle.life_commands.specs.declared.status.Status.{Status}
 use Rattle.life_commands.specs.declared.status.Status.TheVariants as statuses
 use Rattle.runner.specs.Causes.{IsAsked, IsBlamed}
 use Rattle.runner.specs.Clause.{Headline}
+use Rattle.runner.specs.Usage.{IsUnbegun}
 use Rattle.runner.proofs.Runs.{as_memory}
 
 -- what is so of the status, and of want of memory, is so of what is told
@@ -34,3 +35,24 @@ pub as_blamed : (tells : Type 0) (start : Start) (B : Stage → Type 0) {left0 l
 as_blamed tells start B {left0} {left} {told0} {told} {pending} before now statuses.VaultFault said (inl is) h = subst (λ (z : Status). Headline tells start B left0 pending left told0 told z) (sym is.0) h
 as_blamed tells start B {left0} {left} {told0} {told} {pending} before now statuses.VaultFault said (inr is) h = subst (λ (z : Status). Headline tells start B left0 pending left told0 told z) (sym is) (as_memory tells start B h)
 as_blamed tells start B {left0} {left} {told0} {told} {pending} before now _ said is h = subst (λ (z : Status). Headline tells start B left0 pending left told0 told z) (sym is) h
+
+same_blamed : (before now : ℕ) (status told : Status) → IsBlamed before now status told → told ≢ statuses.Memory → told ≡ status
+same_blamed before now statuses.VaultFault told (inl is) other = is.0
+same_blamed before now statuses.VaultFault told (inr is) other = absurd (other is)
+same_blamed before now _ told is other = is
+
+-- a status that is told is what the run ended with, but for want of memory
+pub as_status : (before now : ℕ) (status told x : Status) → IsBlamed before now status told → told ≡ x → x ≢ statuses.Memory → status ≡ x
+as_status before now status told x is e other = sym (same_blamed before now status told is (λ m. other (sym e ∙ m))) ∙ e
+
+-- what the words decide isn't told of a run
+pub called_blamed : (before now : ℕ) (status told : Status) → IsBlamed before now status told → (status ≢ statuses.Usage) × (status ≢ statuses.NoGenerator) → (told ≢ statuses.Usage) × (told ≢ statuses.NoGenerator)
+called_blamed before now status told is called = by_blamed (λ (s : Status). (s ≢ statuses.Usage) × (s ≢ statuses.NoGenerator)) before now status told is ((λ e. absurd cc), (λ e. absurd cc)) called
+
+begun : (status : Status) → (status ≢ statuses.Usage) × (status ≢ statuses.NoGenerator) → IsUnbegun status → ⊥
+begun statuses.Usage called is = called.0 refl
+begun statuses.NoGenerator called is = called.1 refl
+begun _ called is = is
+
+pub begun_blamed : (before now : ℕ) (status told : Status) → IsBlamed before now status told → (status ≢ statuses.Usage) × (status ≢ statuses.NoGenerator) → IsUnbegun told → ⊥
+begun_blamed before now status told is called = begun told (called_blamed before now status told is called)

@@ -2,10 +2,13 @@ use Rattle.std.proofs.Common.{sym, ap, subst, ℕ}
 use Rattle.media.specs.Cause.{Rose}
 use Rattle.media.specs.Fused.{Fused}
 use Rattle.life_commands.specs.LogDisk.{IsWhole, seen}
+use Rattle.life_commands.specs.declared.status.Status.{Status}
+use Rattle.life_commands.specs.declared.status.Status.TheVariants as statuses
 use Rattle.life_commands.specs.Stores.{stores}
+use Rattle.runner.specs.Causes.{Shows}
 use Rattle.runner.specs.Clause.{HandsBack}
 use Rattle.runner.proofs.Fused.{asked_fused, begun_fused, ended_fused, handed_back}
-use Rattle.runner.proofs.Blamed.{as_blamed, asked_blamed, told_rose}
+use Rattle.runner.proofs.Blamed.{as_blamed, as_status, asked_blamed, begun_blamed, blamed_rose, by_blamed, called_blamed, told_rose}
 use Rattle.runner.proofs.Runs.{not_called, not_generated, no_buffer, ran_whole}
 use Rattle.runner.proofs.run.run_words.Goals as goal
 
@@ -36,3 +39,21 @@ returns-clause-complete g c = λ call t p o last keeps these source sink own vau
     (λ is. sink (c.run-status.ensures.cause.sink is))
     (λ is. own (subst (λ (n : ℕ). Rose (g.L.Disk.faults c.args.devices.log) n) (ap (λ (d : g.row.L.Denot). g.L.Disk.faults d) (sym c.into_inner.ensures)) (subst (λ (f : Fused g.row.L.Denot). Rose (g.L.Disk.faults f.inner) (g.L.Disk.faults c.run-status.result.1.inner)) c.new-3.ensures (c.run-status.ensures.cause.log is)))) in
     asked_blamed c.faults-before.result c.faults-now.result c.run-status.result.0 c.blamed.result c.blamed.ensures (λ rose. vaulted (told_rose (g.V.Vault.faults c.args.devices.vault) (g.V.Vault.faults c.run-status.result.3) c.faults-before.result c.faults-now.result c.faults-before.ensures c.faults-now.ensures rose)) asked
+
+pub returns-clause-untouched : goal.returns-clause-untouched
+returns-clause-untouched g c = λ is. absurd (begun_blamed c.faults-before.result c.faults-now.result c.run-status.result.0 c.blamed.result c.blamed.ensures c.run-status.ensures.called is)
+
+pub returns-clause-source : goal.returns-clause-source
+returns-clause-source g c = λ e. c.run-status.ensures.cause.source (as_status c.faults-before.result c.faults-now.result c.run-status.result.0 c.blamed.result statuses.SourceFault c.blamed.ensures e (λ m. absurd cc))
+
+pub returns-clause-sink : goal.returns-clause-sink
+returns-clause-sink g c = λ e. c.run-status.ensures.cause.sink (as_status c.faults-before.result c.faults-now.result c.run-status.result.0 c.blamed.result statuses.SinkFault c.blamed.ensures e (λ m. absurd cc))
+
+pub returns-clause-log : goal.returns-clause-log
+returns-clause-log g c = λ e.
+    let is = as_status c.faults-before.result c.faults-now.result c.run-status.result.0 c.blamed.result statuses.LogFault c.blamed.ensures e (λ m. absurd cc) in
+    subst (λ (n : ℕ). Rose (g.L.Disk.faults c.args.devices.log) n) (ap (λ (d : g.row.L.Denot). g.L.Disk.faults d) (sym c.into_inner.ensures))
+    (subst (λ (f : Fused g.row.L.Denot). Rose (g.L.Disk.faults f.inner) (g.L.Disk.faults c.run-status.result.1.inner)) c.new-3.ensures (c.run-status.ensures.cause.log is))
+
+pub returns-clause-vault : goal.returns-clause-vault
+returns-clause-vault g c = λ e. told_rose (g.V.Vault.faults c.args.devices.vault) (g.V.Vault.faults c.run-status.result.3) c.faults-before.result c.faults-now.result c.faults-before.ensures c.faults-now.ensures (blamed_rose c.faults-before.result c.faults-now.result c.run-status.result.0 c.blamed.result c.blamed.ensures e)
