@@ -14,6 +14,8 @@ mod images;
 #[cfg(test)]
 mod life;
 #[cfg(test)]
+mod log;
+#[cfg(test)]
 mod playing;
 #[cfg(test)]
 mod steps;

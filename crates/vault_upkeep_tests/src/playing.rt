@@ -4,13 +4,13 @@ ghost use Rattle.page_ops.specs.Names.{life_names};
 ghost use Rattle.wal_record.specs.declared.record.Record.{Record};
 
 use crate::life::{Begun, begin};
+use crate::log::new_log;
 use crate::steps::{Answer, Step, Told, take_steps};
 use listed_log::ListedLog;
 use media::{Disk, PageBytes, PageDevice, Vault};
 use media_mem::{MemDisk, MemPages, MemVault};
 use operators::{Operators, boxed_operators};
 use page_ops::{Ground, Life, Tokens, Unnamed};
-use planted_store::new_log;
 use segment_restore::LogSupply;
 use std::alloc::Global;
 use std::marker::Brand;
@@ -52,7 +52,7 @@ fn play_on<'a, L: Disk + Drop, P: PageDevice + Drop, V: Vault + Drop, C: Ledger,
     )?;
     let (_, LogSupply { bases, .. }) = pool.into_parts();
     let VaultBases { objects, faults } = bases;
-    let mut vault = objects.into_vault(rt, &mut journal, &mut pass);
+    let (mut vault, _, _) = objects.into_parts();
     vault.power_cycle();
     Ok(Played {
         answers,
@@ -98,7 +98,7 @@ pub(crate) fn play<R: Wait>(
 ) -> Result<Played<MemVault>, Fault> {
     let unnamed = Unnamed::new(alloc, 1)?;
     let disk = MemDisk::failing(alloc, log.to_vec(alloc)?);
-    let log = new_log(alloc, disk, 16_384)?;
+    let log = new_log(alloc, disk)?;
     let device = MemPages::new(alloc);
     let vault = MemVault::failing(alloc, vault.to_vec(alloc)?);
     let faults = Blank::new(1);
