@@ -39,7 +39,7 @@ use Rattle.page_ops.proofs.Composing.{bring_then}
 use Rattle.page_ops.proofs.Gaining.{gains_of, gains_of_upheld, gains_then, keeps_self, upheld, upheld_by, upheld_then}
 use Rattle.page_ops.proofs.Staying.{longer_log}
 use Rattle.named_objects.proofs.MadeObjects.{calm_sessions}
-use Rattle.named_objects.specs.Drafts.{NamesOne}
+use Rattle.named_objects.specs.Drafts.{FailsToName, NamesOne}
 use Rattle.named_objects.specs.declared.naming.Naming.TheVariants as namings
 use Rattle.backups.specs.Backups.{AddsTo, BacksUp, BeginsToBackUp, HasPage, IsAbove, IsDurable, IsTold, SomeOf, is_of_backup}
 use Rattle.backups.specs.Copies.{AreDrawn, AreMade, Drawn, WasCurrent, told_of}
@@ -329,6 +329,14 @@ module _ (opens : List Record → Type 0) (log_faults made : LedgerName) where
   of_entry own a b h faults.Memory may why = why
   of_entry own a b h (faults.Ended at) may why = why
   of_entry own a b h _ may why = absurd may
+
+  -- as an object isn't made, where the pages count a fault of the vault
+  pub of_name : (own now : Faults) (v w : ℕ) (a b : Account) (h : List Entry) (f : Fault) → (f ≡ faults.VaultFault → own.vault < now.vault) → FailsToName opens log_faults made v w a b h f → FailsToBring opens log_faults made own now a b h f
+  of_name own now v w a b h faults.VaultFault counted why = (why.0, counted refl)
+  of_name own now v w a b h faults.Memory counted why = why
+  of_name own now v w a b h faults.LogFault counted why = (why.1, inr why.2)
+  of_name own now v w a b h (faults.Ended at) counted why = why
+  of_name own now v w a b h _ counted why = absurd why
 
   -- behind calls that met no end
   pub fails_then : (own own' now : Faults) (a b c : Account) (h : List Entry) (f : Fault) → MeetsNoEnd a b → Keeps a b → KeepsFaults own own' → FailsToBring opens log_faults made own' now b c h f → FailsToBring opens log_faults made own now a c h f
