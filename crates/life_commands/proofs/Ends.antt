@@ -29,7 +29,7 @@ use Rattle.command_laws.specs.Commands.{Among, Amid, IsUpkeep, commit_record}
 use Rattle.command_laws.specs.Names.{Active, active_of, is_active, without}
 use Rattle.maintenance.specs.Steps.{AreAllOver}
 use Rattle.rollback.specs.Owners.{IsLoserOf}
-use Rattle.own_life.specs.Backed.{AddsBackup, AddsRuns, IsArchived, IsWhole}
+use Rattle.own_life.specs.Backed.{AddsBackup, AddsRuns, IsArchived, IsWhole as HasEachPage}
 use Rattle.own_life.specs.Helps.{AddsSteps, Helps}
 use Rattle.store_life.specs.Turns.{EndsBy, HasMark, IsCheckpointed, IsLost}
 use Rattle.own_life.specs.State.{BeginsAs, BreaksOff, Fails, FailsOver, FailsToFlush, GoesOn, IsCommitted, LifeState}
@@ -194,7 +194,7 @@ module _ {D : Type 0} (L : Ghosts D) (opens : List Record → Type 0) (x y : Lif
   -- ---- backups and archive runs
 
   module _ (right : (opening : List Record) → opens opening → IsRight opening y.history) where
-    pub backs_up_line : (backup : ℕ) (k : AddsBackup backup x.history y.history) → ((opening : List Record) → opens opening → IsWhole backup opening x.history k.own) → GoesOn x y → (out : List ℕ) → out ≡ upkeep_line upkeeps.Backup → Did L opens x y commands.Backup out
+    pub backs_up_line : (backup : ℕ) (k : AddsBackup backup x.history y.history) → ((opening : List Record) → opens opening → HasEachPage backup opening x.history k.own) → GoesOn x y → (out : List ℕ) → out ≡ upkeep_line upkeeps.Backup → Did L opens x y commands.Backup out
     backs_up_line backup k whole goes out text = λ v s h. c.did_backup (seen L v) opens x s h none backup y k whole right goes active out text
 
     pub backup_cut : (backup : ℕ) → AddsBackup backup x.history y.history → (v : View L.tells) (s : Stage) → Within (seen L v) opens x s → IsCut (seen L v) y x s commands.Backup

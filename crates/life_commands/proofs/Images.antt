@@ -58,7 +58,7 @@ module _ (l : Life) (kept : ℕ) (rs : List Record) (h : IsLeftBy l kept rs) whe
 
 -- what a log names each longer one names
 pub names_more : (log more : List Record) (name : ObjectName) (bytes : List ℕ) → Names log name bytes → Names (log ++ more) name bytes
-names_more log more name bytes n = record {
+names_more rs more name bytes n = record {
   before = n.before;
   naming = n.naming;
   behind = n.behind ++ more;
@@ -68,7 +68,7 @@ names_more log more name bytes n = record {
 }
 
 pub stored_first : (told : ObjectName → Stored) (log first rest : List Record) → log ≡ first ++ rest → AreStored told log → AreStored told first
-stored_first told log first rest is all name bytes names = all name bytes (subst (λ (l : List Record). Names l name bytes) (sym is) (names_more first rest name bytes names))
+stored_first told rs first rest is all name bytes names = all name bytes (subst (λ (l : List Record). Names l name bytes) (sym is) (names_more first rest name bytes names))
 
 module _ {E F : Type 0} (P : pages.Ghosts E) (V : vaults.Ghosts F) (opens : List Record → Type 0) (x : LifeState) (l : Life) (kept : ℕ) (beside : E × F) (may : opens l.opening) (same : l.history ≡ x.history) (of : AreBeside P V opens x kept beside)
     (tells : (stores P V).tells) where
