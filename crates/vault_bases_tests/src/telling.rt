@@ -2,16 +2,15 @@
 
 use books::PageRight;
 use front::Pass;
-use life_history::{Counts, History};
 use page_ops::{Entered, Entering, Found, Ground, Group, Life, Listed, Rights};
+use small_journal::{Counts, History};
 use std::alloc::Global;
 use std::marker::Model;
 use std::sync::Wait;
 use store_model::{Fault, Lsn, PageNo, Pos};
 use wal_record::{Entry, PageHead};
 
-/// A journal without records, of a life of which no opening log is known. It tells of each page that this backup has it, at this
-/// LSN, and for all that it would have to enter it says that it wants memory.
+/// A small journal of a life of which no opening log is known. It tells of each page that this backup has it, at this LSN.
 #[derive(Drop)]
 pub(crate) struct Telling<'a, N: Life> {
     pub(crate) history: History<'a, N>,
@@ -52,12 +51,11 @@ impl<'a, N: Life> Entering<N> for Telling<'a, N> {
         &mut self,
         _rt: &R,
         _alloc: Global,
-        _group: &mut Group,
+        group: &mut Group,
         rights: &mut Rights<N>,
         pass: &mut Pass<Entry, N>,
     ) -> Result<Entered, Fault> {
-        self.history.see(rights, pass, &mut self.counts);
-        Err(Fault::Memory)
+        self.history.enter(group, rights, pass, &mut self.counts)
     }
 
     fn repaired<R: Wait>(
@@ -67,7 +65,7 @@ impl<'a, N: Life> Entering<N> for Telling<'a, N> {
         _right: &PageRight<N>,
         pass: &mut Pass<Entry, N>,
     ) -> Result<Option<Pos>, Fault> {
-        self.history.look(pass, &mut self.counts);
+        self.history.watch(pass, &mut self.counts);
         Err(Fault::Memory)
     }
 
@@ -81,7 +79,7 @@ impl<'a, N: Life> Entering<N> for Telling<'a, N> {
         _lsn: Lsn,
         pass: &mut Pass<Entry, N>,
     ) -> Result<(), Fault> {
-        self.history.look(pass, &mut self.counts);
+        self.history.flush(pass, &mut self.counts);
         Ok(())
     }
 
@@ -92,7 +90,7 @@ impl<'a, N: Life> Entering<N> for Telling<'a, N> {
         _lsn: Lsn,
         pass: &mut Pass<Entry, N>,
     ) -> Result<Found, Fault> {
-        self.history.look(pass, &mut self.counts);
+        self.history.watch(pass, &mut self.counts);
         Err(Fault::Memory)
     }
 
@@ -102,7 +100,7 @@ impl<'a, N: Life> Entering<N> for Telling<'a, N> {
         _page: PageNo,
         pass: &mut Pass<Entry, N>,
     ) -> Result<Listed, Fault> {
-        self.history.look(pass, &mut self.counts);
+        self.history.flush(pass, &mut self.counts);
         Ok(Listed {
             ends: PageHead {
                 head: 0,
@@ -116,12 +114,10 @@ impl<'a, N: Life> Entering<N> for Telling<'a, N> {
     }
 
     fn pages<R: Wait>(&mut self, _rt: &R, pass: &mut Pass<Entry, N>) -> u32 {
-        self.history.look(pass, &mut self.counts);
-        0
+        self.history.pages(pass, &mut self.counts)
     }
 
     fn pending<R: Wait>(&mut self, _rt: &R, pass: &mut Pass<Entry, N>) -> u32 {
-        self.history.look(pass, &mut self.counts);
-        0
+        self.history.pending(pass, &mut self.counts)
     }
 }

@@ -1,0 +1,10 @@
+pub mod Beginnings
+pub mod Commits
+pub mod Declining
+pub mod Entering
+pub mod Entries
+pub mod Keeping
+pub mod Own
+pub mod Puts
+pub mod Recycling
+pub mod Sessions
