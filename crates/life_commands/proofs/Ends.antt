@@ -32,7 +32,7 @@ use Rattle.rollback.specs.Owners.{IsLoserOf}
 use Rattle.own_life.specs.Backed.{AddsBackup, AddsRuns, IsArchived, IsWhole as HasEachPage}
 use Rattle.own_life.specs.Helps.{AddsSteps, Helps}
 use Rattle.store_life.specs.Turns.{EndsBy, HasMark, IsCheckpointed, IsLost}
-use Rattle.own_life.specs.State.{BeginsAs, BreaksOff, Fails, FailsOver, FailsToFlush, GoesOn, IsCommitted, LifeState}
+use Rattle.own_life.specs.State.{BeginsAs, BreaksOff, FailsOver, FailsToFlush, GoesOn, IsCommitted, LifeState}
 use Rattle.script.specs.declared.command.Command.{Command}
 use Rattle.script.specs.declared.command.Command.TheVariants as commands
 use Rattle.script.specs.declared.command.Device.{Device}

@@ -18,17 +18,17 @@ returns-in_err-failed-clause-err g c = by_memory c.from_residual-in_err-failed.r
 pub returns-in-Ok-clause-ok : goal.returns-in-Ok-clause-ok
 returns-in-Ok-clause-ok g c =
     let k = c.in-Ok.ensures.backs_up in
-    backs_up_line g.L.Disk g.N.Life.opens c.args.life.now c.backup-made.new.self c.requires c.in-Ok.ensures.names c.look.ensures.right c.in-Ok.field-0 k.0 (λ opening may. (k.1 opening may).0) c.in-Ok.ensures.goes c.in_ok-done.done.items c.in_ok-done.ensures
+    backs_up_line g.L.Disk g.N.Life.opens c.args.life.now c.backup-made.new.self c.requires.goes c.in-Ok.ensures.names c.look.ensures.right c.in-Ok.field-0 k.0 (λ opening may. (k.1 opening may).0) c.in-Ok.ensures.goes c.in_ok-done.done.items c.in_ok-done.ensures
 
 pub returns-in-Err-clause-ok : goal.returns-in-Err-clause-ok
 returns-in-Err-clause-ok g c =
     let x = c.args.life.now in
     let y = c.backup-made.new.self in
     let k = c.in-Err.ensures.backs_up in
-    let cut = backup_cut g.L.Disk g.N.Life.opens x y c.requires c.in-Err.ensures.names c.look.ensures.right k.0 k.1 in
+    let cut = backup_cut g.L.Disk g.N.Life.opens x y c.requires.goes c.in-Err.ensures.names c.look.ensures.right k.0 k.1 in
     let more = more_refused x.calls.refused y.calls.refused c.refused-before.result c.refused.result c.refused-before.ensures c.refused.ensures (search rules) in
     if_ok c.fail.result _ _ (λ out k. fails_line g.L.Disk g.N.Life.opens x y c.in-Err.ensures.names c.look.ensures.right commands.Backup tt refl cut tt
-    (subst (λ (f : Fault). FailsOver g.N.Life.opens _ _ x y f) k.0 c.in-Err.ensures.refused) (more k.2) out.items
+    (subst (λ (f : Fault). FailsOver g.N.Life.opens c.args.pages.now.pool.supply.bases.faults c.backup-made.new.pages.pool.supply.bases.faults x y f) k.0 c.in-Err.ensures.refused) (more k.2) out.items
     (ap (λ z. z.items) k.1 ∙ c.in_ok-failed.ensures)) c.fail.ensures.ok
 
 pub returns-in-Err-clause-err : goal.returns-in-Err-clause-err
@@ -36,6 +36,6 @@ returns-in-Err-clause-err g c =
     let x = c.args.life.now in
     let y = c.backup-made.new.self in
     let k = c.in-Err.ensures.backs_up in
-    let cut = backup_cut g.L.Disk g.N.Life.opens x y c.requires c.in-Err.ensures.names c.look.ensures.right k.0 k.1 in
+    let cut = backup_cut g.L.Disk g.N.Life.opens x y c.requires.goes c.in-Err.ensures.names c.look.ensures.right k.0 k.1 in
     if_err c.fail.result _ _ (λ status k line. ends_run g.L.Disk g.N.Life.opens x y c.in-Err.ensures.names c.look.ensures.right commands.Backup tt refl cut _ _
     c.refused-before.result c.refused.result c.in-Err.fault c.in-Err.ensures.refused status k line) c.fail.ensures.err

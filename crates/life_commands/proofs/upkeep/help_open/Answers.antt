@@ -25,7 +25,7 @@ returns-in-Err-clause-ok g c =
     let cut = help_cut g.L.Disk g.N.Life.opens x y c.requires.goes c.in-Err.ensures.names c.args.steps c.in-Err.ensures.helps in
     let more = more_refused x.calls.refused y.calls.refused c.refused-before.result c.refused.result c.refused-before.ensures c.refused.ensures (search rules) in
     if_ok c.fail.result _ _ (λ out k. fails_line g.L.Disk g.N.Life.opens x y c.in-Err.ensures.names c.look.ensures.right (commands.Help c.args.steps) tt refl cut tt
-    (subst (λ (f : Fault). FailsOver g.N.Life.opens _ _ x y f) k.0 c.in-Err.ensures.refused) (more k.2) out.items
+    (subst (λ (f : Fault). FailsOver g.N.Life.opens c.args.pages.now.pool.supply.bases.faults c.help-helped.new.pages.pool.supply.bases.faults x y f) k.0 c.in-Err.ensures.refused) (more k.2) out.items
     (ap (λ z. z.items) k.1 ∙ c.in_ok-failed.ensures)) c.fail.ensures.ok
 
 pub returns-in-Err-clause-err : goal.returns-in-Err-clause-err
