@@ -1,5 +1,5 @@
 -- What stands beside the log disk, by the logs that may be found.
-use Rattle.std.proofs.Common.{◌≡◌, ◌≤◌, ℕ, false, List, [], ◌∷◌, ◌++◌, Option, Some, None, refl, sym, ap, subst, ◌∙◌, ⊎_elim, append-nil}
+use Rattle.std.proofs.Common.{◌≡◌, ℕ, false, List, [], ◌∷◌, ◌++◌, Option, Some, None, refl, sym, ap, subst, ◌∙◌, ⊎_elim, append-nil}
 use Rattle.std.specs.Prelude.{if◌then◌else◌, zero, suc, take, IsTrue}
 use Rattle.media.specs.Images.{NoOther}
 use Rattle.media.specs.Objects.{MayLeave, Stored as Object, Synced}
@@ -12,7 +12,7 @@ use Rattle.plain_store.specs.Opens.{AreEarlier}
 use Rattle.named_objects.specs.Named.{AreNamed, Names, record_of}
 use Rattle.named_objects.specs.declared.naming.Naming.{Naming}
 use Rattle.named_objects.specs.declared.naming.Naming.TheVariants as namings
-use Rattle.wal_record.specs.History.{life_log, log_of}
+use Rattle.wal_record.specs.History.{log_of}
 use Rattle.wal_record.specs.Images.{image}
 use Rattle.wal_record.specs.declared.record.Format.{Format}
 use Rattle.wal_record.specs.declared.record.Record.{Record}
@@ -67,7 +67,7 @@ none_named x name bytes n = by n.before n.is
 abbrev pub OfFirst : {S : Type 0} → Stores S → S → Type 0
 OfFirst B beside = (limit : ℕ) → B.are_of beside [] → B.are_of beside (first_log limit)
 
-pub first_stores : {D V : Type 0} (P : pages.Ghosts D) (V : vaults.Ghosts V) (beside : D × V) → OfFirst (stores P V) beside
+pub first_stores : {D E : Type 0} (P : pages.Ghosts D) (V : vaults.Ghosts E) (beside : D × E) → OfFirst (stores P V) beside
 first_stores P V beside limit none = (none_told (P.told beside.0) (first_log limit) none.0, λ name bytes names. absurd (none_named _ name bytes names))
 
 -- ---- what is taken over

@@ -6,7 +6,6 @@ use Rattle.media.specs.Cause.{Rose}
 use Rattle.media.specs.Counted.{Armed, Blames}
 use Rattle.media.specs.Crash.{NoMore, Only}
 use Rattle.media.specs.declared.disk.Disk.{Ghosts}
-use Rattle.media.specs.declared.pages.PageDevice as pages
 use Rattle.wal_record.specs.Rules.{is_limit}
 use Rattle.wal_record.specs.Checkpoints.{commits}
 use Rattle.wal_record.specs.OpenWrites.{losers}

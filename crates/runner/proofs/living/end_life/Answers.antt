@@ -2,7 +2,6 @@ use Rattle.std.proofs.Common.{◌∙◌, ◌∷◌, ◌++◌, [], sym}
 use Rattle.script.specs.declared.command.Command.TheVariants as commands
 use Rattle.life_commands.specs.LogDisk.{seen}
 use Rattle.life_commands.specs.Stores.{stores}
-use Rattle.life_commands.specs.Turns.{stage}
 use Rattle.runner.specs.Clause.{AtRest}
 use Rattle.runner.proofs.Places.{rests_out}
 use Rattle.runner.proofs.Runs.{asked_line, went, fell, all_written}

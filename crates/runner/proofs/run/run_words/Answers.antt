@@ -8,7 +8,7 @@ use Rattle.life_commands.specs.Stores.{stores}
 use Rattle.runner.specs.Causes.{Shows}
 use Rattle.runner.specs.Clause.{HandsBack}
 use Rattle.runner.proofs.Fused.{asked_fused, begun_fused, ended_fused, handed_back}
-use Rattle.runner.proofs.Blamed.{as_blamed, as_status, asked_blamed, begun_blamed, blamed_rose, by_blamed, called_blamed, told_rose}
+use Rattle.runner.proofs.Blamed.{as_blamed, as_status, asked_blamed, begun_blamed, blamed_rose, by_blamed, told_rose}
 use Rattle.runner.proofs.Runs.{not_called, not_generated, no_buffer, ran_whole}
 use Rattle.runner.proofs.run.run_words.Goals as goal
 
@@ -57,3 +57,7 @@ returns-clause-log g c = λ e.
 
 pub returns-clause-vault : goal.returns-clause-vault
 returns-clause-vault g c = λ e. told_rose (g.V.Vault.faults c.args.devices.vault) (g.V.Vault.faults c.run-status.result.3) c.faults-before.result c.faults-now.result c.faults-before.ensures c.faults-now.ensures (blamed_rose c.faults-before.result c.faults-now.result c.run-status.result.0 c.blamed.result c.blamed.ensures e)
+
+pub returns-clause-shows : goal.returns-clause-shows
+returns-clause-shows g c = by_blamed (λ (z : Status). Shows g.L.Disk c.into_inner.result z) c.faults-before.result c.faults-now.result c.run-status.result.0 c.blamed.result c.blamed.ensures tt
+    (subst (λ (d : g.row.L.Denot). Shows g.L.Disk d c.run-status.result.0) (sym c.into_inner.ensures) c.run-status.ensures.shows)

@@ -1,7 +1,7 @@
-use Rattle.std.proofs.Common.{rules, ◌∙◌, ℕ, Option, Ok, sym, subst}
+use Rattle.std.proofs.Common.{◌∙◌, ℕ, Option, Ok, sym, subst}
 use Rattle.script.specs.declared.command.Command.{Command}
 use Rattle.life_commands.specs.Turns.{stage}
-use Rattle.life_commands.specs.LogDisk.{IsWhole, seen}
+use Rattle.life_commands.specs.LogDisk.{seen}
 use Rattle.life_commands.specs.Living.{Within}
 use Rattle.life_commands.specs.Stores.{stores}
 use Rattle.life_commands.proofs.Lives.{known_in}

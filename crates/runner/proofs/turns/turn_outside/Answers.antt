@@ -30,7 +30,7 @@ returns-in-Ok-clause-turns g c = λ v start left told turns b.
     let L = seen g.L.Disk v in
     let B = stores g.D.PageDevice g.V.Vault in
     let H = IsAt g.L.Disk.tells L (Begun g.L.Disk.tells L) c.in-Goes.at in
-    let new = (c.step.new.pages, c.cycle.new.vault) in
+    let new : g.row.D.Denot × g.row.V.Denot = (c.step.new.pages, c.cycle.new.vault) in
     let fewer = stores_after g.D.PageDevice g.V.Vault c.in-Ok-Some.next.0 c.args.pages.now c.step.new.pages c.args.vault.now c.cycle.new.vault c.in-Goes.ensures.images c.cycle.ensures in
     let added = adds_stores B (c.args.pages.now, c.args.vault.now) new (first_stores g.D.PageDevice g.V.Vault (c.args.pages.now, c.args.vault.now)) fewer (IsWhole v) b.holds.told (Out g.L.Disk.tells L c.args.disk) H (stage start turns) c.in-Ok-Some.next.0 c.in-Goes.lines.items b.holds.here.life b.holds (c.in-Goes.ensures.turns v (stage start turns) b.holds.here) in
     went g.L.Disk.tells L B c.next_command.new.input _ b c.next_command.ensures.most c.in-Ok-Some.next.0 t.line (Stored (IsWhole v) B new H) c.in-Goes.lines.items added _ (all_written _ _ c.in-Goes.lines.items w.0 w.1 (sym c.deref.ensures.value ∙ w.2) w.4 w.3)
@@ -43,7 +43,7 @@ returns-in-Goes-clause-turns g c = λ v start left told turns b.
     let B = stores g.D.PageDevice g.V.Vault in
     let H = IsAt g.L.Disk.tells L (Begun g.L.Disk.tells L) c.in-Goes.at in
     let device = λ (o : Beginning g.row.L.Denot). o.log.log.device in
-    let new = (c.step.new.pages, c.cycle.new.vault) in
+    let new : g.row.D.Denot × g.row.V.Denot = (c.step.new.pages, c.cycle.new.vault) in
     let fewer = stores_after g.D.PageDevice g.V.Vault c.in-Ok-Some.next.0 c.args.pages.now c.step.new.pages c.args.vault.now c.cycle.new.vault c.in-Goes.ensures.images c.cycle.ensures in
     let added = adds_stores B (c.args.pages.now, c.args.vault.now) new (first_stores g.D.PageDevice g.V.Vault (c.args.pages.now, c.args.vault.now)) fewer (IsWhole v) b.holds.told (Out g.L.Disk.tells L c.args.disk) H (stage start turns) c.in-Ok-Some.next.0 c.in-Goes.lines.items b.holds.here.life b.holds (c.in-Goes.ensures.turns v (stage start turns) b.holds.here) in
     subst (λ (d : g.row.L.Denot). Headline (IsWhole v) start (HandsBack g.L.Disk.tells L B d new) left c.next_command.new.input.pending (g.S.Source.left c.next_command.new.source) told (g.K.Sink.told c.write_all.new.sink) statuses.SinkFault) (sym c.disk_opened.ensures)
@@ -60,8 +60,8 @@ returns-clause-turns g c = λ v start left told turns b.
     let why = c.in-Ends.ensures.turns v s out in
     let H = Out g.L.Disk.tells L c.args.disk in
     let B = stores g.D.PageDevice g.V.Vault in
-    let old = (c.args.pages.now, c.args.vault.now) in
-    let new = (c.step.new.pages, c.args.vault.now) in
+    let old : g.row.D.Denot × g.row.V.Denot = (c.args.pages.now, c.args.vault.now) in
+    let new : g.row.D.Denot × g.row.V.Denot = (c.step.new.pages, c.args.vault.now) in
     let fewer = no_more g.D.PageDevice g.V.Vault c.args.pages.now c.step.new.pages c.args.vault.now c.in-Ends.ensures.images in
     let first = first_stores g.D.PageDevice g.V.Vault old in
     refused g.L.Disk.tells L B c.next_command.new.input _ b c.next_command.ensures.most c.in-Ok-Some.next.0 t.line 0 c.in-Ends.disk new no_opening []
