@@ -1,5 +1,5 @@
 //! A store with a vault, which one thread owns.
-ghost use Rattle.std.specs.Prelude.{◌≡◌, List, [], None, false};
+ghost use Rattle.std.specs.Prelude.{◌≡◌, List, [], None, false, IfOk};
 ghost use Rattle.wal_record.specs.declared.record.Record.{Record};
 
 use buffer_pool::PlainPool;
@@ -28,11 +28,10 @@ pub(crate) type Pool<'a, P, V, C, N> = PlainPool<
 
 /// A journal, a pool and a first pass.
 #[derive(Drop)]
-pub(crate) struct Begun<'a, L: Disk, P: PageDevice, V: Vault, C: Ledger, N: Life> {
+pub(crate) struct Begun<'a, L: Disk, P, N: Life> {
     pub(crate) journal: OwnJournal<'a, L, N>,
-    pub(crate) pool: Pool<'a, P, V, C, N>,
+    pub(crate) pool: P,
     pub(crate) pass: Pass<Entry, N>,
-    ghost idle: { (pool.out ≡ 0) × (pool.reserves ≡ false) },
 }
 
 /// A store on this log, of which nothing is on the data device. The vault names nothing.
@@ -45,7 +44,7 @@ pub(crate) fn begin<'a, L: Disk + Drop, P: PageDevice + Drop, V: Vault + Drop, C
     device: P,
     vault: V,
     faults: Tally<C>,
-) -> Result<Begun<'a, L, P, V, C, N>, Memory>
+) -> Result<Begun<'a, L, Pool<'a, P, V, C, N>, N>, Memory>
     requires untold { (opening : List Record) → N.opens opening → ⊥ }
     requires parts { (N.entries.parts ≡ 1) × (N.session_entries.parts ≡ 1) × (N.log_faults.parts ≡ 1) × (N.vault_faults.parts ≡ 1) × (N.made.parts ≡ 1) }
     requires front { tokens.front ≡ [] }
@@ -55,6 +54,7 @@ pub(crate) fn begin<'a, L: Disk + Drop, P: PageDevice + Drop, V: Vault + Drop, C
     requires sessions { tokens.books.sessions ≡ [] }
     requires maint { tokens.books.maint ≡ [] }
     requires open { log.log.log.ended ≡ None }
+    ensures idle { IfOk result (λ begun. (begun.pool.out ≡ 0) × (begun.pool.reserves ≡ false)) }
 {
     let Ok(store) = open_store(alloc, ground, tokens, log, device, NoBases) else {
         return Err(Memory);

@@ -1,9 +1,9 @@
 //! A life in which steps are taken, over devices in memory.
-ghost use Rattle.std.specs.Prelude.{◌≡◌, ◌<◌, List, [], None};
+ghost use Rattle.std.specs.Prelude.{◌≡◌, ◌<◌, List, None, false};
 ghost use Rattle.page_ops.specs.Names.{life_names};
 ghost use Rattle.wal_record.specs.declared.record.Record.{Record};
 
-use crate::life::{Begun, begin};
+use crate::life::{Begun, Pool, begin};
 use crate::log::new_log;
 use crate::steps::{Answer, Step, Told, take_steps};
 use listed_log::ListedLog;
@@ -32,10 +32,11 @@ pub(crate) struct Played<V: Vault> {
 fn play_on<'a, L: Disk + Drop, P: PageDevice + Drop, V: Vault + Drop, C: Ledger, N: Life, R: Wait>(
     rt: &R,
     alloc: Global,
-    begun: Begun<'a, L, P, V, C, N>,
+    begun: Begun<'a, L, Pool<'a, P, V, C, N>, N>,
     steps: &[Step],
 ) -> Result<Played<V>, Fault>
     requires untold { (opening : List Record) → N.opens opening → ⊥ }
+    requires idle { (begun.pool.out ≡ 0) × (begun.pool.reserves ≡ false) }
 {
     let Begun {
         mut journal,
