@@ -7,8 +7,6 @@
 #![tactic(auto)]
 
 #[cfg(test)]
-mod backups;
-#[cfg(test)]
 mod bank;
 #[cfg(test)]
 mod devices;
@@ -26,5 +24,7 @@ mod restarts;
 mod schedules;
 #[cfg(test)]
 mod scripts;
+#[cfg(test)]
+mod storing;
 #[cfg(test)]
 mod trees;
