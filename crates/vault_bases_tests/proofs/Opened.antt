@@ -1,5 +1,6 @@
 -- The books of a life that begins, in which the right to maintenance is given out.
-use Rattle.std.proofs.Common.{◌≡◌, ℕ, ◌≤◌, Bool, true, false, cond, eqb, eqb-eq, List, [], ◌∷◌, ◌++◌, Option, Some, None, refl, sym, ap, ◌∙◌}
+use Rattle.std.proofs.Common.{◌≡◌, ℕ, Bool, true, false, cond, eqb, List, [], ◌∷◌, ◌++◌, Some, None, refl, sym, ap, ◌∙◌}
+use Rattle.std.proofs.lemmas.Bool.{eqb-true}
 use Rattle.books.specs.Booking.{entry, entry_of}
 use Rattle.books.specs.declared.entry.BookEntry.{BookEntry}
 use Rattle.store_model.specs.Along.{along}
@@ -32,7 +33,7 @@ is_zero : (n : ℕ) (e : BookEntry) → entry_of n (entry 0 0 0 ∷ []) ≡ Some
 is_zero n e found = by (eqb 0 n) refl found
   where
     by : (b : Bool) → eqb 0 n ≡ b → cond b (Some (entry 0 0 0)) None ≡ Some e → n ≡ 0
-    by true same found = sym (eqb-eq 0 n same)
+    by true same found = sym (eqb-true 0 n same)
     by false same found = absurd (cc found)
 
 pub small : (pages sessions before maint : List BookEntry) → pages ≡ [] → before ≡ [] → maint ≡ before ++ entry 0 0 0 ∷ [] → IsSmall 1 (record { pages = pages; sessions = sessions; maint = maint })

@@ -21,14 +21,14 @@ pub(crate) struct Telling<'a, N: Life> {
 }
 
 impl<'a, N: Life> Model for Telling<'a, N> {
-    ghost use Rattle.page_ops.specs.Causes.{IsUntold};
+    ghost use Rattle.page_ops.specs.Causes.{IsOpen, IsUntold};
     ghost use Rattle.page_ops.specs.Seeing.{Account};
 
     ghost Value = { Account };
 
     ghost view = { λ j. j.counts };
 
-    ghost invariant = { λ j. IsUntold N.opens };
+    ghost invariant = { λ j. IsUntold N.opens × IsOpen j.counts };
 }
 
 impl<'a, N: Life> Entering<N> for Telling<'a, N> {
@@ -39,13 +39,11 @@ impl<'a, N: Life> Entering<N> for Telling<'a, N> {
     }
 
     fn log_faults(&self) -> u64 {
-        let _ = &self.counts.made;
-        0
+        self.counts.log_faults()
     }
 
     fn vault_faults(&self) -> u64 {
-        let _ = &self.counts.made;
-        0
+        self.counts.vault_faults()
     }
 
     fn enter<R: Wait>(

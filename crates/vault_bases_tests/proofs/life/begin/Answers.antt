@@ -1,4 +1,4 @@
-use Rattle.std.proofs.Common.{◌≡◌, List, [], ap, sym, ◌∙◌}
+use Rattle.std.proofs.Common.{◌≡◌, [], ap, sym, ◌∙◌}
 use Rattle.books.specs.Rights.{MaintClaim, maint_claim}
 use Rattle.front.specs.Seen.{PassSeen}
 use Rattle.wal_record.specs.Books.{maintenance_book}
