@@ -6,8 +6,8 @@
 //! or too old; behind a loss of the device a segment is so restored whole before the first of its pages is given. They are lent to
 //! each call that wants them. Each command of the life is a call: [`OwnLife::begin`], [`OwnLife::ask`], [`OwnLife::commit`],
 //! [`OwnLife::abort`], [`OwnLife::checkpoint`], [`OwnLife::backup`], [`OwnLife::archive`], [`OwnLife::lose`], [`OwnLife::help`],
-//! [`OwnLife::survey`] and [`OwnLife::close`]. They are for a life that goes on; whether it has ended, and with which LSN, [`OwnLife::ended`] tells at any moment.
-//! [`OwnLife::into_devices`] stops it.
+//! [`OwnLife::survey`] and [`OwnLife::close`]. They are for a life that goes on; whether it has ended, and with which LSN,
+//! [`OwnLife::ended`] tells at any moment. [`OwnLife::into_devices`] stops it.
 //!
 //! The model (`specs/State`) is the history, how much of the log is known to be durable, the active names, the LSN with which the
 //! life ended, if it has, and what the log disk tells of its calls. What is promised:
@@ -15,8 +15,9 @@
 //! 1. Each call adds to the history its command's own entries, and beside them what may stand there, as `store_life` has it. A
 //!    close adds what tells of pages that were written, and behind it no page is dirty and the whole log is durable. A help adds
 //!    Undos and Ends of losers, then what the segments that it restores and the pages that it brings enter, then that
-//!    pages were written (`specs/Helps`). A backup adds that its segments are done, an archive that runs are (`specs/Backed`). It takes the steps that were asked for, or fewer, and then no loser is left without an
+//!    pages were written (`specs/Helps`). It takes the steps that were asked for, or fewer, and then no loser is left without an
 //!    End, no segment is unrestored, no page awaits redo and none is dirty; while a loser is left each step is an Undo or an End.
+//!    A backup adds that its segments are done, an archive that runs are (`specs/Backed`).
 //! 2. A life ends only where a call answers `LogFault`: then the log disk failed by itself, or an armed fuse refused a call;
 //!    the opening log and each acknowledged commit are durable. After any other answer or refusal it goes on. No answer tells of a
 //!    fault of the data device; one of the vault is told only where the pages have counted one more.

@@ -37,7 +37,8 @@
 //! left, or that was handed in or made; it is legal, has the replies of a serial run, and whatever a stop may leave of it has
 //! its first transactions. The log disk that is handed back holds such a rest, also after a crash (`specs/LogDisk` of
 //! `life_commands`), each image on the data device is of it, and each object that it names is synced in the vault
-//! (`specs/Devices`; `specs/Stores` of `life_commands`). Each status comes for its own cause (`specs/Refusals` of `life_commands`, `specs/Causes` of both).
+//! (`specs/Devices`; `specs/Stores` of `life_commands`). Each status comes for its own cause (`specs/Refusals` of
+//! `life_commands`, `specs/Causes` of both).
 //!
 //! A call may begin with any use that may have left the devices so (`Last` in `specs/Turns` of `life_commands`), and those that
 //! it hands back may be handed to the next call (`laws`). It may begin, too, with what is known of the bytes alone
