@@ -111,3 +111,25 @@ fn segments_come_back_one_by_one(rt: HostRuntime) -> Result<(), Fail> {
     }
     Ok(())
 }
+
+/// It is lost once more while it comes back: what was restored is so no longer.
+const LOST_AGAIN: &str =
+    "lose\nhelp 1\nstat\nlose\nstat\nbegin D\nget D k000\nstat\nget D k199\ncommit D\nstat\n";
+
+const ANSWERED_AGAIN: &str = "lose ok\nhelp ok\n\
+    stat commits=3 losers=0 undone=0 repaired=0 pages=26 lost=2 restored=1\nlose ok\n\
+    stat commits=3 losers=0 undone=0 repaired=0 pages=26 lost=2 restored=0\nD begin\nD get k000 = c\n\
+    stat commits=3 losers=0 undone=0 repaired=0 pages=26 lost=2 restored=1\nD get k199 = V\nD commit 4\n\
+    stat commits=4 losers=0 undone=0 repaired=0 pages=26 lost=2 restored=2\n";
+
+#[test]
+fn a_loss_during_a_restore_begins_anew(rt: HostRuntime) -> Result<(), Fail> {
+    let alloc = rt.alloc();
+    for stores in [false, true] {
+        let (rows, answers) = two_hundred_rows(alloc, stores)?;
+        let script = format!(in alloc; "{rows}{LOST_AGAIN}")?;
+        let printed = format!(in alloc; "{answers}{ANSWERED_AGAIN}")?;
+        try_script(&rt, alloc, &script, &printed)?;
+    }
+    Ok(())
+}

@@ -4,7 +4,7 @@ use script_runs::{Case, try_cases};
 use std::test::Fail;
 
 /// Backups and runs of a store of one page.
-const STORED: [Case; 7] = [
+const STORED: [Case; 9] = [
     // Each backup has a number of its own, and none of them is a transaction.
     Case {
         script: "format\nopen\nbegin A\nput A x 1\nbackup\nput A x 2\nbackup\ncommit A\nstat\n",
@@ -54,6 +54,36 @@ const STORED: [Case; 7] = [
             archive\n",
         printed: "format ok\nopen commits=0 losers=0\nA begin\nA put x was none\nA commit 1\nfuse log 0\n\
             archive log failed\narchive ended 3\nstop\nopen commits=1 losers=0\narchive runs=1\n",
+    },
+    // A repair begins from the last backup, whatever was lost and restored since.
+    Case {
+        script: "format\nopen\nbegin A\nput A x 1\ncommit A\nbackup\nbegin B\nput B x 2\ncommit B\nlose\n\
+            begin C\nget C x\nput C x 3\ncommit C\nclose\ndamage 1\nopen\nbegin D\nget D x\nstat\n",
+        printed: "format ok\nopen commits=0 losers=0\nA begin\nA put x was none\nA commit 1\nbackup ok\n\
+            B begin\nB put x was = 1\nB commit 2\nlose ok\nC begin\nC get x = 2\nC put x was = 2\n\
+            C commit 3\nclose ok\ndamage 1\nopen commits=3 losers=0\nD begin\nD get x = 3\n\
+            stat commits=3 losers=0 undone=0 repaired=1 pages=1 lost=1 restored=1\n",
+    },
+    // A backup beside eight transactions that write.
+    Case {
+        script: "format\nopen\nbegin T1\nbegin T2\nbegin T3\nbegin T4\nbegin T5\nbegin T6\n\
+            begin T7\nbegin T8\nput T1 a1 1\nput T2 a2 2\nput T3 a3 3\nput T4 a4 4\n\
+            put T5 a5 5\nput T6 a6 6\nput T7 a7 7\nput T8 a8 8\nbackup\nput T1 b1 1\n\
+            put T2 b2 2\nput T3 b3 3\nput T4 b4 4\nput T5 b5 5\nput T6 b6 6\nput T7 b7 7\n\
+            put T8 b8 8\ncommit T1\ncommit T2\ncommit T3\ncommit T4\ncommit T5\ncommit T6\n\
+            commit T7\ncommit T8\nlose\nbegin R\nscan R % %\nstat\n",
+        printed: "format ok\nopen commits=0 losers=0\nT1 begin\nT2 begin\nT3 begin\nT4 begin\n\
+            T5 begin\nT6 begin\nT7 begin\nT8 begin\nT1 put a1 was none\nT2 put a2 was none\n\
+            T3 put a3 was none\nT4 put a4 was none\nT5 put a5 was none\nT6 put a6 was none\n\
+            T7 put a7 was none\nT8 put a8 was none\nbackup ok\nT1 put b1 was none\n\
+            T2 put b2 was none\nT3 put b3 was none\nT4 put b4 was none\nT5 put b5 was none\n\
+            T6 put b6 was none\nT7 put b7 was none\nT8 put b8 was none\nT1 commit 1\n\
+            T2 commit 2\nT3 commit 3\nT4 commit 4\nT5 commit 5\nT6 commit 6\nT7 commit 7\n\
+            T8 commit 8\nlose ok\nR begin\nR scan % % pairs=16\nR row a1 = 1\nR row a2 = 2\n\
+            R row a3 = 3\nR row a4 = 4\nR row a5 = 5\nR row a6 = 6\nR row a7 = 7\nR row a8 = 8\n\
+            R row b1 = 1\nR row b2 = 2\nR row b3 = 3\nR row b4 = 4\nR row b5 = 5\nR row b6 = 6\n\
+            R row b7 = 7\nR row b8 = 8\n\
+            stat commits=8 losers=0 undone=0 repaired=0 pages=1 lost=1 restored=1\n",
     },
 ];
 
