@@ -1,11 +1,12 @@
 -- What an archive's calls enter, one behind the other, and why they are refused.
 use Rattle.std.proofs.Common.{◌≡◌, ℕ, suc, ◌+◌, ◌-◌, ◌^◌, ◌<◌, ◌≤◌, List, [], ◌∷◌, ◌++◌, length, refl, sym, ap, subst, ◌∙◌, arith, append-nil, length-append, inl, inr}
-use Rattle.std.specs.Prelude.{min, Result, Ok, Err, IfErr}
+use Rattle.std.specs.Prelude.{◌⊎◌, min, Result, Ok, Err, IfErr}
 use mathlib.Core.List.{IsPrefix}
 use Rattle.front.specs.Seen.{PassSeen}
 use Rattle.store_model.specs.declared.fault.Fault.{Fault}
 use Rattle.store_model.specs.declared.fault.Fault.TheVariants as faults
 use Rattle.wal_record.specs.History.{life_log, log_of}
+use Rattle.wal_record.specs.Upkeep.{archived, standing_runs}
 use Rattle.wal_record.specs.declared.record.Record.{Record}
 use Rattle.wal_record.specs.declared.record.Record.TheVariants as kinds
 use Rattle.wal_record.specs.declared.entry.Entry.{Entry}
@@ -25,8 +26,8 @@ use Rattle.named_objects.specs.Drafts.{FailsToName, NamesOne}
 use Rattle.named_objects.specs.declared.naming.Naming.TheVariants as namings
 use Rattle.named_objects.proofs.Drafting.{part_later}
 use Rattle.named_objects.proofs.MadeObjects.{calm_sessions}
-use Rattle.archiving.specs.Archives.{AddsNone, AddsRuns, Archives, ArchivesOr, BeginsToMake, FailsToArchive, Follow, HasLongest, IsDurable, IsLongest, MakesRuns, run_size}
-use Rattle.archiving.specs.Going.{ComesNext, HasMade, MadeAll, MadeAllOr, MayHaveMade}
+use Rattle.archiving.specs.Archives.{AddsNone, AddsRuns, Archives, ArchivesOr, BeginsNext, BeginsToMake, FailsToArchive, FewWait, Follow, HasLongest, IsDurable, IsLongest, MakesNext, MakesRuns, run_size}
+use Rattle.archiving.specs.Going.{ComesNext, HasMade, MadeAll, MadeAllOr, MayHaveMade, MayHaveNext}
 use Rattle.archiving.specs.declared.waiting.Waiting.{Waiting}
 use Rattle.archiving.proofs.Standing.{few_stand}
 use Rattle.archiving.proofs.Suiting.{done}
@@ -117,13 +118,13 @@ module _ (opens : List Record → Type 0) (entries sessions : LedgerName) where
     early : AddsNone opens entries sessions (known a p no_claims) (known c r no_claims)
     early = none_then (known a p no_claims) (known b q no_claims) (known c r no_claims) none (none_of b c q r looks)
 
-    pub refused_first : MayHaveMade opens entries sessions w (known a p no_claims) (known b q no_claims)
-    refused_first = record { own = []; behind = w.first; adds = no_runs w.first w.upto (known a p no_claims) (known b q no_claims) none; few = λ l. omega (arith, l) }
+    pub refused_first : MayHaveNext opens entries sessions w (known a p no_claims) (known b q no_claims)
+    refused_first = record { own = []; behind = w.first; adds = no_runs w.first w.upto (known a p no_claims) (known b q no_claims) none; one = omega arith }
 
-    pub refused_early : MayHaveMade opens entries sessions w (known a p no_claims) (known c r no_claims)
-    refused_early = record { own = []; behind = w.first; adds = no_runs w.first w.upto (known a p no_claims) (known c r no_claims) early; few = λ l. omega (arith, l) }
+    pub refused_early : MayHaveNext opens entries sessions w (known a p no_claims) (known c r no_claims)
+    refused_early = record { own = []; behind = w.first; adds = no_runs w.first w.upto (known a p no_claims) (known c r no_claims) early; one = omega arith }
 
-    module _ (last : ℕ) (one : 1 ≤ w.first) (order : w.first ≤ last) (room : w.stood < 1024) (there : (opening : List Record) → opens opening → w.upto ≤ length (life_log opening p.log))
+    module _ (last : ℕ) (one : 1 ≤ w.first) (order : w.first ≤ last) (there : (opening : List Record) → opens opening → w.upto ≤ length (life_log opening p.log))
         (longest : (opening : List Record) → opens opening → IsLongest (life_log opening p.log) w.first last w.upto) (same : d.session_entries.amount ≡ c.session_entries.amount) where
       abbrev entry : ℕ → List Entry
       entry lsn = Rec lsn (kinds.RunDone (done w.run w.first last)) ∷ []
@@ -145,13 +146,13 @@ module _ (opens : List Record → Type 0) (entries sessions : LedgerName) where
             );
           }
 
-      pub refused_late : (f : Fault) → NamesOne opens entries sessions (namings.Run (done w.run w.first last)) (Err f) (known c r no_claims) (known d s no_claims) → MayHaveMade opens entries sessions w (known a p no_claims) (known d s no_claims)
-      refused_late faults.LogFault g = record { own = entry g.0; behind = suc last; adds = with_one g.0 g.1; few = λ l. omega (arith, room) }
+      pub refused_late : (f : Fault) → NamesOne opens entries sessions (namings.Run (done w.run w.first last)) (Err f) (known c r no_claims) (known d s no_claims) → MayHaveNext opens entries sessions w (known a p no_claims) (known d s no_claims)
+      refused_late faults.LogFault g = record { own = entry g.0; behind = suc last; adds = with_one g.0 g.1; one = omega arith }
       refused_late (faults.Ended at) g = elim g [
-        | inl n ↦ record { own = []; behind = w.first; adds = with_none n; few = λ l. omega (arith, l) }
-        | inr some ↦ record { own = entry some.0; behind = suc last; adds = with_one some.0 some.1; few = λ l. omega (arith, room) }
+        | inl n ↦ record { own = []; behind = w.first; adds = with_none n; one = omega arith }
+        | inr some ↦ record { own = entry some.0; behind = suc last; adds = with_one some.0 some.1; one = omega arith }
       ]
-      refused_late _ g = record { own = []; behind = w.first; adds = with_none g; few = λ l. omega (arith, l) }
+      refused_late _ g = record { own = []; behind = w.first; adds = with_none g; one = omega arith }
 
       pub one_made : (v : Waiting) (lsn : ℕ) → v.first ≡ last + 1 → v.upto ≡ w.upto → v.stood ≡ w.stood + 1 → NamesOne opens entries sessions (namings.Run (done w.run w.first last)) (Ok lsn) (known c r no_claims) (known d s no_claims)
           → ((opening : List Record) → opens opening → lsn ≤ s.durable) → HasMade opens entries sessions w v (known a p no_claims) (known d s no_claims)
@@ -198,12 +199,12 @@ module _ (opens : List Record → Type 0) (entries sessions : LedgerName) where
       there_then : (w v : Waiting) (a b : Known) → HasMade opens entries sessions w v a b → ((opening : List Record) → opens opening → w.upto ≤ length (life_log opening a.log)) → (opening : List Record) → opens opening → w.upto ≤ length (life_log opening b.log)
       there_then w v a b x there opening stands = let t = there opening stands in let l = length_later opening a.log b.log (begins_made w v a b x) in omega (arith, t, l)
 
-  pub refused_then : (w v : Waiting) (a b c : Known) → 1 ≤ w.first → ((opening : List Record) → opens opening → w.upto ≤ length (life_log opening a.log)) → v.stood < 1024 → HasMade opens entries sessions w v a b → MayHaveMade opens entries sessions v b c → MayHaveMade opens entries sessions w a c
+  pub refused_then : (w v : Waiting) (a b c : Known) → 1 ≤ w.first → ((opening : List Record) → opens opening → w.upto ≤ length (life_log opening a.log)) → v.stood < 1024 → HasMade opens entries sessions w v a b → MayHaveNext opens entries sessions v b c → MayHaveMade opens entries sessions w a c
   refused_then w v a b c one there room x y = record {
     own = x.own ++ y.own;
     behind = y.behind;
     adds = runs_then w.first v.first w.upto y.behind x.own y.own a b c one there_then x.adds (subst (λ (n : ℕ). AddsRuns opens entries sessions v.first n y.behind y.own b c) x.upto y.adds);
-    few = λ low. let f = y.few (omega (arith, room)) in let m = x.stood in let l = length-append x.own y.own in omega (arith, f, m, l);
+    few = λ low. let f = y.one in let m = x.stood in let l = length-append x.own y.own in omega (arith, f, m, l, room);
   }
     where
       there_then : (opening : List Record) → opens opening → w.upto ≤ length (life_log opening b.log)
@@ -219,36 +220,50 @@ module _ (opens : List Record → Type 0) (entries sessions : LedgerName) where
     longest = y.longest;
   }
 
-  module _ (a b c d : Account) (p q r s : PassSeen Entry) (flushed : Looks opens entries sessions a p b q) (second : Looks opens entries sessions b q c r) (third : Looks opens entries sessions c r d s) where
-    pub looked : AddsNone opens entries sessions (known a p no_claims) (known d s no_claims)
-    looked =
-        none_then (known a p no_claims) (known b q no_claims) (known d s no_claims) (none_of a b p q flushed) (none_then (known b q no_claims) (known c r no_claims) (known d s no_claims) (none_of b c q r second) (none_of c d r s third))
+  -- of what waits at a look
+  module _ (a d : Account) (p s : PassSeen Entry) (none : AddsNone opens entries sessions (known a p no_claims) (known d s no_claims)) (w : Waiting) (e : Known) (upto : w.upto ≡ s.durable) (next : (opening : List Record) → opens opening → ComesNext (life_log opening s.log) w) where
+    makes : (behind : ℕ) (own : List Entry) → AddsRuns opens entries sessions w.first w.upto behind own (known d s no_claims) e → (w.stood ≤ 1024 → w.stood + length own ≤ 1024) → MakesRuns opens entries sessions w.stood w.first w.upto behind own (known a p no_claims) e
+    makes behind own x few = record {
+      adds = runs_before w.first w.upto behind own (known a p no_claims) (known d s no_claims) e none x;
+      moment = s.log;
+      since = begins_of [] (known a p no_claims) (known d s no_claims) none.gains;
+      goes_on = begins_of own (known d s no_claims) e x.gains;
+      stands = λ opening stands. record { count = (next opening stands).stood; first = (next opening stands).first };
+      durable = let l = x.gains.durable in omega (arith, l, upto);
+      few = λ opening stands.
+          let n = (next opening stands).stood in
+          let most = few_stand (life_log opening s.log) ((none.gains.consistent.sound opening stands).lawful) in
+          few (omega (arith, n, most));
+    }
 
-    module _ (w : Waiting) (e : Known) (flush : (opening : List Record) → opens opening → min (2 ^ 64 - 1) (length (life_log opening q.log)) ≤ q.durable) (upto : w.upto ≡ s.durable) (small : w.upto < 2 ^ 63) (next : (opening : List Record) → opens opening → ComesNext (life_log opening s.log) w) where
-      makes : (behind : ℕ) (own : List Entry) → AddsRuns opens entries sessions w.first w.upto behind own (known d s no_claims) e → (w.stood ≤ 1024 → w.stood + length own ≤ 1024) → MakesRuns opens entries sessions w.stood w.first w.upto behind own (known a p no_claims) e
-      makes behind own x few = record {
-        adds = runs_before w.first w.upto behind own (known a p no_claims) (known d s no_claims) e looked x;
-        moment = s.log;
-        since = begins_of [] (known a p no_claims) (known d s no_claims) looked.gains;
-        goes_on = begins_of own (known d s no_claims) e x.gains;
-        stands = λ opening stands. record { count = (next opening stands).stood; first = (next opening stands).first };
-        durable = let l = x.gains.durable in omega (arith, l, upto);
-        whole = λ opening stands.
-            let f = flush opening stands in
-            let l = length_later opening p.log q.log flushed.now.begins in
-            let m = second.durable in
-            let n = third.durable in
-            omega (arith, f, l, m, n, upto, small);
-        few = λ opening stands.
-            let n = (next opening stands).stood in
-            let most = few_stand (life_log opening s.log) ((third.now.consistent.sound opening stands).lawful) in
-            few (omega (arith, n, most));
-      }
+    -- one run
+    module _ (room : w.stood < 1024) where
+      pub begins_next : MayHaveNext opens entries sessions w (known d s no_claims) e → BeginsNext opens entries sessions (known a p no_claims) e
+      begins_next x = record { stood = w.stood; next = w.first; upto = w.upto; behind = x.behind; own = x.own; makes = makes x.behind x.own x.adds (λ low. let o = x.one in omega (arith, o, room)); one = x.one }
 
-      pub begun : MayHaveMade opens entries sessions w (known d s no_claims) e → BeginsToMake opens entries sessions (known a p no_claims) e
-      begun x = record { stood = w.stood; next = w.first; upto = w.upto; behind = x.behind; own = x.own; makes = makes x.behind x.own x.adds x.few }
+      pub makes_next : (v : Waiting) → v.stood ≡ w.stood + 1 → w.first + 1000 ≤ suc w.upto → HasMade opens entries sessions w v (known d s no_claims) e → MakesNext opens entries sessions (known a p no_claims) e
+      makes_next v more many x =
+          let n = x.stood in
+          let l = none.gains.durable in
+          record {
+            stood = w.stood;
+            next = w.first;
+            upto = w.upto;
+            behind = v.first;
+            own = x.own;
+            makes = makes v.first x.own x.adds (λ low. omega (arith, n, more, room));
+            one = omega (arith, n, more);
+            many = many;
+            later = omega (arith, l, upto);
+            named = x.named;
+          }
 
-      pub archived_all : (count : ℕ) → MadeAll opens entries sessions count w (known d s no_claims) e → Archives opens entries sessions count (known a p no_claims) e
+    -- all
+    module _ (whole : (opening : List Record) → opens opening → length (life_log opening p.log) ≤ w.upto) where
+      begun : MayHaveMade opens entries sessions w (known d s no_claims) e → BeginsToMake opens entries sessions (known a p no_claims) e
+      begun x = record { stood = w.stood; next = w.first; upto = w.upto; behind = x.behind; own = x.own; makes = makes x.behind x.own x.adds x.few; whole = whole }
+
+      archived_all : (count : ℕ) → MadeAll opens entries sessions count w (known d s no_claims) e → Archives opens entries sessions count (known a p no_claims) e
       archived_all count x =
           let made = x.made in
           let n = made.stood in
@@ -260,6 +275,7 @@ module _ (opens : List Record → Type 0) (entries sessions : LedgerName) where
             behind = x.now.first;
             own = made.own;
             makes = makes x.now.first made.own made.adds (λ low. let f = x.few low in omega (arith, f, n));
+            whole = whole;
             counted = omega (arith, n, m);
             named = made.named;
             done = elim x.done [
@@ -271,6 +287,30 @@ module _ (opens : List Record → Type 0) (entries sessions : LedgerName) where
       pub archives_or : (result : Result ℕ Fault) → MadeAllOr opens entries sessions result w (known d s no_claims) e → ArchivesOr opens entries sessions result (known a p no_claims) e
       archives_or (Ok count) x = archived_all count x
       archives_or (Err f) x = inr (begun x)
+
+  module _ (a b c : Account) (p q r : PassSeen Entry) (first : Looks opens entries sessions a p b q) (second : Looks opens entries sessions b q c r) where
+    pub looked : AddsNone opens entries sessions (known a p no_claims) (known c r no_claims)
+    looked = none_then (known a p no_claims) (known b q no_claims) (known c r no_claims) (none_of a b p q first) (none_of b c q r second)
+
+    module _ (d : Account) (s : PassSeen Entry) (third : Looks opens entries sessions c r d s) where
+      pub looked_on : AddsNone opens entries sessions (known a p no_claims) (known d s no_claims)
+      looked_on = none_then (known a p no_claims) (known c r no_claims) (known d s no_claims) looked (none_of c d r s third)
+
+      -- all that stood before a flush is durable then
+      pub all_there : (upto : ℕ) → ((opening : List Record) → opens opening → min (2 ^ 64 - 1) (length (life_log opening q.log)) ≤ q.durable) → upto ≡ s.durable → upto < 2 ^ 63 → (opening : List Record) → opens opening → length (life_log opening p.log) ≤ upto
+      all_there upto flush is small opening stands =
+          let f = flush opening stands in
+          let l = length_later opening p.log q.log first.now.begins in
+          let m = second.durable in
+          let n = third.durable in
+          omega (arith, f, l, m, n, is, small)
+
+-- the look tells how much waits
+pub few_wait : (durable runs last : ℕ) (log : List Record) → runs ≡ length (standing_runs log) → last ≡ archived (standing_runs log) → (durable < last + 1000) ⊎ (1024 ≤ runs) → FewWait durable log
+few_wait durable runs last log count end few = elim few [
+  | inl low ↦ inl (omega (arith, low, end))
+  | inr many ↦ inr (omega (arith, many, count))
+]
 
 -- ---- why it is refused
 

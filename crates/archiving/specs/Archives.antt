@@ -1,5 +1,5 @@
 -- What an archive enters, and why it is refused.
-use Rattle.std.specs.Prelude.{◌≡◌, ◌⊎◌, ℕ, suc, ◌+◌, ◌<◌, ◌≤◌, List, [], ◌∷◌, length, Result, Ok, Err}
+use Rattle.std.specs.Prelude.{◌≡◌, ◌⊎◌, ℕ, suc, ◌+◌, ◌<◌, ◌≤◌, Bool, true, false, List, [], ◌∷◌, length, Result, Ok, Err}
 use mathlib.Core.List.{IsPrefix}
 use Rattle.media.specs.Cause.{Rose}
 use Rattle.store_model.specs.declared.fault.Fault.{Fault}
@@ -53,6 +53,10 @@ pub record Stands (log : List Record) (stood next : ℕ) : Type 0 where
   pub count : stood ≡ length (standing_runs log)
   pub first : next ≡ suc (archived (standing_runs log))
 
+-- Of a log that is durable up to this LSN fewer than 1,000 records wait for a run, or as many runs stand as may.
+abbrev pub FewWait : ℕ → List Record → Type 0
+FewWait durable log = (durable < archived (standing_runs log) + 1000) ⊎ (1024 ≤ length (standing_runs log))
+
 -- ---- what is entered
 
 -- nothing, though others may have entered something
@@ -69,7 +73,7 @@ pub record AddsRuns (opens : List Record → Type 0) (entries sessions : LedgerN
   pub longest : (opening : List Record) → opens opening → Each (HasLongest (life_log opening new.log) upto) own
 
 -- Runs were made behind those that stood at some moment of the call, not more than may stand. The records are up to an LSN up
--- to which the log was durable, with all that stood as the call began.
+-- to which the log was durable.
 pub record MakesRuns (opens : List Record → Type 0) (entries sessions : LedgerName) (stood next upto behind : ℕ) (own : List Entry) (old new : Known) : Type 0 where
   pub adds : AddsRuns opens entries sessions next upto behind own old new
   pub moment : List Entry
@@ -77,11 +81,10 @@ pub record MakesRuns (opens : List Record → Type 0) (entries sessions : Ledger
   pub goes_on : IsPrefix moment new.log
   pub stands : (opening : List Record) → opens opening → Stands (life_log opening moment) stood next
   pub durable : upto ≤ new.durable
-  pub whole : (opening : List Record) → opens opening → length (life_log opening old.log) ≤ upto
   pub few : (opening : List Record) → opens opening → stood + length own ≤ 1024
 
--- So many runs were made, and the log is durable up to each record that says so. No record waits then, or as many runs stand as
--- may.
+-- So many runs were made, of all that stood as the call began, and the log is durable up to each record that says so. No record
+-- waits then, or as many runs stand as may.
 pub record Archives (opens : List Record → Type 0) (entries sessions : LedgerName) (count : ℕ) (old new : Known) : Type 0 where
   pub stood : ℕ
   pub next : ℕ
@@ -89,11 +92,12 @@ pub record Archives (opens : List Record → Type 0) (entries sessions : LedgerN
   pub behind : ℕ
   pub own : List Entry
   pub makes : MakesRuns opens entries sessions stood next upto behind own old new
+  pub whole : (opening : List Record) → opens opening → length (life_log opening old.log) ≤ upto
   pub counted : count ≡ length own
   pub named : (opening : List Record) → opens opening → Each (IsDurable new.durable) own
   pub done : (upto < behind) ⊎ (1024 ≤ stood + count)
 
--- some runs may be made
+-- some runs may be made, of all that stood as the call began
 pub record BeginsToMake (opens : List Record → Type 0) (entries sessions : LedgerName) (old new : Known) : Type 0 where
   pub stood : ℕ
   pub next : ℕ
@@ -101,10 +105,47 @@ pub record BeginsToMake (opens : List Record → Type 0) (entries sessions : Led
   pub behind : ℕ
   pub own : List Entry
   pub makes : MakesRuns opens entries sessions stood next upto behind own old new
+  pub whole : (opening : List Record) → opens opening → length (life_log opening old.log) ≤ upto
 
 abbrev pub ArchivesOr : (List Record → Type 0) → LedgerName → LedgerName → Result ℕ Fault → Known → Known → Type 0
 ArchivesOr opens entries sessions (Ok count) old new = Archives opens entries sessions count old new
 ArchivesOr opens entries sessions (Err fault) old new = AddsNone opens entries sessions old new ⊎ BeginsToMake opens entries sessions old new
+
+-- ---- one run, where it is due
+
+-- One was made where 1,000 records waited at least, up to an LSN up to which the log was durable by then; and the log is durable
+-- up to the record that says so.
+pub record MakesNext (opens : List Record → Type 0) (entries sessions : LedgerName) (old new : Known) : Type 0 where
+  pub stood : ℕ
+  pub next : ℕ
+  pub upto : ℕ
+  pub behind : ℕ
+  pub own : List Entry
+  pub makes : MakesRuns opens entries sessions stood next upto behind own old new
+  pub one : length own ≡ 1
+  pub many : next + 1000 ≤ suc upto
+  pub later : old.durable ≤ upto
+  pub named : (opening : List Record) → opens opening → Each (IsDurable new.durable) own
+
+-- none was made, since few records wait
+pub record MakesNone (opens : List Record → Type 0) (entries sessions : LedgerName) (old new : Known) : Type 0 where
+  pub adds : AddsNone opens entries sessions old new
+  pub few : (opening : List Record) → opens opening → FewWait new.durable (life_log opening new.log)
+
+-- one may be made
+pub record BeginsNext (opens : List Record → Type 0) (entries sessions : LedgerName) (old new : Known) : Type 0 where
+  pub stood : ℕ
+  pub next : ℕ
+  pub upto : ℕ
+  pub behind : ℕ
+  pub own : List Entry
+  pub makes : MakesRuns opens entries sessions stood next upto behind own old new
+  pub one : length own ≤ 1
+
+abbrev pub ArchivesNextOr : (List Record → Type 0) → LedgerName → LedgerName → Result Bool Fault → Known → Known → Type 0
+ArchivesNextOr opens entries sessions (Ok true) old new = MakesNext opens entries sessions old new
+ArchivesNextOr opens entries sessions (Ok false) old new = MakesNone opens entries sessions old new
+ArchivesNextOr opens entries sessions (Err fault) old new = AddsNone opens entries sessions old new ⊎ BeginsNext opens entries sessions old new
 
 -- ---- why it is refused
 

@@ -38,6 +38,13 @@ pub record HasMade (opens : List Record → Type 0) (entries sessions : LedgerNa
   pub upto : now.upto ≡ first.upto
   pub stood : now.stood ≡ first.stood + length own
 
+-- where the next one is refused, nothing was entered, or its record, which isn't durable
+pub record MayHaveNext (opens : List Record → Type 0) (entries sessions : LedgerName) (first : Waiting) (old new : Known) : Type 0 where
+  pub own : List Entry
+  pub behind : ℕ
+  pub adds : AddsRuns opens entries sessions first.first first.upto behind own old new
+  pub one : length own ≤ 1
+
 -- where it is refused, some were made, or one more whose record isn't durable
 pub record MayHaveMade (opens : List Record → Type 0) (entries sessions : LedgerName) (first : Waiting) (old new : Known) : Type 0 where
   pub own : List Entry
@@ -47,7 +54,7 @@ pub record MayHaveMade (opens : List Record → Type 0) (entries sessions : Ledg
 
 abbrev pub HasMadeOr : {T : Type 0} → (List Record → Type 0) → LedgerName → LedgerName → Result T Fault → Waiting → Waiting → Known → Known → Type 0
 HasMadeOr opens entries sessions (Ok x) first now old new = HasMade opens entries sessions first now old new
-HasMadeOr opens entries sessions (Err fault) first now old new = MayHaveMade opens entries sessions first old new
+HasMadeOr opens entries sessions (Err fault) first now old new = MayHaveNext opens entries sessions first old new
 
 -- all that waited, or as many as may stand; so many
 pub record MadeAll (opens : List Record → Type 0) (entries sessions : LedgerName) (count : ℕ) (first : Waiting) (old new : Known) : Type 0 where

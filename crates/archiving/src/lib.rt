@@ -9,10 +9,13 @@
 //! stood as the call began is in a run, or as many runs stand as may (`entered`). The call enters nothing else, and counts the
 //! runs that it made. What stands in the objects is the objects' own promise (`named_objects`). After a refusal the runs that
 //! are done stay named. Each refusal has its cause (`refused`, `open`).
+//!
+//! [`archive_next`] is for help: it makes one such run, ahead of need, of the records up to which the log is durable, and only
+//! where at least 1,000 of them wait. So the log isn't made durable for it, and no run is small.
 #![tactic(auto)]
 
 mod gathering;
 mod making;
 mod waiting;
 
-pub use making::archive;
+pub use making::{archive, archive_next};

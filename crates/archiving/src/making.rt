@@ -6,11 +6,11 @@ ghost use Rattle.page_ops.specs.Gains.{IsSettled};
 ghost use Rattle.page_ops.specs.Seeing.{known};
 ghost use Rattle.wal_record.specs.History.{life_log};
 ghost use Rattle.wal_record.specs.declared.record.Record.{Record};
-ghost use Rattle.archiving.specs.Archives.{ArchivesOr, FailsToArchive};
+ghost use Rattle.archiving.specs.Archives.{ArchivesNextOr, ArchivesOr, FailsToArchive};
 ghost use Rattle.archiving.specs.Going.{HasMadeOr, MadeAllOr, MayGoOn};
 
 use crate::gathering::gather;
-use crate::waiting::{MOST_RUNS, Waiting, what_waits};
+use crate::waiting::{MOST_RUNS, Waiting, is_due, what_waits};
 use front::Pass;
 use named_objects::{Naming, Objects, name_object};
 use page_ops::{Journaling, Life};
@@ -107,4 +107,33 @@ pub fn archive<N: Life, J: Journaling<N>, O: Objects<N>, R: Wait>(
     let since = objects.last_named(rt, journal, pass);
     let from = what_waits(rt, alloc, journal, pass)?;
     make_runs(rt, alloc, journal, objects, from, since, pass)
+}
+
+/// Makes the next run, the longest whose items have at most 16 MiB, of the records up to which the log is durable, where at least
+/// 1,000 of them wait and fewer runs stand than may. Says whether it made one. Where none is made it takes no memory; where
+/// somebody else makes an object meanwhile, it wants memory.
+pub fn archive_next<N: Life, J: Journaling<N>, O: Objects<N>, R: Wait>(
+    rt: &R,
+    alloc: Global,
+    journal: &mut J,
+    objects: &mut O,
+    pass: &mut Pass<Entry, N>,
+) -> Result<bool, Fault>
+    ensures entered { ArchivesNextOr N.opens N.entries N.session_entries result (known (J.account journal.old) pass.old no_claims) (known (J.account journal.new) pass.new no_claims) }
+    ensures faults { O.faults objects.old ≤ O.faults objects.new }
+    ensures open { OnOk result (MeetsNoEnd (J.account journal.old) (J.account journal.new)) }
+    ensures refused { IfErr result (FailsToArchive N.opens N.log_faults N.made (O.faults objects.old) (O.faults objects.new) (J.account journal.old) (J.account journal.new) pass.new.log) }
+{
+    let since = objects.last_named(rt, journal, pass);
+    let work = journal.work(rt, pass)?;
+    if !is_due(work.runs as usize, work.archived, work.durable) {
+        return Ok(false);
+    }
+    let mut waiting = what_waits(rt, alloc, journal, pass)?;
+    // Somebody else may have made a run since the first look.
+    if !is_due(waiting.stood, waiting.first - 1, waiting.upto) {
+        return Ok(false);
+    }
+    make_next(rt, alloc, journal, objects, &mut waiting, since, pass)?;
+    Ok(true)
 }

@@ -1,5 +1,5 @@
 //! What waits for the archive.
-ghost use Rattle.std.specs.Prelude.{◌≡◌, ◌^◌, ◌<◌, ◌≤◌, List, IfErr, IfOk, OnOk, length};
+ghost use Rattle.std.specs.Prelude.{◌≡◌, ◌⊎◌, ◌+◌, ◌^◌, ◌<◌, ◌≤◌, List, IfErr, IfOk, OnOk, false, length, true};
 ghost use Rattle.page_ops.specs.Causes.{EndsBy, FailsToEnter, MeetsNoEnd, NoOther};
 ghost use Rattle.page_ops.specs.Seeing.{Looks};
 ghost use Rattle.wal_record.specs.History.{life_log};
@@ -16,6 +16,9 @@ use wal_record::{Entry, Run};
 
 /// How many runs may stand.
 pub(crate) const MOST_RUNS: usize = 1_024;
+
+/// How many records wait at least where one run is made ahead of need: runs of fewer would be many small objects.
+const WAITING_RECORDS: u64 = 1_000;
 
 /// The number of the next run, the LSN at which it begins, the last LSN that runs are made up to, and how many runs stand.
 #[derive(Clone, Copy)]
@@ -34,6 +37,15 @@ fn archived(runs: &[Run]) -> Lsn
         Some(run) => run.last,
         None => 0,
     }
+}
+
+/// Whether a run is due ahead of need, where so many stand, which have the records up to an LSN, of a log that is durable up to
+/// another one.
+pub(crate) fn is_due(stood: usize, archived: Lsn, durable: Lsn) -> bool
+    ensures due { result ≡ true → (stood < 1024) × (archived + 1000 ≤ durable) }
+    ensures few { result ≡ false → (durable < archived + 1000) ⊎ (1024 ≤ stood) }
+{
+    stood < MOST_RUNS && durable.saturating_sub(archived) >= WAITING_RECORDS
 }
 
 /// What waits behind the runs that stand: the records up to which the log is durable. LSNs above the greatest that a record

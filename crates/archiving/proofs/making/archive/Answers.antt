@@ -3,7 +3,7 @@ use Rattle.std.proofs.lemmas.Result.{err_from_is_err_and}
 use Rattle.page_ops.specs.Claims.{no_claims}
 use Rattle.page_ops.specs.Seeing.{Account, known}
 use Rattle.page_ops.proofs.Gaining.{keeps_then}
-use Rattle.archiving.proofs.Adding.{archives_or, fails_or, fails_then, met_open, met_then, of_entry}
+use Rattle.archiving.proofs.Adding.{all_there, archives_or, fails_or, fails_then, looked_on, met_open, met_then, of_entry}
 use Rattle.archiving.proofs.Turning.{begins_at}
 use Rattle.archiving.proofs.making.archive.Goals as goal
 
@@ -27,9 +27,17 @@ make_runs-requires-clause-next g c =
 
 pub returns-clause-entered : goal.returns-clause-entered
 returns-clause-entered g c =
-    archives_or g.N.Life.opens g.N.Life.entries g.N.Life.session_entries (g.J.Entering.account c.args.journal.now) (g.J.Entering.account c.flush.new.self) (g.J.Entering.account c.last_named-since.new.journal) (g.J.Entering.account c.what_waits.new.journal)
-    c.args.pass.now c.flush.new.pass c.last_named-since.new.pass c.what_waits.new.pass c.flush.ensures.seen c.last_named-since.ensures.seen c.what_waits.ensures.seen c.in_ok-from.from (known (g.J.Entering.account c.make_runs.new.journal) c.make_runs.new.pass no_claims)
-    c.in_ok-flush.ensures.durable c.in_ok-from.ensures.durable c.in_ok-from.ensures.numbers.1 c.in_ok-from.ensures.next c.make_runs.result c.make_runs.ensures.entered
+    let a : Account = g.J.Entering.account c.args.journal.now in
+    let b : Account = g.J.Entering.account c.flush.new.self in
+    let d : Account = g.J.Entering.account c.last_named-since.new.journal in
+    let e : Account = g.J.Entering.account c.what_waits.new.journal in
+    let p = c.args.pass.now in
+    let q = c.flush.new.pass in
+    let r = c.last_named-since.new.pass in
+    let s = c.what_waits.new.pass in
+    let none = looked_on g.N.Life.opens g.N.Life.entries g.N.Life.session_entries a b d p q r c.flush.ensures.seen c.last_named-since.ensures.seen e s c.what_waits.ensures.seen in
+    let whole = all_there g.N.Life.opens g.N.Life.entries g.N.Life.session_entries a b d p q r c.flush.ensures.seen c.last_named-since.ensures.seen e s c.what_waits.ensures.seen c.in_ok-from.from.upto c.in_ok-flush.ensures.durable c.in_ok-from.ensures.durable c.in_ok-from.ensures.numbers.1 in
+    archives_or g.N.Life.opens g.N.Life.entries g.N.Life.session_entries a e p s none c.in_ok-from.from (known (g.J.Entering.account c.make_runs.new.journal) c.make_runs.new.pass no_claims) c.in_ok-from.ensures.durable c.in_ok-from.ensures.next whole c.make_runs.result c.make_runs.ensures.entered
 
 pub returns-clause-refused : goal.returns-clause-refused
 returns-clause-refused g c =

@@ -59,7 +59,7 @@ returns-in_err-lsn-clause-entered g c =
     let p = err_from_is_err_and c.from_residual-in_err-lsn.result c.from_residual-in_err-lsn.ensures.1 in
     rw p.1
     (refused_late g.N.Life.opens g.N.Life.entries g.N.Life.session_entries (g.J.Entering.account c.args.journal.now) (g.J.Entering.account c.gather.new.journal) (g.J.Entering.account c.last_named.new.journal) (g.J.Entering.account c.name_object.new.journal)
-    c.args.pass.now c.gather.new.pass c.last_named.new.pass c.name_object.new.pass c.in_ok-items.ensures.entered c.last_named.ensures.seen c.args.waiting.now c.in_ok-items.last c.requires.numbers.0 c.in_ok-items.ensures.range.0 c.requires.room c.requires.there c.in_ok-items.ensures.longest
+    c.args.pass.now c.gather.new.pass c.last_named.new.pass c.name_object.new.pass c.in_ok-items.ensures.entered c.last_named.ensures.seen c.args.waiting.now c.in_ok-items.last c.requires.numbers.0 c.in_ok-items.ensures.range.0 c.requires.there c.in_ok-items.ensures.longest
     c.name_object.ensures.sessions c.in_err-lsn.field-0.0 c.in_err-lsn.ensures.entered)
 
 pub returns-in_err-lsn-clause-refused : goal.returns-in_err-lsn-clause-refused
@@ -79,7 +79,7 @@ returns-in_err-lsn-clause-refused g c =
 pub returns-clause-entered : goal.returns-clause-entered
 returns-clause-entered g c =
     one_made g.N.Life.opens g.N.Life.entries g.N.Life.session_entries (g.J.Entering.account c.args.journal.now) (g.J.Entering.account c.gather.new.journal) (g.J.Entering.account c.last_named.new.journal) (g.J.Entering.account c.name_object.new.journal)
-    c.args.pass.now c.gather.new.pass c.last_named.new.pass c.name_object.new.pass c.in_ok-items.ensures.entered c.last_named.ensures.seen c.args.waiting.now c.in_ok-items.last c.requires.numbers.0 c.in_ok-items.ensures.range.0 c.requires.room c.requires.there c.in_ok-items.ensures.longest
+    c.args.pass.now c.gather.new.pass c.last_named.new.pass c.name_object.new.pass c.in_ok-items.ensures.entered c.last_named.ensures.seen c.args.waiting.now c.in_ok-items.last c.requires.numbers.0 c.in_ok-items.ensures.range.0 c.requires.there c.in_ok-items.ensures.longest
     c.name_object.ensures.sessions _ c.in_ok-lsn.lsn refl refl refl c.in_ok-lsn.ensures.entered c.in_ok-lsn.ensures.durable
 
 pub returns-clause-next : goal.returns-clause-next
