@@ -1,5 +1,5 @@
 -- What a backup and an archive add to a life of which nobody else enters anything.
-use Rattle.std.proofs.Common.{◌≡◌, ℕ, ◌+◌, ◌<◌, ◌≤◌, true, List, [], ◌∷◌, ◌++◌, Result, Ok, Err, sym, subst, ◌∙◌, arith, inl, inr, refl}
+use Rattle.std.proofs.Common.{◌≡◌, ℕ, ◌+◌, ◌<◌, ◌≤◌, Bool, true, false, List, [], ◌∷◌, ◌++◌, Result, Ok, Err, sym, subst, ◌∙◌, append-nil, arith, inl, inr, refl}
 use Rattle.std.specs.Prelude.{◌⊎◌}
 use Rattle.std.specs.List.{All}
 use Rattle.std.proofs.lemmas.Bool.{eqb-true}
@@ -26,7 +26,7 @@ use Rattle.command_laws.proofs.Listed.{each_by}
 use Rattle.command_laws.proofs.Living.{BeginsNone, all_weaker, still_named}
 use Rattle.backups.specs.Backups as backups
 use Rattle.archiving.specs.Archives as archives
-use Rattle.own_life.specs.Backed.{AddsBackup, AddsRuns, Archives, BacksUp, IsOfBackup, IsRunEntry}
+use Rattle.own_life.specs.Backed.{AddsBackup, AddsRuns, Archives, ArchivesNext, BacksUp, IsOfBackup, IsRunEntry, MakesUpto}
 
 -- ---- which entries
 
@@ -62,6 +62,14 @@ pub archive_named : (opens : List Record → Type 0) (r : Result ℕ Fault) (h h
 archive_named opens (Ok count) h h' durable active a named = runs_named h h' active a.0 named
 archive_named opens (Err f) h h' durable active a named = runs_named h h' active a named
 
+pub upto_runs : (n : ℕ) (h h' : List Entry) → MakesUpto n h h' → AddsRuns h h'
+upto_runs n h h' m = record { own = m.0; each = m.1; added = m.3 }
+
+pub next_named : (opens : List Record → Type 0) (r : Result Bool Fault) (h h' : List Entry) (before now : ℕ) (active : List Active) → ArchivesNext opens r h h' before now → AreNamed h active → AreNamed h' active
+next_named opens (Ok true) h h' before now active a named = runs_named h h' active a.0 named
+next_named opens (Ok false) h h' before now active a named = subst (λ (l : List Entry). AreNamed l active) (sym a.0) named
+next_named opens (Err f) h h' before now active a named = runs_named h h' active (upto_runs 1 h h' a) named
+
 -- ---- where more is durable
 
 each_later : (P Q : Entry → Type 0) → ((e : Entry) → P e → Q e) → (es : List Entry) → Each P es → Each Q es
@@ -83,6 +91,31 @@ backup_later opens (Err f) h h' d d' more b = b
 pub archive_later : (opens : List Record → Type 0) (r : Result ℕ Fault) (h h' : List Entry) (d d' : ℕ) → d ≤ d' → Archives opens r h h' d → Archives opens r h h' d'
 archive_later opens (Ok count) h h' d d' more a = (a.0, a.1, λ opening may. let w = a.2 opening may in (w.0, each_later (archives.IsDurable d) (archives.IsDurable d') (run_durable d d' more) a.0.own w.1))
 archive_later opens (Err f) h h' d d' more a = a
+
+pub next_later : (opens : List Record → Type 0) (r : Result Bool Fault) (h h' : List Entry) (before d d' : ℕ) → d ≤ d' → ArchivesNext opens r h h' before d → ArchivesNext opens r h h' before d'
+next_later opens (Ok true) h h' before d d' more a = (
+  a.0,
+  a.1,
+  λ opening may.
+      let x = a.2 opening may in
+      let within = x.within in
+      record {
+        stood = x.stood;
+        next = x.next;
+        upto = x.upto;
+        behind = x.behind;
+        moment = x.moment;
+        since = x.since;
+        goes_on = x.goes_on;
+        stands = x.stands;
+        follow = x.follow;
+        many = x.many;
+        within = omega (arith, within, more);
+        named = each_later (archives.IsDurable d) (archives.IsDurable d') (run_durable d d' more) a.0.own x.named;
+      },
+)
+next_later opens (Ok false) h h' before d d' more a = (a.0, (a.1.0, a.1.1, let within = a.1.2 in omega (arith, within, more), a.1.3))
+next_later opens (Err f) h h' before d d' more a = a
 
 -- ---- what was entered
 
@@ -131,7 +164,7 @@ module _ (opens : List Record → Type 0) (ledger sessions : LedgerName) (a a' :
         goes_on = b.makes.goes_on;
         stands = b.makes.stands opening may;
         follow = b.makes.adds.follow;
-        whole = b.makes.whole opening may;
+        whole = b.whole opening may;
         done = subst (λ (n : ℕ). (b.upto < b.behind) ⊎ (1024 ≤ b.stood + n)) b.counted b.done;
       },
       b.named opening may,
@@ -153,6 +186,44 @@ module _ (opens : List Record → Type 0) (ledger sessions : LedgerName) (a a' :
 
   pub archive_keeps : (r : Result ℕ Fault) → archives.ArchivesOr opens ledger sessions r (known a t no_claims) (known a' t' no_claims) → Keeps a a'
   archive_keeps r b = let g = archive_gains r b in g.1.keeps
+
+  pub next_archived : (r : Result Bool Fault) → archives.ArchivesNextOr opens ledger sessions r (known a t no_claims) (known a' t' no_claims) → ArchivesNext opens r t.log t'.log t.durable t'.durable
+  next_archived (Ok true) b = (
+    record { own = b.own; each = runs_all b.next b.own b.behind b.makes.adds.follow; added = gained b.own b.makes.adds.gains },
+    b.one,
+    λ opening may. record {
+      stood = b.stood;
+      next = b.next;
+      upto = b.upto;
+      behind = b.behind;
+      moment = b.makes.moment;
+      since = b.makes.since;
+      goes_on = b.makes.goes_on;
+      stands = b.makes.stands opening may;
+      follow = b.makes.adds.follow;
+      many = b.many;
+      within = b.makes.durable;
+      named = b.named opening may;
+    },
+  )
+  next_archived (Ok false) b = (gained [] b.adds.gains ∙ append-nil t.log, (t'.durable, b.adds.gains.durable, omega arith, b.few))
+  next_archived (Err f) (inl none) = ([], All-nil IsRunEntry, omega arith, gained [] none.gains)
+  next_archived (Err f) (inr b) = (b.own, runs_all b.next b.own b.behind b.makes.adds.follow, b.one, gained b.own b.makes.adds.gains)
+
+  next_gains : (r : Result Bool Fault) → archives.ArchivesNextOr opens ledger sessions r (known a t no_claims) (known a' t' no_claims) → (own : List Entry) × Gains opens ledger sessions own (known a t no_claims) (known a' t' no_claims)
+  next_gains (Ok true) b = (b.own, b.makes.adds.gains)
+  next_gains (Ok false) b = ([], b.adds.gains)
+  next_gains (Err f) (inl none) = ([], none.gains)
+  next_gains (Err f) (inr b) = (b.own, b.makes.adds.gains)
+
+  pub next_alone : (r : Result Bool Fault) → archives.ArchivesNextOr opens ledger sessions r (known a t no_claims) (known a' t' no_claims) → IsAlone opens ledger a' t'.log
+  next_alone r b = let g = next_gains r b in alone_behind g.0 g.1
+
+  pub next_durable : (r : Result Bool Fault) → archives.ArchivesNextOr opens ledger sessions r (known a t no_claims) (known a' t' no_claims) → t.durable ≤ t'.durable
+  next_durable r b = let g = next_gains r b in g.1.durable
+
+  pub next_keeps : (r : Result Bool Fault) → archives.ArchivesNextOr opens ledger sessions r (known a t no_claims) (known a' t' no_claims) → Keeps a a'
+  next_keeps r b = let g = next_gains r b in g.1.keeps
 
 -- ---- why it is refused
 

@@ -1,10 +1,11 @@
 -- The steps of a help, one after the other: what they add.
 use Rattle.std.proofs.Common.{◌≡◌, ℕ, ◌+◌, ◌<◌, ◌≤◌, Bool, true, false, cond, ltb-true, List, [], ◌∷◌, ◌++◌, length, refl, sym, ap, subst, ◌∙◌, append-nil, append_assoc, length-append, arith, inl, inr}
-use Rattle.std.specs.Prelude.{◌⊎◌, filter}
+use Rattle.std.specs.Prelude.{◌⊎◌, filter, Result, Ok, Err}
 use Rattle.std.specs.List.{All}
 use Rattle.std.proofs.Math.Dec.{ltb}
 use Rattle.std.proofs.lemmas.Bool.{ltb-false}
 use Rattle.std.proofs.lemmas.List.Elements.{All-append, All-cons, All-head, All-nil, All-tail, filter-append}
+use Rattle.store_model.specs.declared.fault.Fault.{Fault}
 use Rattle.wal_record.specs.declared.record.Record.{Record}
 use Rattle.wal_record.specs.declared.record.Record.TheVariants as kinds
 use Rattle.wal_record.specs.declared.entry.Entry.{Entry}
@@ -16,6 +17,7 @@ use Rattle.maintenance.proofs.Steps.{least_loses}
 use Rattle.rollback.specs.Owners.{IsLoserOf}
 use Rattle.store_life.specs.Steps.{AddsStep, AddsUpkeep, IsStep}
 use Rattle.store_life.proofs.Stepped.{over_later}
+use Rattle.own_life.specs.Backed.{AreArchived, ArchivesNext, IsRunEntry, MakesUpto}
 use Rattle.own_life.specs.Helps.{AddsSteps, Helps, Undoes, UndoesSome, takes_back}
 use Rattle.own_life.specs.Pages.{IsWrittenEntry, WritesUpto}
 
@@ -76,23 +78,56 @@ written_then n m h h' h'' a b =
 pub written_within : (n m : ℕ) (h h' : List Entry) → n ≤ m → WritesUpto n h h' → WritesUpto m h h'
 written_within n m h h' few w = let x = w.2 in (w.0, w.1, omega (arith, few, x), w.3)
 
+pub written_same : (n : ℕ) (h h' h'' : List Entry) → WritesUpto n h h' → h'' ≡ h' → WritesUpto n h h''
+written_same n h h' h'' w same = subst (λ (l : List Entry). WritesUpto n h l) (sym same) w
+
+-- ---- archive runs
+
+pub made_none : (h : List Entry) → MakesUpto 0 h h
+made_none h = ([], All-nil IsRunEntry, omega arith, sym (append-nil h))
+
+pub made_within : (n m : ℕ) (h h' : List Entry) → n ≤ m → MakesUpto n h h' → MakesUpto m h h'
+made_within n m h h' few w = let x = w.2 in (w.0, w.1, omega (arith, few, x), w.3)
+
+-- one more at most
+pub made_more : (opens : List Record → Type 0) (n : ℕ) (r : Result Bool Fault) (h h' h'' : List Entry) (before now : ℕ) → MakesUpto n h h' → ArchivesNext opens r h' h'' before now → MakesUpto (n + 1) h h''
+made_more opens n r h h' h'' before now a x = let b = one r x in (
+  a.0 ++ b.0,
+  All-append IsRunEntry a.0 b.0 a.1 b.1,
+  let few = a.2 in let most = b.2 in let l = length-append a.0 b.0 in omega (arith, few, most, l),
+  longer h h' h'' a.0 b.0 a.3 b.3,
+)
+  where
+    one : (r : Result Bool Fault) → ArchivesNext opens r h' h'' before now → MakesUpto 1 h' h''
+    one (Ok true) x = let l = x.1 in (x.0.own, x.0.each, omega (arith, l), x.0.added)
+    one (Ok false) x = made_within 0 1 h' h'' (omega arith) (subst (λ (l : List Entry). MakesUpto 0 h' l) (sym x.0) (made_none h'))
+    one (Err f) x = x
+
+-- known from an earlier moment on
+pub archived_since : (opens : List Record → Type 0) (before middle now : ℕ) (h : List Entry) → before ≤ middle → AreArchived opens middle now h → AreArchived opens before now h
+archived_since opens before middle now h low a = (a.0, let l = a.1 in omega (arith, low, l), a.2, a.3)
+
 -- ---- the whole
 
-pub helped : (loser : ℕ → Type 0) (n m steps : ℕ) (h h1 h2 h3 : List Entry) → Undoes loser n h h1 → AddsUpkeep h1 h2 → WritesUpto m h2 h3 → n + m ≤ steps → Helps loser steps h h3
-helped loser n m steps h h1 h2 h3 u a w few =
+pub helped : (loser : ℕ → Type 0) (n m k steps : ℕ) (h h1 h2 h3 h4 : List Entry) → Undoes loser n h h1 → AddsUpkeep h1 h2 → WritesUpto m h2 h3 → MakesUpto k h3 h4 → n + m + k ≤ steps → Helps loser steps h h4
+helped loser n m k steps h h1 h2 h3 h4 u a w r few =
     let c = u.count in
     let d = w.2 in
-    let more = a.0 ++ w.0 in
+    let e = r.2 in
+    let last = w.0 ++ r.0 in
+    let more = a.0 ++ last in
     record {
       own = u.own ++ more;
-      are = record { undone = u.own; each = u.each; redone = a.0; kept_up = a.1; written = w.0; pages = w.1; few = omega (arith, c, d, few); is = refl };
+      are = record { undone = u.own; each = u.each; redone = a.0; kept_up = a.1; written = w.0; pages = w.1; runs = r.0; archived = r.1; few = omega (arith, c, d, e, few); is = refl };
       entries = u.entries ++ more;
       among = among_then IsUpkeep u.own more u.entries more u.among (among_own IsUpkeep more);
-      added = longer h h1 h3 u.entries more u.added (longer h1 h2 h3 a.0 w.0 a.2 w.3);
+      added = longer h h1 h4 u.entries more u.added (longer h1 h2 h4 a.0 last a.2 (longer h2 h3 h4 w.0 r.0 w.3 r.3));
     }
 
 pub helped_some : (loser : ℕ → Type 0) (steps : ℕ) (h h' : List Entry) → UndoesSome loser steps h h' → Helps loser steps h h'
-helped_some loser steps h h' s = let few = s.few in helped loser s.taken 0 steps h s.between h' h' s.undoes (s.more, s.kept_up, s.added) (written_none h') (omega (arith, few))
+helped_some loser steps h h' s =
+    let few = s.few in
+    helped loser s.taken 0 0 steps h s.between h' h' h' s.undoes (s.more, s.kept_up, s.added) (written_none h') (made_none h') (omega (arith, few))
 
 -- ---- how many steps were taken
 
@@ -125,6 +160,11 @@ written_not (Rec lsn (kinds.Undo u)) is = absurd is
 written_not (Rec lsn (kinds.End x)) is = absurd is
 written_not _ is = refl
 
+run_not : (e : Entry) → IsRunEntry e → takes_back e ≡ false
+run_not (Rec lsn (kinds.Undo u)) is = absurd is
+run_not (Rec lsn (kinds.End x)) is = absurd is
+run_not _ is = refl
+
 none_of : (P : Entry → Type 0) → ((e : Entry) → P e → takes_back e ≡ false) → (es : List Entry) → All P es → length (filter takes_back es) ≡ 0
 none_of P not [] all = refl
 none_of P not (e ∷ es) all = fails takes_back e es (not e (All-head P e es all)) ∙ none_of P not es (All-tail P e es all)
@@ -141,25 +181,28 @@ count_among loser (o ∷ own) es all a =
     let rest = count_among loser own a.2 (All-tail (IsStep loser) o own all) a.4 in
     omega (arith, whole, before, first, rest)
 
-steps_counted : (loser : ℕ → Type 0) (n m : ℕ) (h h1 h2 h3 : List Entry) → Undoes loser n h h1 → AddsUpkeep h1 h2 → WritesUpto m h2 h3 → AddsSteps n h h3
-steps_counted loser n m h h1 h2 h3 u a w =
-    let more = a.0 ++ w.0 in
+steps_counted : (loser : ℕ → Type 0) (n m k : ℕ) (h h1 h2 h3 h4 : List Entry) → Undoes loser n h h1 → AddsUpkeep h1 h2 → WritesUpto m h2 h3 → MakesUpto k h3 h4 → AddsSteps n h h4
+steps_counted loser n m k h h1 h2 h3 h4 u a w r =
+    let last = w.0 ++ r.0 in
+    let more = a.0 ++ last in
     let first = count_among loser u.own u.entries u.each u.among in
     let c = u.count in
     let ups = none_of IsUpkeep upkeep_not a.0 a.1 in
     let pages = none_of IsWrittenEntry written_not w.0 w.1 in
-    let both = count_both u.entries more in
-    let rest = count_both a.0 w.0 in
-    (u.entries ++ more, longer h h1 h3 u.entries more u.added (longer h1 h2 h3 a.0 w.0 a.2 w.3), omega (arith, first, c, ups, pages, both, rest))
+    let runs = none_of IsRunEntry run_not r.0 r.1 in
+    let all = count_both u.entries more in
+    let rest = count_both a.0 last in
+    let both = count_both w.0 r.0 in
+    (u.entries ++ more, longer h h1 h4 u.entries more u.added (longer h1 h2 h4 a.0 last a.2 (longer h2 h3 h4 w.0 r.0 w.3 r.3)), omega (arith, first, c, ups, pages, runs, all, rest, both))
 
 -- no loser is left, or each step was one of these
-pub losers_done : (opens : List Record → Type 0) (n k steps total : ℕ) (h h1 h2 h3 : List Entry) → Undoes (IsLoserOf opens) n h h1 → AddsUpkeep h1 h2 → WritesUpto k h2 h3 → n ≤ steps → n ≤ total → total ≤ steps → (n < steps → AreAllOver opens h1)
-    → AreAllOver opens h3 ⊎ ((total ≡ steps) × AddsSteps steps h h3)
-losers_done opens n k steps total h h1 h2 h3 u a w few low high over = by (ltb n steps) refl
+pub losers_done : (opens : List Record → Type 0) (n m k steps total : ℕ) (h h1 h2 h3 h4 : List Entry) → Undoes (IsLoserOf opens) n h h1 → AddsUpkeep h1 h2 → WritesUpto m h2 h3 → MakesUpto k h3 h4 → n ≤ steps → n ≤ total → total ≤ steps → (n < steps → AreAllOver opens h1)
+    → AreAllOver opens h4 ⊎ ((total ≡ steps) × AddsSteps steps h h4)
+losers_done opens n m k steps total h h1 h2 h3 h4 u a w r few low high over = by (ltb n steps) refl
   where
-    by : (b : Bool) → ltb n steps ≡ b → AreAllOver opens h3 ⊎ ((total ≡ steps) × AddsSteps steps h h3)
-    by true less = inl (over_later opens h1 (a.0 ++ w.0) h3 (longer h1 h2 h3 a.0 w.0 a.2 w.3) (over (ltb-true n steps less)))
+    by : (b : Bool) → ltb n steps ≡ b → AreAllOver opens h4 ⊎ ((total ≡ steps) × AddsSteps steps h h4)
+    by true less = inl (over_later opens h1 (a.0 ++ (w.0 ++ r.0)) h4 (longer h1 h2 h4 a.0 (w.0 ++ r.0) a.2 (longer h2 h3 h4 w.0 r.0 w.3 r.3)) (over (ltb-true n steps less)))
     by false more =
         let least = ltb-false n steps more in
         let all : n ≡ steps = omega (arith, least, few) in
-        inr (omega (arith, all, low, high), subst (λ (x : ℕ). AddsSteps x h h3) all (steps_counted (IsLoserOf opens) n k h h1 h2 h3 u a w))
+        inr (omega (arith, all, low, high), subst (λ (x : ℕ). AddsSteps x h h4) all (steps_counted (IsLoserOf opens) n m k h h1 h2 h3 h4 u a w r))

@@ -21,6 +21,7 @@ use Rattle.command_laws.specs.Alone.{IsAlone}
 use Rattle.command_laws.specs.Commands.{IsUpkeep}
 use Rattle.store_life.specs.Steps.{AddsUpkeep}
 use Rattle.store_life.proofs.Looked.{looked_alone, looked_same}
+use Rattle.own_life.specs.Backed.{IsRunEntry, MakesUpto}
 use Rattle.own_life.specs.Pages.{AreRestored, IsWrittenEntry, WritesUpto}
 use Rattle.own_life.proofs.Redone.{redone_alone, redone_durable, redone_keeps, redone_upkeep}
 
@@ -89,8 +90,15 @@ written_loses : (e : Entry) → IsWrittenEntry e → LosesNone e
 written_loses (entries.Rec lsn (kinds.Lost l)) is = is
 written_loses _ is = tt
 
+run_loses : (e : Entry) → IsRunEntry e → LosesNone e
+run_loses (entries.Rec lsn (kinds.Lost l)) is = is
+run_loses _ is = tt
+
 pub restored_upkept : (opens : List Record → Type 0) (h h' : List Entry) → AddsUpkeep h h' → AreRestored opens h → AreRestored opens h'
 restored_upkept opens h h' a is opening stands = ap (λ (l : List Entry). unrestored (life_log opening l)) a.2 ∙ still_none opening h a.0 (all_to IsUpkeep upkeep_loses a.0 a.1) (is opening stands)
 
 pub restored_written : (opens : List Record → Type 0) (most : ℕ) (h h' : List Entry) → WritesUpto most h h' → AreRestored opens h → AreRestored opens h'
 restored_written opens most h h' w is opening stands = ap (λ (l : List Entry). unrestored (life_log opening l)) w.3 ∙ still_none opening h w.0 (all_to IsWrittenEntry written_loses w.0 w.1) (is opening stands)
+
+pub restored_made : (opens : List Record → Type 0) (most : ℕ) (h h' : List Entry) → MakesUpto most h h' → AreRestored opens h → AreRestored opens h'
+restored_made opens most h h' m is opening stands = ap (λ (l : List Entry). unrestored (life_log opening l)) m.3 ∙ still_none opening h m.0 (all_to IsRunEntry run_loses m.0 m.1) (is opening stands)

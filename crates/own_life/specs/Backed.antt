@@ -1,5 +1,5 @@
 -- What a backup and an archive add to a life's history.
-use Rattle.std.specs.Prelude.{◌≡◌, ◌⊎◌, ◌<◌, ◌≤◌, ◌+◌, ℕ, List, ◌++◌, length, is_some, IsTrue, Result, Ok, Err}
+use Rattle.std.specs.Prelude.{◌≡◌, ◌⊎◌, ◌<◌, ◌≤◌, ◌+◌, ℕ, suc, List, ◌++◌, length, is_some, Bool, true, false, IsTrue, Result, Ok, Err}
 use Rattle.std.specs.List.{All}
 use mathlib.Core.List.{IsPrefix}
 use Rattle.store_model.specs.declared.fault.Fault.{Fault}
@@ -71,3 +71,36 @@ pub record IsArchived (opening : List Record) (h h' own : List Entry) : Type 0 w
 abbrev pub Archives : (List Record → Type 0) → Result ℕ Fault → List Entry → List Entry → ℕ → Type 0
 Archives opens (Ok count) h h' durable = (a : AddsRuns h h') × (count ≡ length a.own) × ((opening : List Record) → opens opening → IsArchived opening h h' a.own × Each (archives.IsDurable durable) a.own)
 Archives opens (Err fault) h h' durable = AddsRuns h h'
+
+-- ---- one run, where it is due
+
+-- so many runs at most were made
+abbrev pub MakesUpto : ℕ → List Entry → List Entry → Type 0
+MakesUpto most h h' = (es : List Entry) × All IsRunEntry es × (length es ≤ most) × (h' ≡ h ++ es)
+
+-- It follows the runs that stood at some moment of the call, and is of the records up to an LSN up to which the log is durable,
+-- of which 1,000 waited at least. The log is durable up to the record that says so, too.
+pub record IsNextRun (opening : List Record) (h h' own : List Entry) (durable : ℕ) : Type 0 where
+  pub stood : ℕ
+  pub next : ℕ
+  pub upto : ℕ
+  pub behind : ℕ
+  pub moment : List Entry
+  pub since : IsPrefix h moment
+  pub goes_on : IsPrefix moment h'
+  pub stands : archives.Stands (life_log opening moment) stood next
+  pub follow : archives.Follow next own behind
+  pub many : next + 1000 ≤ suc upto
+  pub within : upto ≤ durable
+  pub named : Each (archives.IsDurable durable) own
+
+-- Up to some LSN between these two the log was durable at a look, and of the records up to it few wait, in each log with which
+-- the life may have begun.
+abbrev pub AreArchived : (List Record → Type 0) → ℕ → ℕ → List Entry → Type 0
+AreArchived opens before now h = (durable : ℕ) × (before ≤ durable) × (durable ≤ now) × ((opening : List Record) → opens opening → archives.FewWait durable (life_log opening h))
+
+-- one run was made, or few records wait; or one run at most was made
+abbrev pub ArchivesNext : (List Record → Type 0) → Result Bool Fault → List Entry → List Entry → ℕ → ℕ → Type 0
+ArchivesNext opens (Ok true) h h' before now = (a : AddsRuns h h') × (length a.own ≡ 1) × ((opening : List Record) → opens opening → IsNextRun opening h h' a.own now)
+ArchivesNext opens (Ok false) h h' before now = (h' ≡ h) × AreArchived opens before now h'
+ArchivesNext opens (Err fault) h h' before now = MakesUpto 1 h h'

@@ -6,10 +6,11 @@ use Rattle.wal_record.specs.declared.entry.Entry.{Entry}
 use Rattle.wal_record.specs.declared.entry.Entry.TheVariants.{Rec}
 use Rattle.command_laws.specs.Commands.{Among, IsUpkeep}
 use Rattle.store_life.specs.Steps.{IsStep}
+use Rattle.own_life.specs.Backed.{IsRunEntry}
 use Rattle.own_life.specs.Pages.{IsWrittenEntry}
 
--- A help's own entries: the Undos and Ends of losers, what pages that are brought enter, and that pages were written; of the
--- first and the last together so many at most.
+-- A help's own entries: the Undos and Ends of losers, what pages that are brought enter, that pages were written, and that
+-- archive runs are done; of all but the second together so many at most.
 pub record AreOfHelp (loser : ℕ → Type 0) (steps : ℕ) (own : List Entry) : Type 0 where
   pub undone : List Entry
   pub each : All (IsStep loser) undone
@@ -17,8 +18,10 @@ pub record AreOfHelp (loser : ℕ → Type 0) (steps : ℕ) (own : List Entry) :
   pub kept_up : All IsUpkeep redone
   pub written : List Entry
   pub pages : All IsWrittenEntry written
-  pub few : length undone + length written ≤ steps
-  pub is : own ≡ undone ++ (redone ++ written)
+  pub runs : List Entry
+  pub archived : All IsRunEntry runs
+  pub few : length undone + length written + length runs ≤ steps
+  pub is : own ≡ undone ++ (redone ++ (written ++ runs))
 
 -- those were added, and between them upkeep
 pub record Helps (loser : ℕ → Type 0) (steps : ℕ) (h h' : List Entry) : Type 0 where

@@ -1,5 +1,5 @@
 //! A life is closed: its pages are written, and its log is made durable.
-ghost use Rattle.std.specs.Prelude.{◌≡◌, ◌<◌, ◌≤◌, ℕ, List, None, IfErr, IfOk, OnOk, length};
+ghost use Rattle.std.specs.Prelude.{◌≡◌, ◌<◌, ◌≤◌, ℕ, List, None, IfErr, IfNone, IfOk, OnOk, length};
 ghost use Rattle.wal_record.specs.History.{life_log};
 ghost use Rattle.wal_record.specs.declared.record.Record.{Record};
 ghost use Rattle.own_life.specs.Pages.{AwaitsRedo, IsIdle, IsNextWritten, Lacks, OneLess, WritesPages, WritesUpto};
@@ -31,6 +31,7 @@ impl<'a, L: Disk, N: Life> OwnLife<'a, L, N> {
         ensures one { IfOk result (OneLess (Lacks pages.old.pool.frames) (Lacks pages.new.pool.frames)) }
         ensures awaits { (page : ℕ) → AwaitsRedo pages.new.pool.plan page → AwaitsRedo pages.old.pool.plan page }
         ensures written { WritesUpto 1 self.old.history self.new.history }
+        ensures none { IfOk result (λ page. IfNone page (self.new.history ≡ self.old.history)) }
         ensures names { self.new.active ≡ self.old.active }
         ensures goes { OnOk result (GoesOn self.old self.new) }
         ensures counted { pages.new.pool.supply.bases.faults ≡ pages.old.pool.supply.bases.faults }

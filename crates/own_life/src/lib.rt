@@ -15,8 +15,9 @@
 //! 1. Each call adds to the history its command's own entries, and beside them what may stand there, as `store_life` has it. A
 //!    close adds what tells of pages that were written, and behind it no page is dirty and the whole log is durable. A help adds
 //!    Undos and Ends of losers, then what the segments that it restores and the pages that it brings enter, then that
-//!    pages were written (`specs/Helps`). It takes the steps that were asked for, or fewer, and then no loser is left without an
-//!    End, no segment is unrestored, no page awaits redo and none is dirty; while a loser is left each step is an Undo or an End.
+//!    pages were written, then that archive runs are done (`specs/Helps`). It takes the steps that were asked for, or fewer, and
+//!    then no loser is left without an End, no segment is unrestored, no page awaits redo, none is dirty, and fewer than 1,000
+//!    durable records wait for a run or 1,024 runs stand; while a loser is left each step is an Undo or an End.
 //!    A backup adds that its segments are done, an archive that runs are (`specs/Backed`).
 //! 2. A life ends only where a call answers `LogFault`: then the log disk failed by itself, or an armed fuse refused a call;
 //!    the opening log and each acknowledged commit are durable. After any other answer or refusal it goes on. No answer tells of a

@@ -17,11 +17,11 @@ ghost use Rattle.segment_restore.specs.Faults.{no_faults, of_vault};
 ghost use Rattle.store_life.specs.SoFar.{HasNames, Runs, actives, left_by};
 ghost use Rattle.store_life.specs.Steps.{AddsUpkeep, StepsBack};
 ghost use Rattle.store_life.specs.Turns.{Asks, EndsBy, IsTold};
-ghost use Rattle.own_life.specs.Backed.{Archives, BacksUp};
+ghost use Rattle.own_life.specs.Backed.{Archives, ArchivesNext, BacksUp};
 ghost use Rattle.own_life.specs.Pages.{AreRestored, AwaitsRedo, HasNone, IsIdle, IsKnownRestored, IsNextRedone, IsNextWritten, Lacks, OneLess, WritesUpto};
 
 use crate::supply::LifeSupply;
-use archiving::archive;
+use archiving::{archive, archive_next};
 use backups::backup;
 use buffer_pool::PlainPool;
 use engine::Answered;
@@ -196,6 +196,7 @@ impl<'a, D: PageDevice, V: Vault, N: Life> StorePages<'a, D, V, N> {
         ensures one { IfOk result (OneLess (Lacks self.old.pool.frames) (Lacks self.new.pool.frames)) }
         ensures awaits { (page : ℕ) → AwaitsRedo self.new.pool.plan page → AwaitsRedo self.old.pool.plan page }
         ensures writes { WritesUpto 1 life.old.pass.log life.new.pass.log }
+        ensures none { IfOk result (λ page. IfNone page (life.new.pass.log ≡ life.old.pass.log)) }
         ensures names { life.new.named ≡ life.old.named }
         ensures named { HasNames life.old → HasNames life.new }
         ensures durable { life.old.pass.durable ≤ life.new.pass.durable }
@@ -269,6 +270,38 @@ impl<'a, D: PageDevice, V: Vault, N: Life> StorePages<'a, D, V, N> {
             bases.faults.add();
         }
         made
+    }
+
+    /// Makes the next run where it is due, and says whether it did; as `archiving::archive_next`. A fault of the vault is counted as
+    /// one at a call for a page is.
+    pub fn archive_next<J: Journaling<N>, R: Wait>(
+        &mut self,
+        rt: &R,
+        alloc: Global,
+        journal: &mut J,
+        life: &mut StoreLife<N>,
+    ) -> Result<bool, Fault>
+        requires idle { IsIdle self.old.pool.out self.old.pool.reserves }
+        requires runs { Runs N.opens N.entries (J.account journal.old) life.old }
+        ensures idle { IsIdle self.new.pool.out self.new.pool.reserves }
+        ensures runs { Runs N.opens N.entries (J.account journal.new) life.new }
+        ensures archives { ArchivesNext N.opens result life.old.pass.log life.new.pass.log life.old.pass.durable life.new.pass.durable }
+        ensures same { (self.new.pool.frames ≡ self.old.pool.frames) × (self.new.pool.plan ≡ self.old.pool.plan) }
+        ensures names { life.new.named ≡ life.old.named }
+        ensures named { HasNames life.old → HasNames life.new }
+        ensures durable { life.old.pass.durable ≤ life.new.pass.durable }
+        ensures keeps { Keeps (J.account journal.old) (J.account journal.new) }
+        ensures open { OnOk result (MeetsNoEnd (J.account journal.old) (J.account journal.new)) }
+        ensures counted { self.old.pool.supply.bases.faults ≤ self.new.pool.supply.bases.faults }
+        ensures refused { IfErr result (FailsToBring N.opens N.log_faults N.made (of_vault self.old.pool.supply.bases.faults) (of_vault self.new.pool.supply.bases.faults) (J.account journal.old) (J.account journal.new) life.new.pass.log) }
+    {
+        let bases = &mut self.pool.supply.bases;
+        let objects = &mut bases.objects;
+        let next = archive_next(rt, alloc, journal, objects, &mut life.pass);
+        if let Err(Fault::VaultFault) = &next {
+            bases.faults.add();
+        }
+        next
     }
 
     /// The data device is lost, and an empty one takes its place; where it fails, the old images may stay, and no answer tells of

@@ -1,6 +1,7 @@
 use Rattle.std.proofs.Common.{◌+◌, ap, refl, ◌∙◌, arith}
 use Rattle.std.specs.Prelude.{not}
-use Rattle.own_life.proofs.Helped.{written_none, written_then, written_within}
+use Rattle.own_life.proofs.Helped.{written_none, written_same, written_then, written_within}
+use Rattle.own_life.proofs.Restored.{when_none}
 use Rattle.own_life.proofs.Sequences.{all_but_none, goes_self, goes_then, written_all, written_more}
 use Rattle.own_life.proofs.life.OwnLife.write_pages.Goals as goal
 use Rattle.own_life.specs.Pages.{Lacks}
@@ -36,6 +37,9 @@ pub returns-then-is_none-clause-written : goal.returns-then-is_none-clause-writt
 returns-then-is_none-clause-written g c =
     let less = c.loop-taken-test.true in
     written_within (c.loop-taken.taken + 1) c.args.steps c.args.self.now.history c.write_next.new.self.history (omega (arith, less)) (written_then c.loop-taken.taken 1 c.args.self.now.history c.loop-taken.self.history c.write_next.new.self.history c.loop-taken.invariant.written c.write_next.ensures.written)
+
+pub returns-then-is_none-clause-taken : goal.returns-then-is_none-clause-taken
+returns-then-is_none-clause-taken g c = written_same c.loop-taken.taken c.args.self.now.history c.loop-taken.self.history c.write_next.new.self.history c.loop-taken.invariant.written (when_none _ c.in_ok-write_next.field-0 (c.is_none.ensures ∙ ap not c.if-is_none.true) c.in_ok-write_next.ensures.none)
 
 pub loop-taken-preserved : goal.loop-taken-preserved
 loop-taken-preserved g c = record {
