@@ -1,5 +1,5 @@
 //! A vault that one thread owns.
-ghost use Rattle.std.specs.Prelude.{◌≡◌, List, None};
+ghost use Rattle.std.specs.Prelude.{◌≡◌, ◌-◌, ◌^◌, List, None, min};
 ghost use Rattle.media.specs.Counted.{Armed};
 ghost use Rattle.page_ops.specs.Claims.{MaintAgrees};
 ghost use Rattle.wal_record.specs.declared.record.Record.{Record};
@@ -69,6 +69,13 @@ impl<V: Vault, N: Life> OwnObjects<V, N> {
         ensures draft { self.new.draft ≡ self.old.draft }
     {
         self.vault.fuse(n);
+    }
+
+    /// How many calls the vault's fuse has refused.
+    pub fn refused(&self) -> u64
+        ensures { result ≡ min (V.refused self.now.vault) (2 ^ 64 - 1) }
+    {
+        self.vault.refused()
     }
 
     /// The vault, the right to maintenance, and a pass: each object that is named by what this has seen is synced, and the right

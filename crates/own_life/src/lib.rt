@@ -37,6 +37,7 @@ mod seeing;
 mod store_pages;
 mod storing;
 mod supply;
+mod vault_fuse;
 
 pub use life::OwnLife;
 pub use opened::{LifeRefused, open_life};
