@@ -1,4 +1,4 @@
-use Rattle.std.proofs.Common.{refl, rules, ap, subst, ◌∙◌}
+use Rattle.std.proofs.Common.{refl, rules, inl, inr, ap, subst, ◌∙◌}
 use Rattle.store_model.specs.declared.fault.Fault.{Fault}
 use Rattle.own_life.specs.State.{FailsOver}
 use Rattle.script.specs.declared.command.Command.TheVariants as commands
@@ -29,14 +29,14 @@ returns-in-Err-clause-ok g c =
     let y = c.archive-made.new.self in
     let cut = archive_cut g.L.Disk g.N.Life.opens x y c.requires.goes c.in-Err.ensures.names c.look.ensures.right c.in-Err.ensures.archives in
     let more = more_refused x.calls.refused y.calls.refused c.refused-before.result c.refused.result c.refused-before.ensures c.refused.ensures (search rules) in
-    if_ok c.fail.result _ _ (λ out k. fails_line g.L.Disk g.N.Life.opens x y c.in-Err.ensures.names c.look.ensures.right commands.Archive tt refl cut tt
+    if_ok c.fail.result _ _ (λ out k v s _ h. fails_line g.L.Disk g.N.Life.opens x y c.in-Err.ensures.names c.look.ensures.right commands.Archive tt (inl refl) cut tt
     (subst (λ (f : Fault). FailsOver g.N.Life.opens c.args.pages.now.pool.supply.bases.faults c.archive-made.new.pages.pool.supply.bases.faults x y f) k.0 c.in-Err.ensures.refused) (more k.2) out.items
-    (ap (λ z. z.items) k.1 ∙ c.in_ok-failed.ensures)) c.fail.ensures.ok
+    (ap (λ z. z.items) k.1 ∙ c.in_ok-failed.ensures) v s h) c.fail.ensures.ok
 
 pub returns-in-Err-clause-err : goal.returns-in-Err-clause-err
 returns-in-Err-clause-err g c =
     let x = c.args.life.now in
     let y = c.archive-made.new.self in
     let cut = archive_cut g.L.Disk g.N.Life.opens x y c.requires.goes c.in-Err.ensures.names c.look.ensures.right c.in-Err.ensures.archives in
-    if_err c.fail.result _ _ (λ status k line. ends_run g.L.Disk g.N.Life.opens x y c.in-Err.ensures.names c.look.ensures.right commands.Archive tt refl cut _ _
+    if_err c.fail.result _ _ (λ status k line. ends_run g.L.Disk g.N.Life.opens x y c.in-Err.ensures.names c.look.ensures.right commands.Archive tt (inl refl) cut _ _
     c.refused-before.result c.refused.result c.in-Err.fault c.in-Err.ensures.refused status k line) c.fail.ensures.err

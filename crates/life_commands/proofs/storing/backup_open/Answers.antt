@@ -1,4 +1,4 @@
-use Rattle.std.proofs.Common.{refl, rules, ap, subst, ◌∙◌}
+use Rattle.std.proofs.Common.{refl, rules, inl, inr, ap, subst, ◌∙◌}
 use Rattle.store_model.specs.declared.fault.Fault.{Fault}
 use Rattle.own_life.specs.State.{FailsOver}
 use Rattle.script.specs.declared.command.Command.TheVariants as commands
@@ -27,9 +27,9 @@ returns-in-Err-clause-ok g c =
     let k = c.in-Err.ensures.backs_up in
     let cut = backup_cut g.L.Disk g.N.Life.opens x y c.requires.goes c.in-Err.ensures.names c.look.ensures.right k.0 k.1 in
     let more = more_refused x.calls.refused y.calls.refused c.refused-before.result c.refused.result c.refused-before.ensures c.refused.ensures (search rules) in
-    if_ok c.fail.result _ _ (λ out k. fails_line g.L.Disk g.N.Life.opens x y c.in-Err.ensures.names c.look.ensures.right commands.Backup tt refl cut tt
+    if_ok c.fail.result _ _ (λ out k v s _ h. fails_line g.L.Disk g.N.Life.opens x y c.in-Err.ensures.names c.look.ensures.right commands.Backup tt (inl refl) cut tt
     (subst (λ (f : Fault). FailsOver g.N.Life.opens c.args.pages.now.pool.supply.bases.faults c.backup-made.new.pages.pool.supply.bases.faults x y f) k.0 c.in-Err.ensures.refused) (more k.2) out.items
-    (ap (λ z. z.items) k.1 ∙ c.in_ok-failed.ensures)) c.fail.ensures.ok
+    (ap (λ z. z.items) k.1 ∙ c.in_ok-failed.ensures) v s h) c.fail.ensures.ok
 
 pub returns-in-Err-clause-err : goal.returns-in-Err-clause-err
 returns-in-Err-clause-err g c =
@@ -37,5 +37,5 @@ returns-in-Err-clause-err g c =
     let y = c.backup-made.new.self in
     let k = c.in-Err.ensures.backs_up in
     let cut = backup_cut g.L.Disk g.N.Life.opens x y c.requires.goes c.in-Err.ensures.names c.look.ensures.right k.0 k.1 in
-    if_err c.fail.result _ _ (λ status k line. ends_run g.L.Disk g.N.Life.opens x y c.in-Err.ensures.names c.look.ensures.right commands.Backup tt refl cut _ _
+    if_err c.fail.result _ _ (λ status k line. ends_run g.L.Disk g.N.Life.opens x y c.in-Err.ensures.names c.look.ensures.right commands.Backup tt (inl refl) cut _ _
     c.refused-before.result c.refused.result c.in-Err.fault c.in-Err.ensures.refused status k line) c.fail.ensures.err
