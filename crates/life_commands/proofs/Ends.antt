@@ -70,6 +70,12 @@ module _ {D : Type 0} (L : Ghosts D) (opens : List Record → Type 0) (x y : Lif
   pub fails_line : IsNoClose command → BreaksOff opens x y → x.calls.refused < y.calls.refused → (out : List ℕ) → out ≡ failed_line (head command) Log → Did L opens x y command out
   fails_line stays b more out text = λ v s h. let k = cut v s h in c.did_fail (seen L v) opens x s h y k.entries k.added right command kind calls k.lawful k.off stays b names more out text
 
+  -- there is no memory for its line
+  pub lacks_line : (line : ℕ) → Refused L opens x y command line statuses.Memory
+  lacks_line line = λ v s h kept disk of.
+      let k = cut v s h in
+      c.cut_memory (seen L v) opens x s h y k.entries k.added right command kind calls k.lawful k.off kept disk (disk_seen L v opens y kept disk of) line
+
   abbrev Ends : ℕ → View L.tells → Stage → ℕ → D → Status → Type 0
   Ends line v s kept disk z = RefusesAt (seen L v) kept disk opens y.history s command line z
 

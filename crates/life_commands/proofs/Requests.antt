@@ -114,6 +114,11 @@ module _ {D : Type 0} (L : Ghosts D) (opens : List Record → Type 0) (x y : Lif
     vaulted asks armed goes out text =
         c.did_vault_fail (seen L v) opens x s h y asks.entries asks.added right (commands.Ask name request) (inr refl) (c.is_named (seen L v) opens x s h name true named) (cut faults.VaultFault asks asks.are) armed goes names out text
 
+    vault_lacks : (fault : Fault) (asks : AsksFor (Err fault)) → fault ≡ faults.VaultFault → (kept : ℕ) (disk : D) → IsDiskOf (seen L v) opens y kept disk → (line : ℕ) → RefusesAt (seen L v) kept disk opens y.history s (commands.Ask name request) line statuses.Memory
+    vault_lacks fault asks is kept disk of line =
+        let these : AsksFor (Err faults.VaultFault) = subst (λ (f : Fault). AsksFor (Err f)) is asks in
+        c.cut_memory (seen L v) opens x s h y these.entries these.added right (commands.Ask name request) tt (inl refl) (c.is_named (seen L v) opens x s h name true named) (cut faults.VaultFault these these.are) kept disk of line
+
     module _ (w w' : ℕ) (may : Fault → Type 0) (failed : List ℕ) (failed_is : failed ≡ failed_line (request_head name request) Log) (before now : ℕ) (more : before < now → x.calls.refused < y.calls.refused) where
       declined : (fault : Fault) (asks : AsksFor (Err fault)) → FailsToAnswer may opens w w' x y fault → (out : List ℕ) → IsRefusedLine y.active name request failed before now fault out → DidNow out
       declined (faults.Conflict holder range at) asks p out (other, by, text) =
@@ -178,6 +183,9 @@ module _ {D : Type 0} (L : Ghosts D) (opens : List Record → Type 0) (x y : Lif
     ask_vaulted fault is asks w w' may p armed set out text = λ v s same h.
         let q = some_of (active_of x.active name) on in
         vaulted q.0 q.1 v s h (subst (λ (f : Fault). Asks opens q.0.session q.0.tx request (Err f) x.history y.history) is (asks q.0 q.1)) (same ∙ set) (subst (λ (f : Fault). FailsToAnswer may opens w w' x y f) is p).0 out text
+
+    pub ask_vault_lacks : (fault : Fault) → fault ≡ faults.VaultFault → ((a : Active) → active_of x.active name ≡ Some a → Asks opens a.session a.tx request (Err fault) x.history y.history) → (line : ℕ) → IsRefused L opens x y (commands.Ask name request) line statuses.Memory
+    ask_vault_lacks fault is asks line = λ v s h kept disk of. let q = some_of (active_of x.active name) on in vault_lacks q.0 q.1 v s h fault (asks q.0 q.1) is kept disk (disk_seen L v opens y kept disk of) line
 
     pub ask_ends : (w w' : ℕ) (may : Fault → Type 0) (failed : List ℕ) → failed ≡ failed_line (request_head name request) Log → (before now : ℕ) → (before < now → x.calls.refused < y.calls.refused) → (fault : Fault)
         → ((a : Active) → active_of x.active name ≡ Some a → Asks opens a.session a.tx request (Err fault) x.history y.history) → FailsToAnswer may opens w w' x y fault
