@@ -36,17 +36,17 @@ use Rattle.own_life.specs.Helps.{AddsSteps, Helps, takes_back}
 use Rattle.own_life.specs.State.{BreaksOff, CallsGoOn, GoesOn, LifeState}
 use Rattle.script.specs.declared.command.Command.{Command}
 use Rattle.script.specs.declared.command.Command.TheVariants as commands
-use Rattle.script.specs.declared.command.Device.TheVariants.{Log}
+use Rattle.script.specs.declared.command.Device.TheVariants.{Log, Vault}
 use Rattle.transcript.specs.Lines.{archive_line, ended_line, failed_line, refused_line, stat_line, upkeep_line}
 use Rattle.transcript.specs.declared.upkeep.Stat.{Stat}
 use Rattle.transcript.specs.declared.upkeep.Upkeep.TheVariants as upkeeps
 use Rattle.life_commands.specs.Figures.{AllArchived, IsBackedUp, IsHelped, IsStat}
 use Rattle.life_commands.specs.LogDisk.{Keeps}
 use Rattle.life_commands.specs.Living.{Adds, IsArmed, IsDiskOf, Within}
-use Rattle.life_commands.specs.Refusals.{CutAt, IsNotBuilt, LeftAs, RefusesAt}
+use Rattle.life_commands.specs.Refusals.{CutAt, LeftAs, RefusesAt}
 use Rattle.life_commands.specs.Rows.{Calls as CallsDevice, FitsAt, IsBeside, IsCutOff, IsEnd, IsInWayOf, IsLoserIn, IsNoClose, IsOfLife, IsOwn, MayEnter, WroteInRoom, is_lawful, no_life}
 use Rattle.life_commands.specs.Text.{answer_lines, head}
-use Rattle.life_commands.specs.Turns.{turn, Turn, Life, Fuses, with_entries, Stage, Done, TooMany, LogFault, Ended, Cut, Numbered, Counted, Made, history_of, lives, lives_of, last_after, IsRightLife, close_over, done, failed_stage, last_turn, stage_step, longer, log_of_life}
+use Rattle.life_commands.specs.Turns.{turn, Turn, Life, Fuses, with_entries, Stage, Done, TooMany, LogFault, VaultFault, Ended, Cut, Numbered, Counted, Made, history_of, lives, lives_of, last_after, IsRightLife, close_over, done, failed_stage, last_turn, stage_step, longer, log_of_life}
 use Rattle.life_commands.specs.declared.status.Status.TheVariants as statuses
 use Rattle.life_commands.proofs.Entered.{all_map, all_taken, among_last, among_map, beside_map, answer_own, enters_among, enters_own, room_declined, step_map, undoes}
 use Rattle.life_commands.proofs.Lives.{has_life, life_keeps, right_more}
@@ -143,9 +143,6 @@ module _ {D : Type 0} (L : Ghosts D) (opens : List Record → Type 0) (x : LifeS
     pub no_memory : (c : Command) (line : ℕ) → RefusesAt L kept disk opens x.history s c line statuses.Memory
     no_memory c line = inl left_here
 
-    pub not_built : (c : Command) (line : ℕ) → is_lawful s c ≡ true → IsNotBuilt c → RefusesAt L kept disk opens x.history s c line (statuses.NotBuilt line)
-    not_built c line lawful not = (refl, lawful, not, left_here)
-
   -- ---- a turn with these entries, behind which the life is so
 
   module _ (y : LifeState) (es : List Entry) (grew : y.history ≡ x.history ++ es) (right : (opening : List Record) → opens opening → IsRight opening y.history) where
@@ -191,6 +188,19 @@ module _ {D : Type 0} (L : Ghosts D) (opens : List Record → Type 0) (x : LifeS
       -- its lines want memory
       pub lacks_lines : (kept : ℕ) (disk : D) → IsDiskOf L opens y kept disk → (line : ℕ) → RefusesAt L kept disk opens y.history s c line statuses.Memory
       lacks_lines kept disk of line = inr (record { here = h.here; life = h.life; kind = kind; turn = t; is = is; fits = fits; there = here; stays = life ∙ longer_is; right = all_right (stage_step s t) past life; left = all_left (stage_step s t) kept disk of life })
+
+    -- ---- a command that the vault's fuse refused a call
+
+    pub did_vault_fail : (c : Command) → CallsDevice c Vault → is_lawful s c ≡ true → IsCutOff L.tells s c es → s.armed.vault ≡ true → GoesOn x y → y.active ≡ x.active → (out : List ℕ) → out ≡ failed_line (head c) Vault → Adds L.tells (In y) s c out
+    did_vault_fail c calls lawful off armed goes active out text =
+        let t : Turn = turn c es VaultFault in
+        record {
+          turn = t;
+          is = refl;
+          fits = record { goes = h.goes; lawful = lawful; row = (armed, calls, off) };
+          holds = next (stage_step s t) refl refl (h.active ∙ sym active) (off.goes ∙ sym goes.ended) refl refl (armed_next L.fuses ⊥ x.calls y.calls s.armed.log goes.calls h.fused);
+          lines = text;
+        }
 
     -- ---- a command that was cut off
 

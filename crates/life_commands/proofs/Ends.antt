@@ -43,7 +43,7 @@ use Rattle.life_commands.specs.Faults.{FailsAs, counts_of}
 use Rattle.life_commands.specs.Figures.{IsStat, stat_of}
 use Rattle.life_commands.specs.Living.{IsArmed, IsDiskOf, Within}
 use Rattle.life_commands.specs.LogDisk.{View, IsWhole, seen}
-use Rattle.life_commands.specs.Promises.{Did, Refused}
+use Rattle.life_commands.specs.Promises.{Did, DidArmed, Refused}
 use Rattle.life_commands.specs.Refusals.{RefusesAt}
 use Rattle.life_commands.specs.Rows.{Calls as CallsDevice, IsCutOff, IsNoClose, IsNoStop, IsOfLife, is_lawful, no_life}
 use Rattle.life_commands.specs.Text.{head}
@@ -70,6 +70,12 @@ module _ {D : Type 0} (L : Ghosts D) (opens : List Record → Type 0) (x y : Lif
   pub fails_line : IsNoClose command → BreaksOff opens x y → x.calls.refused < y.calls.refused → (out : List ℕ) → out ≡ failed_line (head command) Log → Did L opens x y command out
   fails_line stays b more out text = λ v s h. let k = cut v s h in c.did_fail (seen L v) opens x s h y k.entries k.added right command kind calls k.lawful k.off stays b names more out text
 
+  -- there is no memory for its line
+  pub lacks_line : (line : ℕ) → Refused L opens x y command line statuses.Memory
+  lacks_line line = λ v s h kept disk of.
+      let k = cut v s h in
+      c.cut_memory (seen L v) opens x s h y k.entries k.added right command kind calls k.lawful k.off kept disk (disk_seen L v opens y kept disk of) line
+
   abbrev Ends : ℕ → View L.tells → Stage → ℕ → D → Status → Type 0
   Ends line v s kept disk z = RefusesAt (seen L v) kept disk opens y.history s command line z
 
@@ -86,6 +92,14 @@ module _ {D : Type 0} (L : Ghosts D) (opens : List Record → Type 0) (x y : Lif
       by (faults.VaultBad object byte) q e v s h kept disk of = let k = cut v s h in to v s kept disk (statuses.VaultBad object byte) e (c.cut_object (seen L v) opens x s h y k.entries k.added right command kind calls k.lawful k.off kept disk of line object byte q.1)
       by (faults.LogBad block byte) q e v s h kept disk of = let k = cut v s h in to v s kept disk (statuses.BlockBad block byte) e (c.cut_bad (seen L v) opens x s h y k.entries k.added right command kind calls k.lawful k.off kept disk of line block byte q.1)
       by _ q e v s h kept disk of = absurd q
+
+-- the vault's fuse refused a call: the life goes on
+module _ {D : Type 0} (L : Ghosts D) (opens : List Record → Type 0) (x y : LifeState) (names : y.active ≡ x.active) (right : (opening : List Record) → opens opening → IsRight opening y.history)
+    (command : Command) (calls : CallsDevice command Vault) (cut : (v : View L.tells) (s : Stage) → Within (seen L v) opens x s → IsCut (seen L v) y x s command) where
+  pub vault_line : (w w' : ℕ) (fault : Fault) → fault ≡ faults.VaultFault → FailsOver opens w w' x y fault → (armed : Bool) → armed ≡ true → (out : List ℕ) → out ≡ failed_line (head command) Vault → DidArmed L opens armed x y command out
+  vault_line w w' fault is p armed set out text = λ v s same h.
+      let k = cut v s h in
+      c.did_vault_fail (seen L v) opens x s h y k.entries k.added right command calls k.lawful k.off (same ∙ set) (subst (λ (f : Fault). FailsOver opens w w' x y f) is p).0 names out text
 
 -- ---- the same life, or one that has ended before
 
@@ -281,14 +295,14 @@ module _ {D : Type 0} (L : Ghosts D) (opens : List Record → Type 0) (x y : Lif
   armed_so n armed none Data log other f h = subst (λ (k : Calls). IsArmed L.fuses k f.log) (sym (other (λ e. absurd cc))) h
   armed_so n armed none Vault log other f h = subst (λ (k : Calls). IsArmed L.fuses k f.log) (sym (other (λ e. absurd cc))) h
 
-  module _ (device : Device) (built : device ≢ Vault) (other : device ≢ Log → y.calls ≡ x.calls) where
+  module _ (device : Device) (other : device ≢ Log → y.calls ≡ x.calls) where
     pub fuses : (n : ℕ) → (device ≡ Log → ArmsDisk L.fuses (Some n) x.calls y.calls) → (out : List ℕ) → out ≡ codes "fuse " ++ device_text device ++ codes " " ++ decimal n ++ codes "\n" → Did L opens x y (commands.Fuse device n) out
     fuses n log out text = λ v s h.
         let t = turn (commands.Fuse device n) [] Done in
         record {
           turn = t;
           is = refl;
-          fits = record { goes = h.goes; lawful = refl; row = (built, enters_own (IsWhole v) s (commands.Fuse device n) [] tt refl, tt) };
+          fits = record { goes = h.goes; lawful = refl; row = (tt, enters_own (IsWhole v) s (commands.Fuse device n) [] tt refl, tt) };
           holds = still v s (stage_step s t) h refl refl refl refl refl (armed_so (Some n) true (λ e. absurd cc) device log other s.armed h.fused);
           lines = text;
         }
@@ -299,7 +313,7 @@ module _ {D : Type 0} (L : Ghosts D) (opens : List Record → Type 0) (x y : Lif
         record {
           turn = t;
           is = refl;
-          fits = record { goes = h.goes; lawful = refl; row = (built, enters_own (IsWhole v) s (commands.Renew device) [] tt refl, tt) };
+          fits = record { goes = h.goes; lawful = refl; row = (tt, enters_own (IsWhole v) s (commands.Renew device) [] tt refl, tt) };
           holds = still v s (stage_step s t) h refl refl refl refl refl (armed_so None false (λ e. refl) device log other s.armed h.fused);
           lines = text;
         }
@@ -314,13 +328,6 @@ module _ {D : Type 0} (L : Ghosts D) (opens : List Record → Type 0) (x : LifeS
     holds = h;
     lines = text;
   }
-
-  -- the vault's fuse
-  pub other_fuse : (device : Device) (n line : ℕ) → device ≡ Vault → Refused L opens x x (commands.Fuse device n) line (statuses.NotBuilt line)
-  other_fuse device n line vault = λ v s h kept disk of. c.not_built (seen L v) opens x s h kept disk (disk_seen L v opens x kept disk of) (commands.Fuse device n) line refl vault
-
-  pub other_renew : (device : Device) (line : ℕ) → device ≡ Vault → Refused L opens x x (commands.Renew device) line (statuses.NotBuilt line)
-  other_renew device line vault = λ v s h kept disk of. c.not_built (seen L v) opens x s h kept disk (disk_seen L v opens x kept disk of) (commands.Renew device) line refl vault
 
 -- ---- what is no command of a life
 

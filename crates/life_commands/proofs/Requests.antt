@@ -1,5 +1,5 @@
 -- What a request of a life makes of the turns.
-use Rattle.std.proofs.Common.{◌≡◌, ℕ, ◌<◌, true, List, [], ◌∷◌, ◌++◌, Option, Some, None, refl, sym, ap, subst, ◌∙◌, inl, inr, Result, Ok, Err}
+use Rattle.std.proofs.Common.{◌≡◌, ℕ, ◌<◌, Bool, true, List, [], ◌∷◌, ◌++◌, Option, Some, None, refl, sym, ap, subst, ◌∙◌, inl, inr, Result, Ok, Err}
 use Rattle.std.specs.Prelude.{is_some, unwrap_or}
 use Rattle.media.specs.declared.disk.Disk.{Ghosts}
 use Rattle.store_model.specs.declared.fault.Fault.{Fault}
@@ -18,12 +18,12 @@ use Rattle.engine.specs.declared.answered.Answered.{Answered}
 use Rattle.store_life.specs.Turns.{Asks, IsTold, WasInWay}
 use Rattle.own_life.specs.State.{FailsToAnswer, GoesOn, LifeState, name_by}
 use Rattle.script.specs.declared.command.Command.TheVariants as commands
-use Rattle.script.specs.declared.command.Device.TheVariants.{Log}
+use Rattle.script.specs.declared.command.Device.TheVariants.{Log, Vault}
 use Rattle.transcript.specs.Lines.{conflict_line, failed_line, request_head, request_lines}
 use Rattle.life_commands.specs.Faults.{FailsAs, IsRefusedLine}
 use Rattle.life_commands.specs.Living.{Adds, IsDiskOf, Within}
 use Rattle.life_commands.specs.LogDisk.{View, IsWhole, seen}
-use Rattle.life_commands.specs.Promises.{Did, Refused as IsRefused}
+use Rattle.life_commands.specs.Promises.{Did, DidArmed, Refused as IsRefused}
 use Rattle.life_commands.specs.Refusals.{RefusesAt}
 use Rattle.life_commands.specs.Rows.{IsCutOff, WroteInRoom}
 use Rattle.life_commands.specs.Text.{answer_lines}
@@ -109,6 +109,16 @@ module _ {D : Type 0} (L : Ghosts D) (opens : List Record → Type 0) (x y : Lif
     named : is_active x.active name ≡ true
     named = ap is_some act
 
+    -- the vault's fuse refused a call
+    vaulted : (asks : AsksFor (Err faults.VaultFault)) → s.armed.vault ≡ true → GoesOn x y → (out : List ℕ) → out ≡ failed_line (request_head name request) Vault → DidNow out
+    vaulted asks armed goes out text =
+        c.did_vault_fail (seen L v) opens x s h y asks.entries asks.added right (commands.Ask name request) (inr refl) (c.is_named (seen L v) opens x s h name true named) (cut faults.VaultFault asks asks.are) armed goes names out text
+
+    vault_lacks : (fault : Fault) (asks : AsksFor (Err fault)) → fault ≡ faults.VaultFault → (kept : ℕ) (disk : D) → IsDiskOf (seen L v) opens y kept disk → (line : ℕ) → RefusesAt (seen L v) kept disk opens y.history s (commands.Ask name request) line statuses.Memory
+    vault_lacks fault asks is kept disk of line =
+        let these : AsksFor (Err faults.VaultFault) = subst (λ (f : Fault). AsksFor (Err f)) is asks in
+        c.cut_memory (seen L v) opens x s h y these.entries these.added right (commands.Ask name request) tt (inl refl) (c.is_named (seen L v) opens x s h name true named) (cut faults.VaultFault these these.are) kept disk of line
+
     module _ (w w' : ℕ) (may : Fault → Type 0) (failed : List ℕ) (failed_is : failed ≡ failed_line (request_head name request) Log) (before now : ℕ) (more : before < now → x.calls.refused < y.calls.refused) where
       declined : (fault : Fault) (asks : AsksFor (Err fault)) → FailsToAnswer may opens w w' x y fault → (out : List ℕ) → IsRefusedLine y.active name request failed before now fault out → DidNow out
       declined (faults.Conflict holder range at) asks p out (other, by, text) =
@@ -125,7 +135,7 @@ module _ {D : Type 0} (L : Ghosts D) (opens : List Record → Type 0) (x y : Lif
           (room_by asks.own asks.entries _ asks.are (room_declined (IsWhole v) s.life name request request a.session a.tx outcomes.OpRefused asks.entries))
           p.1 out (text ∙ ap (λ (l : List Entry). answer_lines s.active name request l) (sym asks.are))
       declined faults.LogFault asks p out (is, rose) =
-          c.did_fail (seen L v) opens x s h y asks.entries asks.added right (commands.Ask name request) tt refl (c.is_named (seen L v) opens x s h name true named) (cut faults.LogFault asks asks.are) tt p names (more rose) out (is ∙ failed_is)
+          c.did_fail (seen L v) opens x s h y asks.entries asks.added right (commands.Ask name request) tt (inl refl) (c.is_named (seen L v) opens x s h name true named) (cut faults.LogFault asks asks.are) tt p names (more rose) out (is ∙ failed_is)
       declined _ asks p out line = absurd line
 
       ends : (fault : Fault) (asks : AsksFor (Err fault)) → FailsToAnswer may opens w w' x y fault → (status : Status) → FailsAs before now fault status → (kept : ℕ) (disk : D) → IsDiskOf (seen L v) opens y kept disk → (line : ℕ)
@@ -140,15 +150,15 @@ module _ {D : Type 0} (L : Ghosts D) (opens : List Record → Type 0) (x y : Lif
           (lacking (Err (faults.OpRefused at)) asks outcomes.OpRefused asks.are (Declined a.session a.tx request outcomes.OpRefused) [] asks.are
           (room_by asks.own asks.entries _ asks.are (room_declined (IsWhole v) s.life name request request a.session a.tx outcomes.OpRefused asks.entries)) kept disk of line)
       ends faults.LogFault asks p status says kept disk of line = subst (λ (z : Status). RefusesAt (seen L v) kept disk opens y.history s (commands.Ask name request) line z) (sym says.0)
-          (c.cut_fault (seen L v) opens x s h y asks.entries asks.added right (commands.Ask name request) tt refl (c.is_named (seen L v) opens x s h name true named) (cut faults.LogFault asks asks.are) kept disk of line)
+          (c.cut_fault (seen L v) opens x s h y asks.entries asks.added right (commands.Ask name request) tt (inl refl) (c.is_named (seen L v) opens x s h name true named) (cut faults.LogFault asks asks.are) kept disk of line)
       ends (faults.LogBad block byte) asks p status says kept disk of line = subst (λ (z : Status). RefusesAt (seen L v) kept disk opens y.history s (commands.Ask name request) line z) (sym says)
-          (c.cut_bad (seen L v) opens x s h y asks.entries asks.added right (commands.Ask name request) tt refl (c.is_named (seen L v) opens x s h name true named) (cut (faults.LogBad block byte) asks asks.are) kept disk of line block byte p.1)
+          (c.cut_bad (seen L v) opens x s h y asks.entries asks.added right (commands.Ask name request) tt (inl refl) (c.is_named (seen L v) opens x s h name true named) (cut (faults.LogBad block byte) asks asks.are) kept disk of line block byte p.1)
       ends faults.VaultFault asks p status says kept disk of line = subst (λ (z : Status). RefusesAt (seen L v) kept disk opens y.history s (commands.Ask name request) line z) (sym says)
-          (c.cut_vault (seen L v) opens x s h y asks.entries asks.added right (commands.Ask name request) tt refl (c.is_named (seen L v) opens x s h name true named) (cut faults.VaultFault asks asks.are) kept disk of line)
+          (c.cut_vault (seen L v) opens x s h y asks.entries asks.added right (commands.Ask name request) tt (inl refl) (c.is_named (seen L v) opens x s h name true named) (cut faults.VaultFault asks asks.are) kept disk of line)
       ends (faults.VaultBad object byte) asks p status says kept disk of line = subst (λ (z : Status). RefusesAt (seen L v) kept disk opens y.history s (commands.Ask name request) line z) (sym says)
-          (c.cut_object (seen L v) opens x s h y asks.entries asks.added right (commands.Ask name request) tt refl (c.is_named (seen L v) opens x s h name true named) (cut (faults.VaultBad object byte) asks asks.are) kept disk of line object byte p.1)
+          (c.cut_object (seen L v) opens x s h y asks.entries asks.added right (commands.Ask name request) tt (inl refl) (c.is_named (seen L v) opens x s h name true named) (cut (faults.VaultBad object byte) asks asks.are) kept disk of line object byte p.1)
       ends faults.Memory asks p status says kept disk of line = subst (λ (z : Status). RefusesAt (seen L v) kept disk opens y.history s (commands.Ask name request) line z) (sym says)
-          (c.cut_memory (seen L v) opens x s h y asks.entries asks.added right (commands.Ask name request) tt refl (c.is_named (seen L v) opens x s h name true named) (cut faults.Memory asks asks.are) kept disk of line)
+          (c.cut_memory (seen L v) opens x s h y asks.entries asks.added right (commands.Ask name request) tt (inl refl) (c.is_named (seen L v) opens x s h name true named) (cut faults.Memory asks asks.are) kept disk of line)
       ends _ asks p status says kept disk of line = absurd p
 
   -- ---- whatever the turns before
@@ -167,6 +177,15 @@ module _ {D : Type 0} (L : Ghosts D) (opens : List Record → Type 0) (x y : Lif
         → ((a : Active) → active_of x.active name ≡ Some a → Asks opens a.session a.tx request (Err fault) x.history y.history) → FailsToAnswer may opens w w' x y fault
         → (out : List ℕ) → IsRefusedLine y.active name request failed before now fault out → Did L opens x y (commands.Ask name request) out
     ask_declined w w' may failed failed_is before now more fault asks p out line = λ v s h. let q = some_of (active_of x.active name) on in declined q.0 q.1 v s h w w' may failed failed_is before now more fault (asks q.0 q.1) p out line
+
+    pub ask_vaulted : (fault : Fault) → fault ≡ faults.VaultFault → ((a : Active) → active_of x.active name ≡ Some a → Asks opens a.session a.tx request (Err fault) x.history y.history)
+        → (w w' : ℕ) (may : Fault → Type 0) → FailsToAnswer may opens w w' x y fault → (armed : Bool) → armed ≡ true → (out : List ℕ) → out ≡ failed_line (request_head name request) Vault → DidArmed L opens armed x y (commands.Ask name request) out
+    ask_vaulted fault is asks w w' may p armed set out text = λ v s same h.
+        let q = some_of (active_of x.active name) on in
+        vaulted q.0 q.1 v s h (subst (λ (f : Fault). Asks opens q.0.session q.0.tx request (Err f) x.history y.history) is (asks q.0 q.1)) (same ∙ set) (subst (λ (f : Fault). FailsToAnswer may opens w w' x y f) is p).0 out text
+
+    pub ask_vault_lacks : (fault : Fault) → fault ≡ faults.VaultFault → ((a : Active) → active_of x.active name ≡ Some a → Asks opens a.session a.tx request (Err fault) x.history y.history) → (line : ℕ) → IsRefused L opens x y (commands.Ask name request) line statuses.Memory
+    ask_vault_lacks fault is asks line = λ v s h kept disk of. let q = some_of (active_of x.active name) on in vault_lacks q.0 q.1 v s h fault (asks q.0 q.1) is kept disk (disk_seen L v opens y kept disk of) line
 
     pub ask_ends : (w w' : ℕ) (may : Fault → Type 0) (failed : List ℕ) → failed ≡ failed_line (request_head name request) Log → (before now : ℕ) → (before < now → x.calls.refused < y.calls.refused) → (fault : Fault)
         → ((a : Active) → active_of x.active name ≡ Some a → Asks opens a.session a.tx request (Err fault) x.history y.history) → FailsToAnswer may opens w w' x y fault

@@ -1,5 +1,5 @@
 -- What each command of a life promises.
-use Rattle.std.specs.Prelude.{◌≤◌, ℕ, List}
+use Rattle.std.specs.Prelude.{◌≡◌, ◌≤◌, ℕ, List, Bool}
 use Rattle.media.specs.declared.disk.Disk.{Ghosts}
 use Rattle.media.specs.declared.pages.PageDevice as pages
 use Rattle.media.specs.declared.vault.Vault as vaults
@@ -18,6 +18,10 @@ use Rattle.life_commands.specs.Turns.{Stage}
 -- for which the life stands then; and these are its lines.
 abbrev pub Did : {D : Type 0} → Ghosts D → (List Record → Type 0) → LifeState → LifeState → Command → List ℕ → Type 0
 Did L opens old new c out = (v : View L.tells) (s : Stage) → Within (seen L v) opens old s → Adds (IsWhole v) (Within (seen L v) opens new) s c out
+
+-- the same of a command that may call the vault, whose fuse is armed or not, as it is said here
+abbrev pub DidArmed : {D : Type 0} → Ghosts D → (List Record → Type 0) → Bool → LifeState → LifeState → Command → List ℕ → Type 0
+DidArmed L opens armed old new c out = (v : View L.tells) (s : Stage) → s.armed.vault ≡ armed → Within (seen L v) opens old s → Adds (IsWhole v) (Within (seen L v) opens new) s c out
 
 -- Ok of a close: behind the turn more no life is open, whatever devices the life hands out; images and objects are of the log
 -- that its disk keeps. So many records are durable at least as it has told.

@@ -1,10 +1,9 @@
 -- Why a command ends the run, by what the turns before it leave.
-use Rattle.std.specs.Prelude.{◌≡◌, ◌≢◌, ◌⊎◌, ℕ, List, [], Some, true, false}
+use Rattle.std.specs.Prelude.{◌≡◌, ◌≢◌, ◌⊎◌, ℕ, List, [], Some, false}
 use Rattle.std.specs.List.{All}
 use Rattle.media.specs.declared.disk.Disk.{Ghosts}
 use Rattle.wal_record.specs.declared.record.Record.{Record}
 use Rattle.wal_record.specs.declared.entry.Entry.{Entry}
-use Rattle.script.specs.declared.command.Device.TheVariants.{Vault}
 use Rattle.script.specs.declared.command.Command.{Command}
 use Rattle.script.specs.declared.command.Command.TheVariants as commands
 use Rattle.life_commands.specs.declared.status.Status.{Status}
@@ -13,12 +12,6 @@ use Rattle.life_commands.specs.LogDisk.{Leaves}
 use Rattle.life_commands.specs.Rows.{FitsAt, IsOfLife, is_lawful}
 use Rattle.life_commands.specs.Turns.{Turn, Stage, Last, MayFind, Cut, Life, stage_step, lives, IsRightLife}
 use Rattle.life_commands.specs.Turns.{turn}
-
--- what isn't built of a lawful command: the fuse of the vault
-abbrev pub IsNotBuilt : Command → Type 0
-IsNotBuilt (commands.Fuse device calls) = device ≡ Vault
-IsNotBuilt (commands.Renew device) = device ≡ Vault
-IsNotBuilt _ = ⊥
 
 abbrev pub IsOpen : Command → Type 0
 IsOpen commands.Open = Unit {0}
@@ -66,7 +59,6 @@ pub record LacksLines {D : Type 0} (L : Ghosts D) (kept : ℕ) (disk : D) (opens
 abbrev pub RefusesAt : {D : Type 0} → Ghosts D → ℕ → D → (List Record → Type 0) → List Entry → Stage → Command → ℕ → Status → Type 0
 RefusesAt L kept disk opens h s c line statuses.Memory = LeftAs L kept disk opens h s ⊎ LacksLines L kept disk opens h s c
 RefusesAt L kept disk opens h s c line (statuses.Script n) = (n ≡ line) × (is_lawful s c ≡ false) × LeftAs L kept disk opens h s
-RefusesAt L kept disk opens h s c line (statuses.NotBuilt n) = (n ≡ line) × (is_lawful s c ≡ true) × IsNotBuilt c × LeftAs L kept disk opens h s
 RefusesAt L kept disk opens h s c line statuses.LogFault = CutAt L kept disk opens h s c
 RefusesAt L kept disk opens h s c line statuses.VaultFault = CutAt L kept disk opens h s c
 RefusesAt L kept disk opens h s c line (statuses.BlockBad block byte) = CutAt L kept disk opens h s c × (L.tells → ⊥)

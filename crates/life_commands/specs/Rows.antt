@@ -209,8 +209,8 @@ MayBeDone tells s commands.Stat found = s.ended ≡ None
 MayBeDone tells s commands.Close found = s.ended ≡ None
 MayBeDone tells s (commands.Stop keep) found = Unit {0}
 MayBeDone tells s (commands.Damage page) found = Unit {0}
-MayBeDone tells s (commands.Fuse device calls) found = device ≢ Vault
-MayBeDone tells s (commands.Renew device) found = device ≢ Vault
+MayBeDone tells s (commands.Fuse device calls) found = Unit {0}
+MayBeDone tells s (commands.Renew device) found = Unit {0}
 MayBeDone tells s (commands.Parallel workers retries show) found = ⊥
 MayBeDone tells s (commands.Worker transactions) found = ⊥
 MayBeDone tells s (commands.Step request) found = ⊥
@@ -218,22 +218,27 @@ MayBeDone tells s commands.End found = ⊥
 
 -- ---- how else it may end
 
--- the command calls the device, so a call of it may fail there
+-- the log disk, or the vault
+abbrev pub IsLogOrVault : Device → Type 0
+IsLogOrVault device = (device ≡ Log) ⊎ (device ≡ Vault)
+
+-- The command calls the device, so a call of it may fail there. The vault stores backups and archive runs, and whatever reads
+-- pages may read them there.
 abbrev pub Calls : Command → Device → Type 0
 Calls commands.Nothing device = ⊥
 Calls (commands.Format limit) device = device ≡ Log
 Calls commands.Open device = device ≡ Log
 Calls (commands.Begin name) device = ⊥
-Calls (commands.Ask name request) device = device ≡ Log
+Calls (commands.Ask name request) device = IsLogOrVault device
 Calls (commands.Commit name) device = device ≡ Log
-Calls (commands.Abort name) device = device ≡ Log
+Calls (commands.Abort name) device = IsLogOrVault device
 Calls commands.Checkpoint device = device ≡ Log
-Calls commands.Backup device = device ≡ Log
-Calls commands.Archive device = device ≡ Log
+Calls commands.Backup device = IsLogOrVault device
+Calls commands.Archive device = IsLogOrVault device
 Calls commands.Merge device = ⊥
 Calls commands.Recycle device = ⊥
 Calls commands.Lose device = device ≡ Log
-Calls (commands.Help steps) device = device ≡ Log
+Calls (commands.Help steps) device = IsLogOrVault device
 Calls commands.Stat device = ⊥
 Calls commands.Close device = device ≡ Log
 Calls (commands.Stop keep) device = ⊥

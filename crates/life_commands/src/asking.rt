@@ -4,10 +4,10 @@ ghost use Rattle.command_laws.specs.Names.{is_active};
 ghost use Rattle.script.specs.declared.command.Command.TheVariants as commands;
 ghost use Rattle.life_commands.specs.Causes.{LifeCause};
 ghost use Rattle.life_commands.specs.Faults.{FailsAs, IsRefusedLine};
-ghost use Rattle.life_commands.specs.Promises.{Did, Refused};
+ghost use Rattle.life_commands.specs.Promises.{DidArmed, Refused};
 ghost use Rattle.own_life.specs.Pages.{IsIdle};
 
-use crate::failing::{MOST, fail};
+use crate::failing::{MOST, fail, is_refused};
 use crate::status::Status;
 use media::{Disk, PageDevice, Vault};
 use own_life::{OwnLife, StorePages};
@@ -23,6 +23,7 @@ pub fn ask_open<'a, N: Life, L: Disk, D: PageDevice, V: Vault, R: Wait>(
     alloc: Global,
     life: &mut OwnLife<'a, L, N>,
     pages: &mut StorePages<'a, D, V, N>,
+    armed: bool,
     name: &Name,
     request: &Request,
 ) -> Result<Vec<u8>, Status>
@@ -30,7 +31,7 @@ pub fn ask_open<'a, N: Life, L: Disk, D: PageDevice, V: Vault, R: Wait>(
     requires active { is_active life.old.active name.now ≡ true }
     requires goes { life.old.ended ≡ None }
     ensures idle { IsIdle pages.new.pool.out pages.new.pool.reserves }
-    ensures ok { IfOk result (λ lines. Did L.Disk N.opens life.old life.new (commands.Ask name.now request.now) lines.items) }
+    ensures ok { IfOk result (λ lines. DidArmed L.Disk N.opens armed life.old life.new (commands.Ask name.now request.now) lines.items) }
     ensures err { IfErr result (λ status. (line : ℕ) → Refused L.Disk N.opens life.old life.new (commands.Ask name.now request.now) line status) }
     ensures cause { IfErr result (LifeCause life.old.calls.own life.new.calls.own) }
     ensures later { life.old.calls.own ≤ life.new.calls.own }
@@ -39,12 +40,16 @@ pub fn ask_open<'a, N: Life, L: Disk, D: PageDevice, V: Vault, R: Wait>(
     if before >= MOST {
         return Err(Status::Memory);
     }
+    let of_vault = pages.vault_refused();
     let failed = transcript::request_failed(alloc, name, request, Device::Log)?;
     let asked = copy_of(request)?;
     let answered = life.ask(rt, alloc, pages, name, asked);
     life.look();
     match answered {
         Ok(answer) => Ok(transcript::request_lines(alloc, name, request, &answer.reply)?),
+        Err(fault) if is_refused(&fault, armed, of_vault, pages.vault_refused()) => {
+            Ok(transcript::request_failed(alloc, name, request, Device::Vault)?)
+        }
         Err(fault) => refuse(alloc, life, name, request, fault, failed, before),
     }
 }

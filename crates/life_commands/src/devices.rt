@@ -1,11 +1,11 @@
 //! Faults of the devices, as the script asks for them.
-ghost use Rattle.std.specs.Prelude.{◌≡◌, ◌≢◌, ◌≤◌, ◌⊎◌, ◌++◌, None, Some, IfErr, IfOk, OnOk, codes};
+ghost use Rattle.std.specs.Prelude.{◌≡◌, ◌≢◌, ◌≤◌, ◌⊎◌, ◌++◌, ℕ, None, Some, IfErr, IfOk, OnOk, codes};
 ghost use Rattle.std.specs.Fmt.{decimal};
 ghost use Rattle.journal.specs.State.{ArmsDisk};
 ghost use Rattle.media.specs.Cause.{Rose};
 ghost use Rattle.media.specs.Counted.{Armed};
 ghost use Rattle.script.specs.declared.command.Command.TheVariants as commands;
-ghost use Rattle.script.specs.declared.command.Device.TheVariants.{Data, Log};
+ghost use Rattle.script.specs.declared.command.Device.TheVariants as devices;
 ghost use Rattle.life_commands.specs.Causes.{LifeCause};
 ghost use Rattle.life_commands.specs.Promises.{Did, Refused};
 ghost use Rattle.life_commands.specs.declared.status.Status.TheVariants as statuses;
@@ -44,19 +44,16 @@ pub fn fuse<'a, N: Life, L: Disk, D: PageDevice, V: Vault>(
     pages: &mut StorePages<'a, D, V, N>,
     device: Device,
     calls: u64,
-    line: u64,
 ) -> Result<Vec<u8>, Status>
     requires idle { IsIdle pages.old.pool.out pages.old.pool.reserves }
     ensures idle { IsIdle pages.new.pool.out pages.new.pool.reserves }
     ensures ok { IfOk result (λ lines. Did L.Disk N.opens life.old life.new (commands.Fuse device calls) lines.items) }
-    ensures err { IfErr result (Refused L.Disk N.opens life.old life.new (commands.Fuse device calls) line) }
-    ensures data { OnOk result (device ≡ Data → Armed D.fuses D.passes D.refused D.own (Some calls) pages.old.pool.images pages.new.pool.images) }
+    ensures err { IfErr result (λ status. (line : ℕ) → Refused L.Disk N.opens life.old life.new (commands.Fuse device calls) line status) }
+    ensures data { OnOk result (device ≡ devices.Data → Armed D.fuses D.passes D.refused D.own (Some calls) pages.old.pool.images pages.new.pool.images) }
+    ensures vault { OnOk result (device ≡ devices.Vault → Armed V.fuses V.passes V.refused V.own (Some calls) pages.old.pool.supply.bases.objects.vault pages.new.pool.supply.bases.objects.vault) }
     ensures cause { IfErr result (LifeCause life.old.calls.own life.new.calls.own) }
     ensures later { life.old.calls.own ≤ life.new.calls.own }
 {
-    if device == Device::Vault {
-        return Err(Status::NotBuilt { line });
-    }
     let out = transcript::fuse_line(alloc, device, calls)?;
     arm(life, pages, device, Some(calls));
     Ok(out)
@@ -68,25 +65,22 @@ pub fn renew<'a, N: Life, L: Disk, D: PageDevice, V: Vault>(
     life: &mut OwnLife<'a, L, N>,
     pages: &mut StorePages<'a, D, V, N>,
     device: Device,
-    line: u64,
 ) -> Result<Vec<u8>, Status>
     requires idle { IsIdle pages.old.pool.out pages.old.pool.reserves }
     ensures idle { IsIdle pages.new.pool.out pages.new.pool.reserves }
     ensures ok { IfOk result (λ lines. Did L.Disk N.opens life.old life.new (commands.Renew device) lines.items) }
-    ensures err { IfErr result (Refused L.Disk N.opens life.old life.new (commands.Renew device) line) }
-    ensures data { OnOk result (device ≡ Data → Armed D.fuses D.passes D.refused D.own None pages.old.pool.images pages.new.pool.images) }
+    ensures err { IfErr result (λ status. (line : ℕ) → Refused L.Disk N.opens life.old life.new (commands.Renew device) line status) }
+    ensures data { OnOk result (device ≡ devices.Data → Armed D.fuses D.passes D.refused D.own None pages.old.pool.images pages.new.pool.images) }
+    ensures vault { OnOk result (device ≡ devices.Vault → Armed V.fuses V.passes V.refused V.own None pages.old.pool.supply.bases.objects.vault pages.new.pool.supply.bases.objects.vault) }
     ensures cause { IfErr result (LifeCause life.old.calls.own life.new.calls.own) }
     ensures later { life.old.calls.own ≤ life.new.calls.own }
 {
-    if device == Device::Vault {
-        return Err(Status::NotBuilt { line });
-    }
     let out = transcript::renew_line(alloc, device)?;
     arm(life, pages, device, None);
     Ok(out)
 }
 
-/// Arms the fuse of a device that a life calls, or renews it. The vault is none.
+/// Arms a device's fuse, or renews it.
 fn arm<'a, N: Life, L: Disk, D: PageDevice, V: Vault>(
     life: &mut OwnLife<'a, L, N>,
     pages: &mut StorePages<'a, D, V, N>,
@@ -97,13 +91,14 @@ fn arm<'a, N: Life, L: Disk, D: PageDevice, V: Vault>(
     ensures idle { IsIdle pages.new.pool.out pages.new.pool.reserves }
     ensures same { (life.new.history ≡ life.old.history) × (life.new.active ≡ life.old.active) × (life.new.ended ≡ life.old.ended) }
     ensures own { life.new.calls.own ≡ life.old.calls.own }
-    ensures log { device ≡ Log → ArmsDisk L.fuses n life.old.calls life.new.calls }
-    ensures other { device ≢ Log → life.new.calls ≡ life.old.calls }
-    ensures data { device ≡ Data → Armed D.fuses D.passes D.refused D.own n pages.old.pool.images pages.new.pool.images }
+    ensures log { device ≡ devices.Log → ArmsDisk L.fuses n life.old.calls life.new.calls }
+    ensures other { device ≢ devices.Log → life.new.calls ≡ life.old.calls }
+    ensures data { device ≡ devices.Data → Armed D.fuses D.passes D.refused D.own n pages.old.pool.images pages.new.pool.images }
+    ensures vault { device ≡ devices.Vault → Armed V.fuses V.passes V.refused V.own n pages.old.pool.supply.bases.objects.vault pages.new.pool.supply.bases.objects.vault }
 {
     match device {
         Device::Log => life.fuse(n),
         Device::Data => pages.fuse(n),
-        Device::Vault => {}
+        Device::Vault => pages.fuse_vault(n),
     }
 }

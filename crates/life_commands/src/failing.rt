@@ -1,5 +1,5 @@
 //! Calls of a life that fail.
-ghost use Rattle.std.specs.Prelude.{◌≡◌, ◌<◌, IfErr, IfOk};
+ghost use Rattle.std.specs.Prelude.{◌≡◌, ◌<◌, ◌↔◌, true, IfErr, IfOk, IsTrue};
 ghost use Rattle.store_model.specs.declared.fault.Fault.TheVariants as faults;
 ghost use Rattle.life_commands.specs.Faults.{FailsAs};
 
@@ -26,5 +26,16 @@ pub fn fail(fault: Fault, failed: Vec<u8>, before: u64, now: u64) -> Result<Vec<
         Fault::LogBad { block, byte } => Err(Status::BlockBad { block, byte }),
         Fault::VaultBad { object, byte } => Err(Status::VaultBad { object, byte }),
         _ => Err(Status::Memory),
+    }
+}
+
+/// Whether the vault's fuse refused the call that failed so: it does so only where it is armed. Of so many calls before, and of so
+/// many now.
+pub fn is_refused(fault: &Fault, armed: bool, before: u64, now: u64) -> bool
+    ensures { IsTrue result ↔ ((fault.now ≡ faults.VaultFault) × (armed ≡ true) × (before < now)) }
+{
+    match fault {
+        Fault::VaultFault => armed && before < now,
+        _ => false,
     }
 }

@@ -14,7 +14,8 @@
 //!    then, and these are its lines. Behind a close no life is open, and the devices that the life hands out stand for them.
 //! 2. A status comes only for its cause (`specs/Refusals`), and whatever disk the life hands out then keeps a log that may be
 //!    found. A fault of the log disk comes only where that disk failed by itself (`specs/Causes`); one that an armed fuse made is
-//!    a line. No fault of the data device is told, and one of the vault is a status.
+//!    a line. No fault of the data device is told. One of the vault is a status, and the life goes on behind one that its armed fuse
+//!    made, which is a line.
 #![tactic(auto)]
 
 mod asking;

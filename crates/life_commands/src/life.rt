@@ -4,7 +4,7 @@ ghost use Rattle.command_laws.specs.Names.{is_active};
 ghost use Rattle.script.specs.declared.command.Command.TheVariants as commands;
 ghost use Rattle.store_model.specs.declared.fault.Fault.TheVariants as faults;
 ghost use Rattle.life_commands.specs.Causes.{LifeCause};
-ghost use Rattle.life_commands.specs.Promises.{Did, Refused};
+ghost use Rattle.life_commands.specs.Promises.{Did, DidArmed, Refused};
 ghost use Rattle.life_commands.specs.Rows.{IsNoClose, IsNoStop};
 ghost use Rattle.life_commands.specs.declared.status.Status.TheVariants as statuses;
 ghost use Rattle.own_life.specs.Pages.{IsIdle};
@@ -24,12 +24,13 @@ use std::sync::Wait;
 use store_model::{Fault, Request};
 use transcript::Upkeep;
 
-/// Carries a command out, and gives the lines that answer it.
+/// Carries a command out, and gives the lines that answer it; the vault's fuse is armed, or not.
 pub fn step<'a, N: Life, L: Disk, D: PageDevice, V: Vault, R: Wait>(
     rt: &R,
     alloc: Global,
     life: &mut OwnLife<'a, L, N>,
     pages: &mut StorePages<'a, D, V, N>,
+    armed: bool,
     command: &Command,
     line: u64,
 ) -> Result<Vec<u8>, Status>
@@ -37,7 +38,7 @@ pub fn step<'a, N: Life, L: Disk, D: PageDevice, V: Vault, R: Wait>(
     requires stop { IsNoStop command.now }
     requires close { IsNoClose command.now }
     ensures idle { IsIdle pages.new.pool.out pages.new.pool.reserves }
-    ensures ok { IfOk result (λ lines. Did L.Disk N.opens life.old life.new command.now lines.items) }
+    ensures ok { IfOk result (λ lines. DidArmed L.Disk N.opens armed life.old life.new command.now lines.items) }
     ensures err { IfErr result (Refused L.Disk N.opens life.old life.new command.now line) }
     ensures cause { IfErr result (LifeCause life.old.calls.own life.new.calls.own) }
     ensures later { life.old.calls.own ≤ life.new.calls.own }
@@ -45,18 +46,18 @@ pub fn step<'a, N: Life, L: Disk, D: PageDevice, V: Vault, R: Wait>(
     match command {
         Command::Nothing => Ok(Vec::new(alloc)),
         Command::Begin(name) => begin(rt, alloc, life, name, line),
-        Command::Ask(name, request) => ask(rt, alloc, life, pages, name, request, line),
+        Command::Ask(name, request) => ask(rt, alloc, life, pages, armed, name, request, line),
         Command::Commit(name) => commit(rt, alloc, life, name, line),
-        Command::Abort(name) => abort(rt, alloc, life, pages, name, line),
+        Command::Abort(name) => abort(rt, alloc, life, pages, armed, name, line),
         Command::Checkpoint => checkpoint(rt, alloc, life),
-        Command::Backup => backup(rt, alloc, life, pages),
-        Command::Archive => archive(rt, alloc, life, pages),
+        Command::Backup => backup(rt, alloc, life, pages, armed),
+        Command::Archive => archive(rt, alloc, life, pages, armed),
         Command::Lose => lose(rt, alloc, life, pages),
-        Command::Help { steps } => help(rt, alloc, life, pages, *steps),
+        Command::Help { steps } => help(rt, alloc, life, pages, armed, *steps),
         Command::Stat => stat(rt, alloc, life),
         Command::Damage { page } => damage(alloc, pages, *page),
-        Command::Fuse { device, calls } => fuse(alloc, life, pages, *device, *calls, line),
-        Command::Renew { device } => renew(alloc, life, pages, *device, line),
+        Command::Fuse { device, calls } => fuse(alloc, life, pages, *device, *calls),
+        Command::Renew { device } => renew(alloc, life, pages, *device),
         _ => Err(Status::Script { line }),
     }
 }
@@ -122,13 +123,14 @@ fn ask<'a, N: Life, L: Disk, D: PageDevice, V: Vault, R: Wait>(
     alloc: Global,
     life: &mut OwnLife<'a, L, N>,
     pages: &mut StorePages<'a, D, V, N>,
+    armed: bool,
     name: &Name,
     request: &Request,
     line: u64,
 ) -> Result<Vec<u8>, Status>
     requires idle { IsIdle pages.old.pool.out pages.old.pool.reserves }
     ensures idle { IsIdle pages.new.pool.out pages.new.pool.reserves }
-    ensures ok { IfOk result (λ lines. Did L.Disk N.opens life.old life.new (commands.Ask name.now request.now) lines.items) }
+    ensures ok { IfOk result (λ lines. DidArmed L.Disk N.opens armed life.old life.new (commands.Ask name.now request.now) lines.items) }
     ensures err { IfErr result (Refused L.Disk N.opens life.old life.new (commands.Ask name.now request.now) line) }
     ensures cause { IfErr result (LifeCause life.old.calls.own life.new.calls.own) }
     ensures later { life.old.calls.own ≤ life.new.calls.own }
@@ -138,7 +140,7 @@ fn ask<'a, N: Life, L: Disk, D: PageDevice, V: Vault, R: Wait>(
     }
     match life.ended() {
         Some(at) => Ok(transcript::request_ended(alloc, name, request, at)?),
-        None => ask_open(rt, alloc, life, pages, name, request),
+        None => ask_open(rt, alloc, life, pages, armed, name, request),
     }
 }
 
@@ -168,12 +170,13 @@ fn abort<'a, N: Life, L: Disk, D: PageDevice, V: Vault, R: Wait>(
     alloc: Global,
     life: &mut OwnLife<'a, L, N>,
     pages: &mut StorePages<'a, D, V, N>,
+    armed: bool,
     name: &Name,
     line: u64,
 ) -> Result<Vec<u8>, Status>
     requires idle { IsIdle pages.old.pool.out pages.old.pool.reserves }
     ensures idle { IsIdle pages.new.pool.out pages.new.pool.reserves }
-    ensures ok { IfOk result (λ lines. Did L.Disk N.opens life.old life.new (commands.Abort name.now) lines.items) }
+    ensures ok { IfOk result (λ lines. DidArmed L.Disk N.opens armed life.old life.new (commands.Abort name.now) lines.items) }
     ensures err { IfErr result (Refused L.Disk N.opens life.old life.new (commands.Abort name.now) line) }
     ensures cause { IfErr result (LifeCause life.old.calls.own life.new.calls.own) }
     ensures later { life.old.calls.own ≤ life.new.calls.own }
@@ -183,7 +186,7 @@ fn abort<'a, N: Life, L: Disk, D: PageDevice, V: Vault, R: Wait>(
     }
     match life.ended() {
         Some(at) => Ok(transcript::abort_ended(alloc, name, at)?),
-        None => abort_open(rt, alloc, life, pages, name),
+        None => abort_open(rt, alloc, life, pages, armed, name),
     }
 }
 
@@ -208,17 +211,18 @@ fn backup<'a, N: Life, L: Disk, D: PageDevice, V: Vault, R: Wait>(
     alloc: Global,
     life: &mut OwnLife<'a, L, N>,
     pages: &mut StorePages<'a, D, V, N>,
+    armed: bool,
 ) -> Result<Vec<u8>, Status>
     requires idle { IsIdle pages.old.pool.out pages.old.pool.reserves }
     ensures idle { IsIdle pages.new.pool.out pages.new.pool.reserves }
-    ensures ok { IfOk result (λ lines. Did L.Disk N.opens life.old life.new commands.Backup lines.items) }
+    ensures ok { IfOk result (λ lines. DidArmed L.Disk N.opens armed life.old life.new commands.Backup lines.items) }
     ensures err { IfErr result (λ status. (line : ℕ) → Refused L.Disk N.opens life.old life.new commands.Backup line status) }
     ensures cause { IfErr result (LifeCause life.old.calls.own life.new.calls.own) }
     ensures later { life.old.calls.own ≤ life.new.calls.own }
 {
     match life.ended() {
         Some(at) => Ok(transcript::upkeep_ended(alloc, Upkeep::Backup, at)?),
-        None => backup_open(rt, alloc, life, pages),
+        None => backup_open(rt, alloc, life, pages, armed),
     }
 }
 
@@ -227,17 +231,18 @@ fn archive<'a, N: Life, L: Disk, D: PageDevice, V: Vault, R: Wait>(
     alloc: Global,
     life: &mut OwnLife<'a, L, N>,
     pages: &mut StorePages<'a, D, V, N>,
+    armed: bool,
 ) -> Result<Vec<u8>, Status>
     requires idle { IsIdle pages.old.pool.out pages.old.pool.reserves }
     ensures idle { IsIdle pages.new.pool.out pages.new.pool.reserves }
-    ensures ok { IfOk result (λ lines. Did L.Disk N.opens life.old life.new commands.Archive lines.items) }
+    ensures ok { IfOk result (λ lines. DidArmed L.Disk N.opens armed life.old life.new commands.Archive lines.items) }
     ensures err { IfErr result (λ status. (line : ℕ) → Refused L.Disk N.opens life.old life.new commands.Archive line status) }
     ensures cause { IfErr result (LifeCause life.old.calls.own life.new.calls.own) }
     ensures later { life.old.calls.own ≤ life.new.calls.own }
 {
     match life.ended() {
         Some(at) => Ok(transcript::archive_ended(alloc, at)?),
-        None => archive_open(rt, alloc, life, pages),
+        None => archive_open(rt, alloc, life, pages, armed),
     }
 }
 
@@ -265,18 +270,19 @@ fn help<'a, N: Life, L: Disk, D: PageDevice, V: Vault, R: Wait>(
     alloc: Global,
     life: &mut OwnLife<'a, L, N>,
     pages: &mut StorePages<'a, D, V, N>,
+    armed: bool,
     steps: u32,
 ) -> Result<Vec<u8>, Status>
     requires idle { IsIdle pages.old.pool.out pages.old.pool.reserves }
     ensures idle { IsIdle pages.new.pool.out pages.new.pool.reserves }
-    ensures ok { IfOk result (λ lines. Did L.Disk N.opens life.old life.new (commands.Help steps) lines.items) }
+    ensures ok { IfOk result (λ lines. DidArmed L.Disk N.opens armed life.old life.new (commands.Help steps) lines.items) }
     ensures err { IfErr result (λ status. (line : ℕ) → Refused L.Disk N.opens life.old life.new (commands.Help steps) line status) }
     ensures cause { IfErr result (LifeCause life.old.calls.own life.new.calls.own) }
     ensures later { life.old.calls.own ≤ life.new.calls.own }
 {
     match life.ended() {
         Some(at) => Ok(transcript::upkeep_ended(alloc, Upkeep::Help, at)?),
-        None => help_open(rt, alloc, life, pages, steps),
+        None => help_open(rt, alloc, life, pages, armed, steps),
     }
 }
 

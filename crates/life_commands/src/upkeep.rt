@@ -3,10 +3,10 @@ ghost use Rattle.std.specs.Prelude.{◌≡◌, ◌≤◌, ℕ, None, IfErr, IfOk
 ghost use Rattle.script.specs.declared.command.Command.TheVariants as commands;
 ghost use Rattle.life_commands.specs.Causes.{LifeCause};
 ghost use Rattle.life_commands.specs.Faults.{counts_of};
-ghost use Rattle.life_commands.specs.Promises.{Did, Refused};
+ghost use Rattle.life_commands.specs.Promises.{Did, DidArmed, Refused};
 ghost use Rattle.own_life.specs.Pages.{IsIdle};
 
-use crate::failing::{MOST, fail};
+use crate::failing::{MOST, fail, is_refused};
 use crate::status::Status;
 use media::{Disk, PageDevice, Vault};
 use own_life::{OwnLife, StorePages};
@@ -78,12 +78,13 @@ pub fn help_open<'a, N: Life, L: Disk, D: PageDevice, V: Vault, R: Wait>(
     alloc: Global,
     life: &mut OwnLife<'a, L, N>,
     pages: &mut StorePages<'a, D, V, N>,
+    armed: bool,
     steps: u32,
 ) -> Result<Vec<u8>, Status>
     requires idle { IsIdle pages.old.pool.out pages.old.pool.reserves }
     requires goes { life.old.ended ≡ None }
     ensures idle { IsIdle pages.new.pool.out pages.new.pool.reserves }
-    ensures ok { IfOk result (λ lines. Did L.Disk N.opens life.old life.new (commands.Help steps) lines.items) }
+    ensures ok { IfOk result (λ lines. DidArmed L.Disk N.opens armed life.old life.new (commands.Help steps) lines.items) }
     ensures err { IfErr result (λ status. (line : ℕ) → Refused L.Disk N.opens life.old life.new (commands.Help steps) line status) }
     ensures cause { IfErr result (LifeCause life.old.calls.own life.new.calls.own) }
     ensures later { life.old.calls.own ≤ life.new.calls.own }
@@ -92,12 +93,16 @@ pub fn help_open<'a, N: Life, L: Disk, D: PageDevice, V: Vault, R: Wait>(
     if before >= MOST {
         return Err(Status::Memory);
     }
+    let of_vault = pages.vault_refused();
     let done = transcript::upkeep_line(alloc, Upkeep::Help)?;
     let failed = transcript::upkeep_failed(alloc, Upkeep::Help, Device::Log)?;
     let helped = life.help(rt, alloc, pages, steps);
     life.look();
     match helped {
         Ok(_) => Ok(done),
+        Err(fault) if is_refused(&fault, armed, of_vault, pages.vault_refused()) => {
+            Ok(transcript::upkeep_failed(alloc, Upkeep::Help, Device::Vault)?)
+        }
         Err(fault) => fail(fault, failed, before, life.refused()),
     }
 }

@@ -1,7 +1,6 @@
 //! Which lines ask for what is built.
-ghost use Rattle.std.specs.Prelude.{◌≡◌, Option, List, ℕ};
-ghost use Rattle.std.specs.Option.{option_copied};
-ghost use Rattle.line_reader.specs.Built.{is_built, is_built_word, is_store_word, is_transaction_word, is_upkeep_word, has_fuse, is_built_device};
+ghost use Rattle.std.specs.Prelude.{◌≡◌};
+ghost use Rattle.line_reader.specs.Built.{is_built, is_built_word, is_device_word, is_store_word, is_transaction_word, is_upkeep_word};
 
 use script::cut;
 
@@ -14,8 +13,8 @@ pub fn is_built(line: &[u8]) -> bool
         [] => true,
         [b'#', ..] => true,
         _ => {
-            let (word, rest) = cut(line);
-            is_built_word(word) || (has_fuse(word) && is_built_device(rest))
+            let (word, _) = cut(line);
+            is_built_word(word)
         }
     }
 }
@@ -23,7 +22,10 @@ pub fn is_built(line: &[u8]) -> bool
 fn is_built_word(word: &[u8]) -> bool
     ensures { result ≡ is_built_word word.now }
 {
-    is_store_word(word) || is_upkeep_word(word) || is_transaction_word(word)
+    is_store_word(word)
+        || is_device_word(word)
+        || is_upkeep_word(word)
+        || is_transaction_word(word)
 }
 
 /// Whether it asks for something of the store.
@@ -35,7 +37,13 @@ fn is_store_word(word: &[u8]) -> bool
         || word == b"stat".as_slice()
         || word == b"close".as_slice()
         || word == b"stop".as_slice()
-        || word == b"damage".as_slice()
+}
+
+/// Whether it asks for a fault of a device, or takes its fuse back.
+fn is_device_word(word: &[u8]) -> bool
+    ensures { result ≡ is_device_word word.now }
+{
+    word == b"damage".as_slice() || word == b"fuse".as_slice() || word == b"renew".as_slice()
 }
 
 /// Whether it asks for something that keeps the store up, or loses a part of it.
@@ -61,24 +69,4 @@ fn is_transaction_word(word: &[u8]) -> bool
         || word == b"op".as_slice()
         || word == b"commit".as_slice()
         || word == b"abort".as_slice()
-}
-
-/// Whether the second word belongs to it: the device of a fuse.
-fn has_fuse(word: &[u8]) -> bool
-    ensures { result ≡ has_fuse word.now }
-{
-    word == b"fuse".as_slice() || word == b"renew".as_slice()
-}
-
-/// Whether what stands behind the first word begins with a device whose fuse is built.
-fn is_built_device(rest: Option<&[u8]>) -> bool
-    ensures { result ≡ is_built_device (option_copied rest.entry) }
-{
-    match rest {
-        None => false,
-        Some(rest) => {
-            let (word, _) = cut(rest);
-            word == b"log".as_slice() || word == b"data".as_slice()
-        }
-    }
 }

@@ -1,4 +1,4 @@
--- The log disk in its fuse, and without it.
+-- The devices in their fuses, and without them.
 use Rattle.std.proofs.Common.{◌≡◌, ◌≢◌, ℕ, ◌+◌, List, Option, None, refl, sym, subst}
 use Rattle.std.proofs.lemmas.List.Elements.{All-nil}
 use Rattle.media.specs.Kept.{Kept}
@@ -118,27 +118,39 @@ images_fuse D = record {
   fuses = Unit {0};
 }
 
+-- what a fuse round a vault says
+abbrev pub vault_fuse : {D : Type 0} → vaults.Ghosts D → vaults.Ghosts (Fused D)
+vault_fuse D = record {
+  tells = D.tells;
+  told = λ f name. D.told f.inner name;
+  faults = λ f. D.faults f.inner + f.refused;
+  own = λ f. D.faults f.inner;
+  refused = λ f. f.refused;
+  passes = λ f. f.left;
+  fuses = Unit {0};
+}
+
 abbrev pub fresh : {D : Type 0} → D → Fused D
 fresh d = record { inner = d; left = None; refused = 0 }
 
 -- a run round fused devices is one round the devices
-pub begun_fused : {D E F : Type 0} (L : Ghosts D) (P : pages.Ghosts E) (V : vaults.Ghosts F) (v : View L.tells) (e : Fused D) (f : Fused E) (d : D) (device : E) (vault : F) → e ≡ fresh d → f ≡ fresh device → (start : Start) → (IsWhole v → (stores P V).tells × Keeps L start.last d × AreOf ((stores P V).are_of (device, vault)) start.last) → Known L.tells L start.bytes d
-    → Stored (IsWhole v) (stores (images_fuse P) V) (f, vault) (Out L.tells (seen (fuse_of L) v) e) (begin_stage start)
-begun_fused L P V v e f d device vault is same start keeps known = record {
+pub begun_fused : {D E F : Type 0} (L : Ghosts D) (P : pages.Ghosts E) (V : vaults.Ghosts F) (v : View L.tells) (e : Fused D) (f : Fused E) (g : Fused F) (d : D) (device : E) (vault : F) → e ≡ fresh d → f ≡ fresh device → g ≡ fresh vault → (start : Start) → (IsWhole v → (stores P V).tells × Keeps L start.last d × AreOf ((stores P V).are_of (device, vault)) start.last) → Known L.tells L start.bytes d
+    → Stored (IsWhole v) (stores (images_fuse P) (vault_fuse V)) (f, g) (Out L.tells (seen (fuse_of L) v) e) (begin_stage start)
+begun_fused L P V v e f g d device vault is same alike start keeps known = record {
   here = subst (λ (x : Fused _). Out L.tells (seen (fuse_of L) v) x (begin_stage start)) (sym is) (out_at (IsWhole v) L.tells L (fuse_of L) (fresh d) d refl (λ c m. m) tt refl start (λ w. (keeps w).1) (known_fused L (fresh d) start.bytes known));
   told = λ w. (keeps w).0;
-  stores = λ w. subst (λ (x : Fused _). AreOf ((stores P V).are_of (x.inner, vault)) start.last) (sym same) (keeps w).2;
+  stores = λ w. subst (λ (x : Fused _). AreOf ((stores P V).are_of (x.inner, g.inner)) start.last) (sym same) (subst (λ (x : Fused _). AreOf ((stores P V).are_of (device, x.inner)) start.last) (sym alike) (keeps w).2);
 }
 
-pub ended_fused : {D E F : Type 0} (L : Ghosts D) (P : pages.Ghosts E) (V : vaults.Ghosts F) (v : View L.tells) (e : Fused D) (f : Fused E) (d : D) (device : E) (vault : F) → d ≡ e.inner → device ≡ f.inner → {start : Start} {left0 : Option (List ℕ)} {pending : List ℕ} {left told0 told : Option (List ℕ)} {status : Status}
-    → Headline (IsWhole v) start (HandsBack L.tells (seen (fuse_of L) v) (stores (images_fuse P) V) e (f, vault)) left0 pending left told0 told status → Headline (IsWhole v) start (HandsBack L.tells (seen L v) (stores P V) d (device, vault)) left0 pending left told0 told status
-ended_fused L P V v e f d device vault is same h = back_as through h
+pub ended_fused : {D E F : Type 0} (L : Ghosts D) (P : pages.Ghosts E) (V : vaults.Ghosts F) (v : View L.tells) (e : Fused D) (f : Fused E) (g : Fused F) (d : D) (device : E) (vault : F) → d ≡ e.inner → device ≡ f.inner → vault ≡ g.inner → {start : Start} {left0 : Option (List ℕ)} {pending : List ℕ} {left told0 told : Option (List ℕ)} {status : Status}
+    → Headline (IsWhole v) start (HandsBack L.tells (seen (fuse_of L) v) (stores (images_fuse P) (vault_fuse V)) e (f, g)) left0 pending left told0 told status → Headline (IsWhole v) start (HandsBack L.tells (seen L v) (stores P V) d (device, vault)) left0 pending left told0 told status
+ended_fused L P V v e f g d device vault is same alike h = back_as through h
   where
-    through : (s : Stage) → HandsBack L.tells (seen (fuse_of L) v) (stores (images_fuse P) V) e (f, vault) s → HandsBack L.tells (seen L v) (stores P V) d (device, vault) s
+    through : (s : Stage) → HandsBack L.tells (seen (fuse_of L) v) (stores (images_fuse P) (vault_fuse V)) e (f, g) s → HandsBack L.tells (seen L v) (stores P V) d (device, vault) s
     through s b = record {
       kept = b.kept;
       leaves = λ t. subst (λ (x : _). Keeps (seen L v) (last_after s.life s.last b.kept) x) (sym is) (keeps_inner (IsWhole v) L (fuse_of L) e e.inner refl (λ c m. m) (last_after s.life s.last b.kept) (b.leaves t));
-      stores = λ t. subst (λ (x : _). AreOf ((stores P V).are_of (x, vault)) (last_after s.life s.last b.kept)) (sym same) (b.stores t);
+      stores = λ t. subst (λ (x : _). AreOf ((stores P V).are_of (x, vault)) (last_after s.life s.last b.kept)) (sym same) (subst (λ (x : _). AreOf ((stores P V).are_of (f.inner, x)) (last_after s.life s.last b.kept)) (sym alike) (b.stores t));
       bytes = subst (λ (x : _). Known L.tells (seen L v) (bytes_after s.life s.bytes) x) (sym is) (known_inner L e (bytes_after s.life s.bytes) b.bytes);
     }
 
@@ -148,10 +160,10 @@ pub handed_back : {D E F : Type 0} (L : Ghosts D) (P : pages.Ghosts E) (V : vaul
 handed_back L P V v start disk device vault keeps known = record { kept = 0; leaves = λ t. (keeps t).1; stores = λ t. (keeps t).2; bytes = known }
 
 -- Of devices that keep a log and what is of it, where no device failed, the run has a status that the script asks for.
-pub asked_fused : {D E F : Type 0} (L : Ghosts D) (P : pages.Ghosts E) (V : vaults.Ghosts F) {disk : Fused D} {pages_left : Fused E} {vault_left : F} {left0 left told0 told : Option (List ℕ)} {pending : List ℕ} {status : Status} (e : Fused D) (f : Fused E) (d : D) (device : E) (vault : F) → e ≡ fresh d → f ≡ fresh device
-    → ((v : View L.tells) (start : Start) → Stored (IsWhole v) (stores (images_fuse P) V) (f, vault) (Out L.tells (seen (fuse_of L) v) e) (begin_stage start) → Headline (IsWhole v) start (HandsBack L.tells (seen (fuse_of L) v) (stores (images_fuse P) V) disk (pages_left, vault_left)) left0 pending left told0 told status)
+pub asked_fused : {D E F : Type 0} (L : Ghosts D) (P : pages.Ghosts E) (V : vaults.Ghosts F) {disk : Fused D} {pages_left : Fused E} {vault_left : Fused F} {left0 left told0 told : Option (List ℕ)} {pending : List ℕ} {status : Status} (e : Fused D) (f : Fused E) (g : Fused F) (d : D) (device : E) (vault : F) → e ≡ fresh d → f ≡ fresh device → g ≡ fresh vault
+    → ((v : View L.tells) (start : Start) → Stored (IsWhole v) (stores (images_fuse P) (vault_fuse V)) (f, g) (Out L.tells (seen (fuse_of L) v) e) (begin_stage start) → Headline (IsWhole v) start (HandsBack L.tells (seen (fuse_of L) v) (stores (images_fuse P) (vault_fuse V)) disk (pages_left, vault_left)) left0 pending left told0 told status)
     → L.tells → P.tells → V.tells → (last : Last) → Keeps L last d → AreOf ((stores P V).are_of (device, vault)) last
     → (status ≢ statuses.Usage) × (status ≢ statuses.NoGenerator) → status ≢ statuses.SourceFault → status ≢ statuses.SinkFault → status ≢ statuses.LogFault → status ≢ statuses.VaultFault → IsAsked status
-asked_fused L P V {status = status} e f d device vault is same headline t p o last keeps these usage source sink fault vaulted =
+asked_fused L P V {status = status} e f g d device vault is same alike headline t p o last keeps these usage source sink fault vaulted =
     let start : Start = record { last = last; bytes = Unknown } in
-    asked status (headline (Whole t) start (begun_fused L P V (Whole t) e f d device vault is same start (λ w. ((p, o), keeps, these)) tt)) tt usage source sink fault vaulted
+    asked status (headline (Whole t) start (begun_fused L P V (Whole t) e f g d device vault is same alike start (λ w. ((p, o), keeps, these)) tt)) tt usage source sink fault vaulted

@@ -1,6 +1,7 @@
 pub mod Blamed
 pub mod Causes
 pub mod Fused
+pub mod Fuses
 pub mod Gates
 pub mod Stores
 pub mod Insides

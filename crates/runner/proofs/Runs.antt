@@ -1,5 +1,5 @@
 -- A run, turn by turn.
-use Rattle.std.proofs.Common.{◌≡◌, ◌≤◌, ℕ, ◌+◌, true, false, List, [], ◌∷◌, ◌++◌, Option, Some, None, Ok, Err, refl, sym, ap, subst, ◌∙◌, arith, inl, inr, ⊎_elim, append_assoc, append-nil, length, length-append}
+use Rattle.std.proofs.Common.{◌≡◌, ◌≤◌, ℕ, ◌+◌, Bool, true, false, List, [], ◌∷◌, ◌++◌, Option, Some, None, Ok, Err, refl, sym, ap, subst, ◌∙◌, arith, inl, inr, ⊎_elim, append_assoc, append-nil, length, length-append}
 use Rattle.std.specs.Prelude.{◌⊎◌, codes}
 use Rattle.std.specs.List.{All}
 use Rattle.std.proofs.lemmas.List.Elements.{All-nil}
@@ -22,9 +22,10 @@ use Rattle.life_commands.specs.Rows.{Fits, FitsAt, IsOfLife, is_lawful}
 use Rattle.life_commands.specs.Turns.{Start, Turn, Stage, Cut, stage, stage_step, begin_stage, bytes_after, last_after, Life, IsRightLife, lives, turn}
 use Rattle.life_commands.specs.Living.{Adds}
 use Rattle.life_commands.specs.Text.{lines, text}
-use Rattle.life_commands.specs.Refusals.{RefusesAt, CutAt, LacksLines, LeftAs, IsOpen, IsFormat, IsNotBuilt}
+use Rattle.life_commands.specs.Refusals.{RefusesAt, CutAt, LacksLines, LeftAs, IsOpen, IsFormat}
 use Rattle.runner.specs.Devices.{Rests, Stored}
 use Rattle.runner.specs.Machine.{IsAt}
+use Rattle.runner.specs.Vault.{WithVault}
 use Rattle.runner.specs.declared.at.At.{At}
 use Rattle.life_commands.specs.Bytes.{Bytes, Known}
 use Rattle.life_commands.specs.LogDisk.{Leaves}
@@ -87,10 +88,10 @@ between_as H' h b = record {
 }
 
 -- the same turns, of whose stage the run's place says what it says of where the run is
-pub between_at : {D F S : Type 0} {tells : Type 0} {B : Stores S} {beside : S} {start : Start} {left0 told0 left told : Option (List ℕ)} {reader : Reader} {turns : List Turn} (T : Type 0) (L : Ghosts D) (inside : F → Stage → Type 0) (at now : At D F) → at ≡ now
-    → Between tells start (Stored tells B beside (IsAt T L inside at)) left0 told0 reader turns left told → Between tells start (Stored tells B beside (IsAt T L inside now)) left0 told0 reader turns left told
-between_at {tells = tells} {B = B} {beside = beside} {start = start} {turns = turns} T L inside at now is b =
-    between_as (Stored tells B beside (IsAt T L inside now)) (subst (λ (x : At _ _). Stored tells B beside (IsAt T L inside x) (stage start turns)) is b.holds) b
+pub between_at : {D F S : Type 0} {tells : Type 0} {B : Stores S} {beside : S} {start : Start} {left0 told0 left told : Option (List ℕ)} {reader : Reader} {turns : List Turn} (T : Type 0) (L : Ghosts D) (inside : F → Stage → Type 0) (armed : Bool) (at now : At D F) → at ≡ now
+    → Between tells start (WithVault armed (Stored tells B beside (IsAt T L inside at))) left0 told0 reader turns left told → Between tells start (WithVault armed (Stored tells B beside (IsAt T L inside now))) left0 told0 reader turns left told
+between_at {tells = tells} {B = B} {beside = beside} {start = start} {turns = turns} T L inside armed at now is b =
+    between_as (WithVault armed (Stored tells B beside (IsAt T L inside now))) (subst (λ (x : At _ _). WithVault armed (Stored tells B beside (IsAt T L inside x)) (stage start turns)) is b.holds) b
 
 -- ---- behind these turns so much more was read
 
@@ -147,7 +148,7 @@ module _ {D S : Type 0} {start : Start} {H : Stage → Type 0} {left0 told0 lo t
     no_line statuses.Memory before now (rest, took, size) why = no_memory rest took size
     no_line statuses.SourceFault before now (rest, took, size) why = stop_here rest statuses.SourceFault refl took size refl
     no_line (statuses.NotBuilt n) before now (is, bytes, took, one, size, within, unbuilt) why =
-        stop_here (bytes ++ 10 ∷ []) (statuses.NotBuilt n) refl took (omega (arith, size, length-append bytes (10 ∷ []))) (refl, at_line n is, inl (bytes, record { is = refl; one = one; within = omega (arith, within, size, b.size, length-append bytes (10 ∷ [])) }, unbuilt))
+        stop_here (bytes ++ 10 ∷ []) (statuses.NotBuilt n) refl took (omega (arith, size, length-append bytes (10 ∷ []))) (refl, at_line n is, (bytes, record { is = refl; one = one; within = omega (arith, within, size, b.size, length-append bytes (10 ∷ [])) }, unbuilt))
     no_line (statuses.Script n) before now (is, rest, took, size, bad) why = stop_here rest (statuses.Script n) refl took size (refl, at_line n is, by bad)
       where
         by : ((bytes : List ℕ) × (rest ≡ bytes ++ 10 ∷ []) × IsLine bytes × (is_built bytes ≡ true) × (reads bytes ≡ None) × (new.taken ≤ longest_script)) ⊎ IsNoLine old.taken rest (to_come new ln) → BadLine (stage start turns) (length b.read) rest (to_come new ln)
@@ -241,8 +242,8 @@ module _ {D S : Type 0} {start : Start} {H : Stage → Type 0} {left0 told0 lo t
     pub stops : (kept : ℕ) (disk : D) (beside : S) → Rests T L B kept disk beside (stage start turns) → (keep : Option ℕ) (out : List ℕ) → c ≡ commands.Stop keep → out ≡ codes "stop\n" → Stopping T L B start kept disk beside left0 told0 new turns ln told keep out
     stops kept disk beside rests keep out is text = (text, asked (Rests T L B kept disk beside) rests (commands.Stop keep) is)
 
-    pub closes : (disk : D) (beside : S) (out : List ℕ) → c ≡ commands.Close → Adds L.tells (AtRest T L B disk beside) (stage start turns) commands.Close out → Closing T L B start disk beside left0 told0 new turns ln told out
-    closes disk beside out is added = (added, asked Whatever tt commands.Close is)
+    pub closes : (disk : D) (beside : S) (armed : Bool) (out : List ℕ) → c ≡ commands.Close → Adds L.tells (WithVault armed (AtRest T L B disk beside)) (stage start turns) commands.Close out → Closing T L B start disk beside armed left0 told0 new turns ln told out
+    closes disk beside armed out is added = (added, asked Whatever tt commands.Close is)
 
     -- want of memory for the lines of a stop
     pub lacks_memory : (kept : ℕ) (disk : D) (beside : S) → Rests T L B kept disk beside (stage start turns) → Ends disk beside told statuses.Memory
@@ -319,8 +320,6 @@ module _ {D S : Type 0} {start : Start} {H : Stage → Type 0} {left0 told0 lo t
           by : (status : Status) → RefusesAt L kept now opens h (stage start turns) c n status → Ends now beside told status
           by statuses.Memory why = ⊎_elim (λ (left : LeftAs L kept now opens h (stage start turns)). stop_with statuses.Memory tt (all_of start turns) left) (λ lacks. lacks_lines lacks known) why
           by (statuses.Script m) why = stop_with (statuses.Script m) refl (refl, why.0 ∙ at_line n is, inl (line.line, next, built, subst (Unlawful (stage start turns)) (sym line.said) why.1)) why.2
-          by (statuses.NotBuilt m) why =
-              stop_with (statuses.NotBuilt m) refl (refl, why.0 ∙ at_line n is, inr (of_command (λ d. (is_lawful (stage start turns) d ≡ true) × IsNotBuilt d) (length b.read) line.line whole c next line.said (why.1, why.2))) why.3
           by statuses.LogFault why = cut_off statuses.LogFault refl (λ cut. cut_text cut.entries) why known
           by statuses.VaultFault why = cut_off statuses.VaultFault refl (λ cut. cut_text cut.entries) why known
           by (statuses.VaultBad object byte) why = cut_off (statuses.VaultBad object byte) refl (λ cut. (cut_text cut.entries, why.1)) why.0 known

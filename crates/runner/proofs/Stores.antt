@@ -20,6 +20,8 @@ use Rattle.wal_record.specs.declared.record.Record.TheVariants as kinds
 use Rattle.wal_record.specs.declared.entry.Entry.{Entry}
 use Rattle.script.specs.declared.command.Command.{Command}
 use Rattle.script.specs.declared.command.Command.TheVariants as commands
+use Rattle.script.specs.declared.command.Device.{Device}
+use Rattle.script.specs.declared.command.Device.TheVariants.{Log, Data, Vault}
 use Rattle.log_laws.specs.Right.{first_log}
 use Rattle.life_commands.specs.Images.{AreSealed}
 use Rattle.life_commands.specs.Living.{Adds}
@@ -27,7 +29,7 @@ use Rattle.life_commands.specs.Rows.{FitsAt, Row, is_lawful, no_life, no_name}
 use Rattle.life_commands.specs.Stores.{AreOf, AreStored, Stores, stores}
 use Rattle.life_commands.specs.Turns.{Figures, Life, Last, Found, Formatted, Unformatted, Stopped, LeftBy, IsLeftBy, Stage, Turn, End, Done, TooMany, LogFault, VaultFault, Ended, Cut, last_after, longer, room_of, stage_after, stage_step, turn}
 use Rattle.runner.specs.Devices.{AreOfAt, Stored}
-use Rattle.runner.specs.Vault.{Cycles}
+use Rattle.runner.specs.Vault.{Arms, Cycles}
 use Rattle.runner.proofs.Stages.{cut_none}
 
 -- ---- a log in which nothing is stored
@@ -223,8 +225,15 @@ stored_left old new bytes may is = subst (λ (x : Object). MayLeave x new) is ma
 same_vault : {F : Type 0} (V : vaults.Ghosts F) (old new : F) (log : List Record) → new ≡ old → AreStored (V.told old) log → AreStored (V.told new) log
 same_vault V old new log same all = subst (λ (x : _). AreStored (V.told x) log) (sym same) all
 
+vault_armed : {F : Type 0} (V : vaults.Ghosts F) (device : Device) (n : Option ℕ) (old new : F) (log : List Record) → V.tells → Arms V device n old new → AreStored (V.told old) log → AreStored (V.told new) log
+vault_armed V Log n old new log t same all = same_vault V old new log same all
+vault_armed V Data n old new log t same all = same_vault V old new log same all
+vault_armed V Vault n old new log t armed all = λ name bytes names. armed.same t name ∙ all name bytes names
+
 pub vault_after : {F : Type 0} (V : vaults.Ghosts F) (c : Command) (old new : F) (log : List Record) → V.tells → Cycles V c old new → AreStored (V.told old) log → AreStored (V.told new) log
 vault_after V (commands.Stop keep) old new log t cycled all = λ name bytes names. stored_left (V.told old name) (V.told new name) bytes (cycled.left t name) (all name bytes names)
+vault_after V (commands.Fuse device calls) old new log t armed all = vault_armed V device (Some calls) old new log t armed all
+vault_after V (commands.Renew device) old new log t armed all = vault_armed V device None old new log t armed all
 vault_after V _ old new log t same all = same_vault V old new log same all
 
 -- no image more, and the vault behind a command where no life is open

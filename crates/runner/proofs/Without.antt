@@ -183,7 +183,7 @@ module _ {D F : Type 0} (T : Type 0) (L : Ghosts D) (inside : F → Stage → Ty
   pub did_damage : (page : ℕ) (out : List ℕ) → out ≡ codes "damage " ++ decimal page ++ codes "\n" → Adds L.tells (Out T L disk) s (commands.Damage page) out
   did_damage page out is = record { turn = turn (commands.Damage page) [] Done; is = refl; fits = record { goes = h.goes; lawful = refl; row = (tt, enters_own L.tells s (commands.Damage page) [] tt refl, tt) }; holds = h; lines = is }
 
-  module _ (left : D) (same : L.tells → L.told left ≡ L.told disk) (more : NoMore L.may_leave disk left) (stays : StaysKnown T L disk left) (device : Device) (built : device ≢ Vault) where
+  module _ (left : D) (same : L.tells → L.told left ≡ L.told disk) (more : NoMore L.may_leave disk left) (stays : StaysKnown T L disk left) (device : Device) where
     still_keeps : L.tells → Keeps L s.last left
     still_keeps t = keeps_same L s.last disk left (same t) more (h.keeps t)
 
@@ -191,7 +191,7 @@ module _ {D F : Type 0} (T : Type 0) (L : Ghosts D) (inside : F → Stage → Ty
     did_fuse calls out fused is = record {
       turn = turn (commands.Fuse device calls) [] Done;
       is = refl;
-      fits = record { goes = h.goes; lawful = refl; row = (built, enters_own L.tells s (commands.Fuse device calls) [] tt refl, tt) };
+      fits = record { goes = h.goes; lawful = refl; row = (tt, enters_own L.tells s (commands.Fuse device calls) [] tt refl, tt) };
       holds = record { past = h.past; life = h.life; active = h.active; ended = h.ended; goes = h.goes; fused = fused; keeps = still_keeps; bytes = stays s.bytes h.bytes };
       lines = is;
     }
@@ -200,7 +200,7 @@ module _ {D F : Type 0} (T : Type 0) (L : Ghosts D) (inside : F → Stage → Ty
     did_renew out fused is = record {
       turn = turn (commands.Renew device) [] Done;
       is = refl;
-      fits = record { goes = h.goes; lawful = refl; row = (built, enters_own L.tells s (commands.Renew device) [] tt refl, tt) };
+      fits = record { goes = h.goes; lawful = refl; row = (tt, enters_own L.tells s (commands.Renew device) [] tt refl, tt) };
       holds = record { past = h.past; life = h.life; active = h.active; ended = h.ended; goes = h.goes; fused = fused; keeps = still_keeps; bytes = stays s.bytes h.bytes };
       lines = is;
     }

@@ -1,5 +1,5 @@
 -- What a run promises.
-use Rattle.std.specs.Prelude.{◌≡◌, ◌<◌, ◌≤◌, ◌+◌, ℕ, List, [], ◌∷◌, ◌++◌, length, map, Option, Some, None, true, false, ◌⊎◌, codes}
+use Rattle.std.specs.Prelude.{◌≡◌, ◌<◌, ◌≤◌, ◌+◌, ℕ, List, [], ◌∷◌, ◌++◌, length, map, Option, Some, None, Bool, true, false, ◌⊎◌, codes}
 use Rattle.std.specs.List.{All}
 use Rattle.std.specs.Io.KnownBytes.{Appends, Consumes, IsAtEnd, prepend_known}
 use Rattle.std.specs.declared.result.Result.{Result}
@@ -14,7 +14,7 @@ use Rattle.life_commands.specs.Bytes.{Known}
 use Rattle.life_commands.specs.Rows.{Fits, is_lawful}
 use Rattle.life_commands.specs.Stores.{AreOf, Stores}
 use Rattle.life_commands.specs.Turns.{Start, Turn, Stage, stage, bytes_after, last_after, IsRightLife, MayFind, lives}
-use Rattle.life_commands.specs.Refusals.{IsNotBuilt, IsOpen, IsFormat, FindsLog}
+use Rattle.life_commands.specs.Refusals.{IsOpen, IsFormat, FindsLog}
 use Rattle.runner.specs.Cuts.{MayCut}
 use Rattle.life_commands.specs.Text.{text}
 use Rattle.life_commands.specs.declared.status.Status.{Status}
@@ -29,6 +29,7 @@ use Rattle.life_commands.specs.LogDisk.{Leaves}
 use Rattle.life_commands.specs.Living.{Adds, Out}
 use Rattle.runner.specs.Devices.{Rests, Stored}
 use Rattle.runner.specs.Machine.{IsAt}
+use Rattle.runner.specs.Vault.{WithVault}
 
 -- the bytes are the lines of these commands
 abbrev pub Script : List ℕ → List Command → Type 0
@@ -75,8 +76,9 @@ BadLine s taken rest left = ((line : List ℕ) × IsNext taken rest line × (is_
 abbrev pub NextLine : (Command → Type 0) → ℕ → List ℕ → Type 0
 NextLine P taken rest = (line : List ℕ) × IsNext taken rest line × OfCommand P (reads line)
 
-abbrev pub NotBuiltLine : Stage → ℕ → List ℕ → Type 0
-NotBuiltLine s taken rest = ((line : List ℕ) × IsNext taken rest line × (is_built line ≡ false)) ⊎ NextLine (λ c. (is_lawful s c ≡ true) × IsNotBuilt c) taken rest
+-- the next line begins with a word that isn't built
+abbrev pub NotBuiltLine : ℕ → List ℕ → Type 0
+NotBuiltLine taken rest = (line : List ℕ) × IsNext taken rest line × (is_built line ≡ false)
 
 -- by the status: what was written of the turns' text, and why the run ended; the log disk was handed in as this use left it
 abbrev pub Ended : Type 0 → Start → Status → List Turn → List ℕ → List ℕ → List ℕ → Option (List ℕ) → Type 0
@@ -94,7 +96,7 @@ Ended tells start (statuses.BlockBad block byte) turns read rest written left = 
 Ended tells start (statuses.LogBad block byte) turns read rest written left = (written ≡ text start turns) × NextLine IsOpen (length read) rest × (tells → ⊥)
 Ended tells start statuses.NotFormatted turns read rest written left = (written ≡ text start turns) × NextLine IsOpen (length read) rest × (tells → MayFind (stage start turns).last [])
 Ended tells start statuses.AlreadyFormatted turns read rest written left = (written ≡ text start turns) × NextLine IsFormat (length read) rest × (tells → FindsLog (stage start turns).last)
-Ended tells start (statuses.NotBuilt line) turns read rest written left = (written ≡ text start turns) × (line ≡ length turns + 1) × NotBuiltLine (stage start turns) (length read) rest
+Ended tells start (statuses.NotBuilt line) turns read rest written left = (written ≡ text start turns) × (line ≡ length turns + 1) × NotBuiltLine (length read) rest
 
 -- The devices that are handed back. The log disk keeps a log that may be found next: of an open life a member of what a stop may
 -- leave, with at least so many of its records. The images on the data device are of each such log, and each object that such a
@@ -148,10 +150,10 @@ TakesCommand old new left_old left_new (Err (statuses.NotBuilt n)) = (n ≡ old.
     × (new.taken ≡ old.taken + length bytes + 1) × (new.taken ≤ longest_script) × (is_built bytes ≡ false)
 TakesCommand old new left_old left_new (Err e) = (rest : List ℕ) × Consumes (to_come old left_old) (to_come new left_new) rest × (new.taken ≡ old.taken + length rest)
 
--- one line, behind which a run goes on or has ended
-abbrev pub TurnedTo : {D S G : Type 0} → Type 0 → Ghosts D → Stores S → Start → (G → Stage → Type 0) → S → Option (List ℕ) → Option (List ℕ) → Reader → List Turn → Option (List ℕ) → Option (List ℕ) → Turned D G → Type 0
-TurnedTo tells L B start inside beside left0 told0 reader turns left told (results.Goes at) = (t : Turn) × Between L.tells start (Stored L.tells B beside (IsAt tells L inside at)) left0 told0 reader (turns ++ t ∷ []) left told
-TurnedTo tells L B start inside beside left0 told0 reader turns left told (results.Ends status disk) = Headline L.tells start (HandsBack tells L B disk beside) left0 reader.pending left told0 told status
+-- one line, behind which a run goes on, and the vault's fuse is armed or not, or has ended
+abbrev pub TurnedTo : {D S G : Type 0} → Type 0 → Ghosts D → Stores S → Start → (G → Stage → Type 0) → S → Bool → Option (List ℕ) → Option (List ℕ) → Reader → List Turn → Option (List ℕ) → Option (List ℕ) → Turned D G → Type 0
+TurnedTo tells L B start inside beside armed left0 told0 reader turns left told (results.Goes at) = (t : Turn) × Between L.tells start (WithVault armed (Stored L.tells B beside (IsAt tells L inside at))) left0 told0 reader (turns ++ t ∷ []) left told
+TurnedTo tells L B start inside beside armed left0 told0 reader turns left told (results.Ends status disk) = Headline L.tells start (HandsBack tells L B disk beside) left0 reader.pending left told0 told status
 
 -- The next line has been read, and is this command; the turns are those before it, behind which H holds.
 pub record Asked (tells : Type 0) (start : Start) (H : Stage → Type 0) (left0 told0 : Option (List ℕ)) (reader : Reader) (turns : List Turn) (left told : Option (List ℕ)) (c : Command) : Type 0 where
@@ -180,22 +182,22 @@ abbrev pub Whatever : Stage → Type 0
 Whatever s = Unit {0}
 
 -- It asks for a close, which has these lines: one turn more, behind which no life is open.
-abbrev pub Closing : {D S : Type 0} → Type 0 → Ghosts D → Stores S → Start → D → S → Option (List ℕ) → Option (List ℕ) → Reader → List Turn → Option (List ℕ) → Option (List ℕ) → List ℕ → Type 0
-Closing tells L B start disk beside left0 told0 reader turns left told out =
-    Adds L.tells (AtRest tells L B disk beside) (stage start turns) commands.Close out × Asked L.tells start Whatever left0 told0 reader turns left told commands.Close
+abbrev pub Closing : {D S : Type 0} → Type 0 → Ghosts D → Stores S → Start → D → S → Bool → Option (List ℕ) → Option (List ℕ) → Reader → List Turn → Option (List ℕ) → Option (List ℕ) → List ℕ → Type 0
+Closing tells L B start disk beside armed left0 told0 reader turns left told out =
+    Adds L.tells (WithVault armed (AtRest tells L B disk beside)) (stage start turns) commands.Close out × Asked L.tells start Whatever left0 told0 reader turns left told commands.Close
 
--- One line within a life, which H knows then, behind which the run goes on, the machine is to stop, the life is over, or the run
+-- One line within a life, which H knows then, behind which the run goes on, and the vault's fuse is armed or not; the machine is to stop, the life is over, or the run
 -- has ended, whatever devices the life hands out.
-abbrev pub PassedTo : {D S : Type 0} → Type 0 → Ghosts D → Stores S → Start → (Stage → Type 0) → (ℕ → D → S → Type 0) → Option (List ℕ) → Option (List ℕ) → Reader → List Turn → Option (List ℕ) → Option (List ℕ) → Passed → Type 0
-PassedTo tells L B start H hands left0 told0 reader turns left told passes.Goes = (t : Turn) × Between L.tells start H left0 told0 reader (turns ++ t ∷ []) left told
-PassedTo tells L B start H hands left0 told0 reader turns left told (passes.Stops keep lines) =
+abbrev pub PassedTo : {D S : Type 0} → Type 0 → Ghosts D → Stores S → Start → Bool → (Stage → Type 0) → (ℕ → D → S → Type 0) → Option (List ℕ) → Option (List ℕ) → Reader → List Turn → Option (List ℕ) → Option (List ℕ) → Passed → Type 0
+PassedTo tells L B start armed H hands left0 told0 reader turns left told passes.Goes = (t : Turn) × Between L.tells start (WithVault armed H) left0 told0 reader (turns ++ t ∷ []) left told
+PassedTo tells L B start armed H hands left0 told0 reader turns left told (passes.Stops keep lines) =
     (kept : ℕ) (disk : _) (beside : _) → hands kept disk beside → Stopping tells L B start kept disk beside left0 told0 reader turns left told keep lines.items
-PassedTo tells L B start H hands left0 told0 reader turns left told (passes.Closes lines) =
-    (kept : ℕ) (disk : _) (beside : _) → hands kept disk beside → Closing tells L B start disk beside left0 told0 reader turns left told lines.items
-PassedTo tells L B start H hands left0 told0 reader turns left told (passes.Ends status) =
+PassedTo tells L B start armed H hands left0 told0 reader turns left told (passes.Closes lines) =
+    (kept : ℕ) (disk : _) (beside : _) → hands kept disk beside → Closing tells L B start disk beside armed left0 told0 reader turns left told lines.items
+PassedTo tells L B start armed H hands left0 told0 reader turns left told (passes.Ends status) =
     (kept : ℕ) (disk : _) (beside : _) → hands kept disk beside → Headline L.tells start (HandsBack tells L B disk beside) left0 reader.pending left told0 told status
 
--- a life, which is over, or the run has ended in it
-abbrev pub LivedTo : {D E F : Type 0} → Type 0 → Ghosts D → Stores (E × F) → Start → Option (List ℕ) → Option (List ℕ) → Reader → Option (List ℕ) → Option (List ℕ) → Lived D E F → Type 0
-LivedTo tells L B start left0 told0 reader left told (ways.Over disk device vault) = (turns : List Turn) × Between L.tells start (AtRest tells L B disk (device, vault)) left0 told0 reader turns left told
-LivedTo tells L B start left0 told0 reader left told (ways.Ends status disk device vault) = Headline L.tells start (HandsBack tells L B disk (device, vault)) left0 reader.pending left told0 told status
+-- a life, which is over, and the vault's fuse is armed or not, or the run has ended in it
+abbrev pub LivedTo : {D E F : Type 0} → Type 0 → Ghosts D → Stores (E × F) → Start → Bool → Option (List ℕ) → Option (List ℕ) → Reader → Option (List ℕ) → Option (List ℕ) → Lived D E F → Type 0
+LivedTo tells L B start armed left0 told0 reader left told (ways.Over disk device vault) = (turns : List Turn) × Between L.tells start (WithVault armed (AtRest tells L B disk (device, vault))) left0 told0 reader turns left told
+LivedTo tells L B start armed left0 told0 reader left told (ways.Ends status disk device vault) = Headline L.tells start (HandsBack tells L B disk (device, vault)) left0 reader.pending left told0 told status

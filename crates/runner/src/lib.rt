@@ -4,7 +4,8 @@
 //! where no life is open and else by `life_commands`, and writes the lines that answer it before it reads on. A run is a row of
 //! lives, each from an `open` to a `close`, a `stop` or the end of the run. A life (`own_life`) owns its journal, with the log
 //! and the log's disk, under a name that `living` picks; its pages, over the data device, are lent to each command. Between two
-//! lives there are the three devices alone. Log disk and data device are in fuses, which lines arm and renew, and which a stop renews.
+//! lives there are the three devices alone. Each is in a fuse, which lines arm and renew, and which a stop renews. Whether the vault's
+//! fuse is armed a run remembers itself (`WithVault` in `specs/Vault`), since no call of a life tells it.
 //!
 //! The states of a run, and what leads from one to another (a line that isn't here is refused with its status):
 //!
@@ -19,8 +20,8 @@
 //!   begin, get, put, del, scan, op,   ( a life ) --------------------+
 //!   commit, abort, checkpoint, backup,    |                          |
 //!   archive, lose, help, stat, +------    |                          |
-//!   damage, fuse, renew        +----->    | a fuse refuses a call    |
-//!                                         | of one of the commands   |
+//!   damage, fuse, renew        +----->    | the log's fuse refuses   |
+//!                                         | a call of a command      |
 //!                                         v                          |
 //!   the same commands:           ( an ended life ) ------------------+
 //!   answered as ended;                    |
@@ -28,7 +29,8 @@
 //!                           +-------->    |
 //! ```
 //!
-//! A close that a fuse refuses a call of ends its life, too.
+//! A close that the log's fuse refuses a call of ends its life, too. Behind a command that the vault's fuse refused a call the life
+//! goes on.
 //!
 //! The layer's promise is the clause `headline` of [`run_words`]. There are turns (`specs/Turns` of `life_commands`), each a
 //! command with the entries that it adds to the history of its life. Their commands are those of the lines read, each fits

@@ -1,5 +1,5 @@
 //! A life, line after line.
-ghost use Rattle.std.specs.Prelude.{◌≡◌, ◌<◌, ◌≤◌, ◌↔◌, ℕ, List, [], Option};
+ghost use Rattle.std.specs.Prelude.{◌≡◌, ◌<◌, ◌≤◌, ◌↔◌, ℕ, List, [], Option, Bool};
 ghost use Rattle.page_ops.specs.Names.{life_names};
 ghost use Rattle.wal_record.specs.declared.record.Record.{Record};
 ghost use Rattle.life_commands.specs.LogDisk.{View, IsWhole, seen};
@@ -11,11 +11,12 @@ ghost use Rattle.runner.specs.Clause.{Between, Closing, LivedTo, Stopping};
 ghost use Rattle.runner.specs.Devices.{Stored};
 ghost use Rattle.runner.specs.Machine.{Begun, IsAt, OpensOn};
 ghost use Rattle.runner.specs.Causes.{LivedCause, disk_at};
+ghost use Rattle.runner.specs.Vault.{WithVault};
 ghost use Rattle.own_life.specs.Pages.{IsIdle};
 
 use crate::at::At;
 use crate::opened::Opened;
-use crate::stop::cycled;
+use crate::stop::{cycle_vault, cycled};
 use crate::turns::{Passed, turn_inside};
 use life_commands::Status;
 use line_reader::Input;
@@ -43,7 +44,7 @@ pub enum Lived<L, D, V> {
     },
 }
 
-/// What a line has begun: nothing, or a life.
+/// What a line has begun: nothing, or a life. Whether the vault's fuse is armed is kept here and below by the caller.
 pub fn run_from<S: Source, K: Sink, V: Vault, L: Disk, D: PageDevice, R: Wait>(
     rt: &R,
     alloc: Global,
@@ -52,12 +53,13 @@ pub fn run_from<S: Source, K: Sink, V: Vault, L: Disk, D: PageDevice, R: Wait>(
     source: &mut S,
     sink: &mut K,
     vault: V,
+    armed: &mut bool,
     pages: D,
     at: At<L, Opened<L>>,
 ) -> Lived<L, D, V>
     ensures turns { (v : View L.tells) (start : Start) (left told : Option (List ℕ)) (turns : List Turn)
-        → Between (IsWhole v) start (Stored (IsWhole v) (stores D.PageDevice V.Vault) (pages, vault) (IsAt L.tells (seen L.Disk v) (Begun L.tells (seen L.Disk v)) at)) left told input.old turns (S.left source.old) (K.told sink.old)
-        → LivedTo L.tells (seen L.Disk v) (stores D.PageDevice V.Vault) start left told input.new (S.left source.new) (K.told sink.new) result }
+        → Between (IsWhole v) start (WithVault armed.old (Stored (IsWhole v) (stores D.PageDevice V.Vault) (pages, vault) (IsAt L.tells (seen L.Disk v) (Begun L.tells (seen L.Disk v)) at))) left told input.old turns (S.left source.old) (K.told sink.old)
+        → LivedTo L.tells (seen L.Disk v) (stores D.PageDevice V.Vault) start armed.new left told input.new (S.left source.new) (K.told sink.new) result }
     ensures later { (S.faults source.old ≤ S.faults source.new) × (K.faults sink.old ≤ K.faults sink.new) }
     ensures cause { LivedCause L.Disk (L.own (disk_at (λ b. b.log.log.device) at)) (S.faults source.old) (S.faults source.new) (K.faults sink.old) (K.faults sink.new) result }
 {
@@ -67,7 +69,7 @@ pub fn run_from<S: Source, K: Sink, V: Vault, L: Disk, D: PageDevice, R: Wait>(
     };
     match Unnamed::new(alloc, 1) {
         Ok(unnamed) => run_named::<Brand, S, K, V, L, D, R>(
-            rt, alloc, operators, input, source, sink, vault, pages, unnamed, opened,
+            rt, alloc, operators, input, source, sink, vault, armed, pages, unnamed, opened,
         ),
         Err(_) => Lived::Ends {
             status: Status::Memory,
@@ -88,6 +90,7 @@ fn run_named<N: Life, S: Source, K: Sink, V: Vault, L: Disk, D: PageDevice, R: W
     source: &mut S,
     sink: &mut K,
     vault: V,
+    armed: &mut bool,
     pages: D,
     unnamed: Unnamed,
     opened: Opened<L>,
@@ -96,14 +99,14 @@ fn run_named<N: Life, S: Source, K: Sink, V: Vault, L: Disk, D: PageDevice, R: W
     requires parts { (0 < N.entries.parts) × (0 < N.session_entries.parts) × (0 < N.log_faults.parts) × (0 < N.vault_faults.parts) × (0 < N.made.parts) }
     requires opens { (opening : List Record) → (N.opens opening ↔ OpensOn L.tells L.Disk (stores D.PageDevice V.Vault) opened (pages, vault) opening) }
     ensures turns { (v : View L.tells) (start : Start) (left told : Option (List ℕ)) (turns : List Turn)
-        → Between (IsWhole v) start (Stored (IsWhole v) (stores D.PageDevice V.Vault) (pages, vault) (Begun L.tells (seen L.Disk v) opened)) left told input.old turns (S.left source.old) (K.told sink.old)
-        → LivedTo L.tells (seen L.Disk v) (stores D.PageDevice V.Vault) start left told input.new (S.left source.new) (K.told sink.new) result }
+        → Between (IsWhole v) start (WithVault armed.old (Stored (IsWhole v) (stores D.PageDevice V.Vault) (pages, vault) (Begun L.tells (seen L.Disk v) opened))) left told input.old turns (S.left source.old) (K.told sink.old)
+        → LivedTo L.tells (seen L.Disk v) (stores D.PageDevice V.Vault) start armed.new left told input.new (S.left source.new) (K.told sink.new) result }
     ensures later { (S.faults source.old ≤ S.faults source.new) × (K.faults sink.old ≤ K.faults sink.new) }
     ensures cause { LivedCause L.Disk (L.own opened.log.log.device) (S.faults source.old) (S.faults source.new) (K.faults sink.old) (K.faults sink.new) result }
 {
     let (ground, tokens) = unnamed.split::<N>();
     run_on(
-        rt, alloc, operators, input, source, sink, vault, pages, &ground, tokens, opened,
+        rt, alloc, operators, input, source, sink, vault, armed, pages, &ground, tokens, opened,
     )
 }
 
@@ -116,6 +119,7 @@ fn run_on<'a, N: Life, S: Source, K: Sink, V: Vault, L: Disk, D: PageDevice, R: 
     source: &mut S,
     sink: &mut K,
     vault: V,
+    armed: &mut bool,
     pages: D,
     ground: &'a Ground<N>,
     tokens: Tokens<N>,
@@ -126,14 +130,14 @@ fn run_on<'a, N: Life, S: Source, K: Sink, V: Vault, L: Disk, D: PageDevice, R: 
     requires books { (tokens.books.pages ≡ []) × (tokens.books.sessions ≡ []) × (tokens.books.maint ≡ []) }
     requires opens { (opening : List Record) → (N.opens opening ↔ OpensOn L.tells L.Disk (stores D.PageDevice V.Vault) opened (pages, vault) opening) }
     ensures turns { (v : View L.tells) (start : Start) (left told : Option (List ℕ)) (turns : List Turn)
-        → Between (IsWhole v) start (Stored (IsWhole v) (stores D.PageDevice V.Vault) (pages, vault) (Begun L.tells (seen L.Disk v) opened)) left told input.old turns (S.left source.old) (K.told sink.old)
-        → LivedTo L.tells (seen L.Disk v) (stores D.PageDevice V.Vault) start left told input.new (S.left source.new) (K.told sink.new) result }
+        → Between (IsWhole v) start (WithVault armed.old (Stored (IsWhole v) (stores D.PageDevice V.Vault) (pages, vault) (Begun L.tells (seen L.Disk v) opened))) left told input.old turns (S.left source.old) (K.told sink.old)
+        → LivedTo L.tells (seen L.Disk v) (stores D.PageDevice V.Vault) start armed.new left told input.new (S.left source.new) (K.told sink.new) result }
     ensures later { (S.faults source.old ≤ S.faults source.new) × (K.faults sink.old ≤ K.faults sink.new) }
     ensures cause { LivedCause L.Disk (L.own opened.log.log.device) (S.faults source.old) (S.faults source.new) (K.faults sink.old) (K.faults sink.new) result }
 {
     let log = opened.into_log();
     match open_life(alloc, operators, ground, tokens, log, pages, vault) {
-        Ok((life, pages)) => run_life(rt, alloc, input, source, sink, life, pages),
+        Ok((life, pages)) => run_life(rt, alloc, input, source, sink, life, pages, armed),
         Err(refused) => {
             let LifeRefused { log, device, vault } = refused;
             Lived::Ends {
@@ -155,24 +159,25 @@ fn run_life<'a, N: Life, S: Source, K: Sink, V: Vault, L: Disk, D: PageDevice, R
     sink: &mut K,
     life: OwnLife<'a, L, N>,
     pages: StorePages<'a, D, V, N>,
+    armed: &mut bool,
 ) -> Lived<L, D, V>
     requires idle { IsIdle pages.pool.out pages.pool.reserves }
     requires told { (opening : List Record) → N.opens opening → D.tells × V.tells }
     ensures turns { (v : View L.tells) (start : Start) (left told : Option (List ℕ)) (turns : List Turn)
-        → Between (IsWhole v) start (Within (seen L.Disk v) N.opens life.entry) left told input.old turns (S.left source.old) (K.told sink.old)
-        → LivedTo L.tells (seen L.Disk v) (stores D.PageDevice V.Vault) start left told input.new (S.left source.new) (K.told sink.new) result }
+        → Between (IsWhole v) start (WithVault armed.old (Within (seen L.Disk v) N.opens life.entry)) left told input.old turns (S.left source.old) (K.told sink.old)
+        → LivedTo L.tells (seen L.Disk v) (stores D.PageDevice V.Vault) start armed.new left told input.new (S.left source.new) (K.told sink.new) result }
     ensures later { (S.faults source.old ≤ S.faults source.new) × (K.faults sink.old ≤ K.faults sink.new) }
     ensures cause { LivedCause L.Disk life.entry.calls.own (S.faults source.old) (S.faults source.new) (K.faults sink.old) (K.faults sink.new) result }
 {
     let (mut life, mut pages) = (life, pages);
     for _ in 0..u64::MAX {
         match turn_inside::<N, S, K, V, L, D, R>(
-            rt, alloc, input, source, sink, &mut life, &mut pages,
+            rt, alloc, input, source, sink, &mut life, &mut pages, armed,
         ) {
             Passed::Goes => {}
             Passed::Stops { keep, lines } => {
                 let (disk, pages, vault) = life.into_devices(pages);
-                return stop_life(sink, vault, disk, pages, keep, lines);
+                return stop_life(sink, vault, armed, disk, pages, keep, lines);
             }
             Passed::Closes { lines } => {
                 let (disk, pages, vault) = life.into_devices(pages);
@@ -202,6 +207,7 @@ fn run_life<'a, N: Life, S: Source, K: Sink, V: Vault, L: Disk, D: PageDevice, R
 fn stop_life<K: Sink, V: Vault, L: Disk, D: PageDevice>(
     sink: &mut K,
     vault: V,
+    armed: &mut bool,
     disk: L,
     pages: D,
     keep: Option<u64>,
@@ -209,14 +215,15 @@ fn stop_life<K: Sink, V: Vault, L: Disk, D: PageDevice>(
 ) -> Lived<L, D, V>
     ensures turns { (v : View L.tells) (start : Start) (kept : ℕ) (left0 told0 : Option (List ℕ)) (reader : Reader) (turns : List Turn) (left : Option (List ℕ))
         → (IsWhole v → D.tells × V.tells) → Stopping L.tells (seen L.Disk v) (stores D.PageDevice V.Vault) start kept disk (pages, vault) left0 told0 reader turns left (K.told sink.old) keep lines.items
-        → LivedTo L.tells (seen L.Disk v) (stores D.PageDevice V.Vault) start left0 told0 reader left (K.told sink.new) result }
+        → LivedTo L.tells (seen L.Disk v) (stores D.PageDevice V.Vault) start armed.new left0 told0 reader left (K.told sink.new) result }
     ensures later { K.faults sink.old ≤ K.faults sink.new }
     ensures cause { (source : ℕ) → LivedCause L.Disk (L.own disk) source source (K.faults sink.old) (K.faults sink.new) result }
 {
     let disk = cycled(disk, keep.unwrap_or(0));
     let (mut pages, mut vault) = (pages, vault);
     pages.fuse(None);
-    vault.power_cycle();
+    cycle_vault(&mut vault);
+    *armed = false;
     match write_all(sink, &lines) {
         Ok(()) => Lived::Over { disk, pages, vault },
         Err(_) => Lived::Ends {
@@ -236,9 +243,9 @@ fn end_life<K: Sink, V: Vault, L: Disk, D: PageDevice>(
     pages: D,
     lines: Vec<u8>,
 ) -> Lived<L, D, V>
-    ensures turns { (v : View L.tells) (start : Start) (left0 told0 : Option (List ℕ)) (reader : Reader) (turns : List Turn) (left : Option (List ℕ))
-        → Closing L.tells (seen L.Disk v) (stores D.PageDevice V.Vault) start disk (pages, vault) left0 told0 reader turns left (K.told sink.old) lines.items
-        → LivedTo L.tells (seen L.Disk v) (stores D.PageDevice V.Vault) start left0 told0 reader left (K.told sink.new) result }
+    ensures turns { (v : View L.tells) (start : Start) (armed : Bool) (left0 told0 : Option (List ℕ)) (reader : Reader) (turns : List Turn) (left : Option (List ℕ))
+        → Closing L.tells (seen L.Disk v) (stores D.PageDevice V.Vault) start disk (pages, vault) armed left0 told0 reader turns left (K.told sink.old) lines.items
+        → LivedTo L.tells (seen L.Disk v) (stores D.PageDevice V.Vault) start armed left0 told0 reader left (K.told sink.new) result }
     ensures later { K.faults sink.old ≤ K.faults sink.new }
     ensures cause { (source : ℕ) → LivedCause L.Disk (L.own disk) source source (K.faults sink.old) (K.faults sink.new) result }
 {

@@ -27,7 +27,7 @@ const ROOM: u32 = 16_384;
 /// A fuse refuses far fewer calls.
 const MOST: u64 = 1 << 62;
 
-/// Carries a command out. The data device has no image but those that it had.
+/// Carries a command out on the log disk and the data device, which has no image but those that it had.
 pub fn step<L: Disk, D: PageDevice>(
     alloc: Global,
     disk: L,
@@ -60,8 +60,8 @@ pub fn step<L: Disk, D: PageDevice>(
             },
         },
         Command::Damage { page } => damage(alloc, disk, pages, *page),
-        Command::Fuse { device, calls } => fuse(alloc, disk, pages, *device, *calls, line),
-        Command::Renew { device } => renew(alloc, disk, pages, *device, line),
+        Command::Fuse { device, calls } => fuse(alloc, disk, pages, *device, *calls),
+        Command::Renew { device } => renew(alloc, disk, pages, *device),
         _ => Stepped::Ends {
             status: Status::Script { line },
             disk,
@@ -209,26 +209,19 @@ fn damage<L: Disk, D: PageDevice>(
     }
 }
 
-/// Arms a device's fuse.
+/// Arms a device's fuse. The vault's is left to the caller, who has the vault.
 fn fuse<L: Disk, D: PageDevice>(
     alloc: Global,
     disk: L,
     pages: &mut D,
     device: Device,
     calls: u64,
-    line: u64,
 ) -> Stepped<L, Opened<L>>
-    ensures turns { (v : View L.tells) (s : Stage) → Out L.tells (seen L.Disk v) disk s → Steps L.tells (seen L.Disk v) (Begun L.tells (seen L.Disk v)) s (commands.Fuse device calls) line result }
+    ensures turns { (v : View L.tells) (s : Stage) (line : ℕ) → Out L.tells (seen L.Disk v) disk s → Steps L.tells (seen L.Disk v) (Begun L.tells (seen L.Disk v)) s (commands.Fuse device calls) line result }
     ensures images { D.tells → NoOther D.told pages.old pages.new }
     ensures cause { SteppedCause L.Disk (λ b. b.log.log.device) disk result }
 {
     let mut disk = disk;
-    if device == Device::Vault {
-        return Stepped::Ends {
-            status: Status::NotBuilt { line },
-            disk,
-        };
-    }
     match transcript::fuse_line(alloc, device, calls) {
         Ok(lines) => {
             arm(&mut disk, pages, device, Some(calls));
@@ -244,25 +237,18 @@ fn fuse<L: Disk, D: PageDevice>(
     }
 }
 
-/// Renews a device's fuse.
+/// Renews a device's fuse; the vault's is left to the caller.
 fn renew<L: Disk, D: PageDevice>(
     alloc: Global,
     disk: L,
     pages: &mut D,
     device: Device,
-    line: u64,
 ) -> Stepped<L, Opened<L>>
-    ensures turns { (v : View L.tells) (s : Stage) → Out L.tells (seen L.Disk v) disk s → Steps L.tells (seen L.Disk v) (Begun L.tells (seen L.Disk v)) s (commands.Renew device) line result }
+    ensures turns { (v : View L.tells) (s : Stage) (line : ℕ) → Out L.tells (seen L.Disk v) disk s → Steps L.tells (seen L.Disk v) (Begun L.tells (seen L.Disk v)) s (commands.Renew device) line result }
     ensures images { D.tells → NoOther D.told pages.old pages.new }
     ensures cause { SteppedCause L.Disk (λ b. b.log.log.device) disk result }
 {
     let mut disk = disk;
-    if device == Device::Vault {
-        return Stepped::Ends {
-            status: Status::NotBuilt { line },
-            disk,
-        };
-    }
     match transcript::renew_line(alloc, device) {
         Ok(lines) => {
             arm(&mut disk, pages, device, None);
@@ -278,7 +264,7 @@ fn renew<L: Disk, D: PageDevice>(
     }
 }
 
-/// Arms the fuse of the log disk, or else of the data device, or renews it.
+/// Arms the fuse of the log disk or of the data device, or renews it.
 fn arm<L: Disk, D: PageDevice>(disk: &mut L, pages: &mut D, device: Device, n: Option<u64>)
     ensures fused { (armed : Fuses) → IsFused L.Disk disk.old armed.log → IsFused L.Disk disk.new (with_fuse device (is_some n) armed).log }
     ensures told { L.tells → L.told disk.new ≡ L.told disk.old }
@@ -288,6 +274,7 @@ fn arm<L: Disk, D: PageDevice>(disk: &mut L, pages: &mut D, device: Device, n: O
 {
     match device {
         Device::Log => disk.fuse(n),
-        _ => pages.fuse(n),
+        Device::Data => pages.fuse(n),
+        Device::Vault => {}
     }
 }

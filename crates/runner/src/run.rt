@@ -90,10 +90,11 @@ pub fn run_words<S: Source, K: Sink, L: Disk, D: PageDevice, V: Vault, R: Wait>(
         &mut input,
         source,
         sink,
-        vault,
+        Fuse::new(vault),
         Fuse::new(pages),
         Fuse::new(log),
     );
+    let vault = vault.into_inner();
     let now = vault.faults();
     (
         blamed(status, before, now),
@@ -143,11 +144,13 @@ fn run<S: Source, K: Sink, V: Vault, L: Disk, D: PageDevice, R: Wait>(
     ensures shows { Shows L.Disk result.1 result.0 }
     ensures called { (result.0 ≢ statuses.Usage) × (result.0 ≢ statuses.NoGenerator) }
 {
-    let (mut disk, mut pages, mut vault) = (disk, pages, vault);
+    let (mut disk, mut pages, mut vault, mut armed) = (disk, pages, vault, false);
     for _ in 0..u64::MAX {
-        match turn_outside(alloc, input, source, sink, &mut vault, &mut pages, disk) {
+        match turn_outside(
+            alloc, input, source, sink, &mut vault, &mut armed, &mut pages, disk,
+        ) {
             Turned::Goes { at } => match run_from(
-                rt, alloc, operators, input, source, sink, vault, pages, at,
+                rt, alloc, operators, input, source, sink, vault, &mut armed, pages, at,
             ) {
                 Lived::Over {
                     disk: left,

@@ -5,8 +5,9 @@ ghost use Rattle.life_commands.specs.LogDisk.{View, IsWhole, seen};
 ghost use Rattle.life_commands.specs.Turns.{Stage};
 ghost use Rattle.life_commands.specs.Living.{Adds, Out, Safe};
 ghost use Rattle.script.specs.declared.command.Command.TheVariants as commands;
+ghost use Rattle.runner.specs.Vault.{IsCycled};
 
-use media::Disk;
+use media::{Disk, Vault};
 use std::alloc::Global;
 
 /// The machine stops, and the disk's fuse is renewed: the line that says so, and the disk. Without memory for the line the
@@ -33,4 +34,12 @@ pub fn cycled<L: Disk>(disk: L, keep: u64) -> L
     disk.power_cycle(keep);
     disk.fuse(None);
     disk
+}
+
+/// The vault stops with the machine, and its fuse is renewed.
+pub fn cycle_vault<V: Vault>(vault: &mut V)
+    ensures { IsCycled V.Vault vault.old vault.new }
+{
+    vault.power_cycle();
+    vault.fuse(None);
 }

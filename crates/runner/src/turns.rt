@@ -1,5 +1,5 @@
 //! One line of a run.
-ghost use Rattle.std.specs.Prelude.{◌≤◌, ℕ, List, Option, IfErr};
+ghost use Rattle.std.specs.Prelude.{◌≡◌, ◌≤◌, ℕ, List, Option, IfErr};
 ghost use Rattle.line_reader.specs.Lines.{IsBounded};
 ghost use Rattle.life_commands.specs.LogDisk.{View, IsWhole, seen};
 ghost use Rattle.life_commands.specs.Stores.{stores};
@@ -9,19 +9,20 @@ ghost use Rattle.wal_record.specs.declared.record.Record.{Record};
 ghost use Rattle.runner.specs.Clause.{Between, PassedTo, TakesCommand, TurnedTo};
 ghost use Rattle.runner.specs.Devices.{AreDevicesOf, Stored};
 ghost use Rattle.runner.specs.Machine.{Begun};
-ghost use Rattle.runner.specs.Vault.{Cycles};
+ghost use Rattle.runner.specs.Vault.{Arms, Cycles, WithVault, armed_after, armed_by};
 ghost use Rattle.runner.specs.Causes.{LineCause, PassedCause, TurnedCause};
 ghost use Rattle.own_life.specs.Pages.{IsIdle};
 
 use crate::at::{At, Stepped, disk_opened};
 use crate::opened::Opened;
 use crate::outside;
+use crate::stop::cycle_vault;
 use life_commands::Status;
 use line_reader::{Input, Next, NotRead, is_built};
 use media::{Disk, PageDevice, Sink, Source, Vault, write_all};
 use own_life::{OwnLife, StorePages};
 use page_ops::Life;
-use script::{Command, command_of};
+use script::{Command, Device, command_of};
 use std::alloc::Global;
 use std::sync::Wait;
 
@@ -42,19 +43,20 @@ pub enum Passed {
     Ends { status: Status },
 }
 
-/// One line where no life is open. The end of the input ends the run.
+/// One line where no life is open. The end of the input ends the run. Whether the vault's fuse is armed is kept by the caller.
 pub fn turn_outside<S: Source, K: Sink, V: Vault, L: Disk, D: PageDevice>(
     alloc: Global,
     input: &mut Input,
     source: &mut S,
     sink: &mut K,
     vault: &mut V,
+    armed: &mut bool,
     pages: &mut D,
     disk: L,
 ) -> Turned<L, Opened<L>>
     ensures turns { (v : View L.tells) (start : Start) (left told : Option (List ℕ)) (turns : List Turn)
-        → Between (IsWhole v) start (Stored (IsWhole v) (stores D.PageDevice V.Vault) (pages.old, vault.old) (Out L.tells (seen L.Disk v) disk)) left told input.old turns (S.left source.old) (K.told sink.old)
-        → TurnedTo L.tells (seen L.Disk v) (stores D.PageDevice V.Vault) start (Begun L.tells (seen L.Disk v)) (pages.new, vault.new) left told input.new turns (S.left source.new) (K.told sink.new) result }
+        → Between (IsWhole v) start (WithVault armed.old (Stored (IsWhole v) (stores D.PageDevice V.Vault) (pages.old, vault.old) (Out L.tells (seen L.Disk v) disk))) left told input.old turns (S.left source.old) (K.told sink.old)
+        → TurnedTo L.tells (seen L.Disk v) (stores D.PageDevice V.Vault) start (Begun L.tells (seen L.Disk v)) (pages.new, vault.new) armed.new left told input.new turns (S.left source.new) (K.told sink.new) result }
     ensures later { (S.faults source.old ≤ S.faults source.new) × (K.faults sink.old ≤ K.faults sink.new) }
     ensures cause { TurnedCause L.Disk (λ b. b.log.log.device) disk (S.faults source.old) (S.faults source.new) (K.faults sink.old) (K.faults sink.new) result }
 {
@@ -69,6 +71,7 @@ pub fn turn_outside<S: Source, K: Sink, V: Vault, L: Disk, D: PageDevice>(
     match outside::step(alloc, disk, pages, &command, line) {
         Stepped::Goes { lines, at } => {
             cycle(vault, &command);
+            *armed = armed_after(&command, *armed);
             match write_all(sink, &lines) {
                 Ok(()) => Turned::Goes { at },
                 Err(_) => Turned::Ends {
@@ -82,7 +85,7 @@ pub fn turn_outside<S: Source, K: Sink, V: Vault, L: Disk, D: PageDevice>(
 }
 
 /// One line within a life. The end of the input ends the run. A stop, and the end of a life that was closed, are left to the
-/// caller, who has the life.
+/// caller, who has the life, and keeps whether the vault's fuse is armed.
 pub fn turn_inside<'a, N: Life, S: Source, K: Sink, V: Vault, L: Disk, D: PageDevice, R: Wait>(
     rt: &R,
     alloc: Global,
@@ -91,13 +94,14 @@ pub fn turn_inside<'a, N: Life, S: Source, K: Sink, V: Vault, L: Disk, D: PageDe
     sink: &mut K,
     life: &mut OwnLife<'a, L, N>,
     pages: &mut StorePages<'a, D, V, N>,
+    armed: &mut bool,
 ) -> Passed
     requires idle { IsIdle pages.old.pool.out pages.old.pool.reserves }
     requires told { (opening : List Record) → N.opens opening → D.tells × V.tells }
     ensures idle { IsIdle pages.new.pool.out pages.new.pool.reserves }
     ensures turns { (v : View L.tells) (start : Start) (left told : Option (List ℕ)) (turns : List Turn)
-        → Between (IsWhole v) start (Within (seen L.Disk v) N.opens life.old) left told input.old turns (S.left source.old) (K.told sink.old)
-        → PassedTo L.tells (seen L.Disk v) (stores D.PageDevice V.Vault) start (Within (seen L.Disk v) N.opens life.new) (AreDevicesOf L.Disk D.PageDevice V.Vault N.opens life.new)
+        → Between (IsWhole v) start (WithVault armed.old (Within (seen L.Disk v) N.opens life.old)) left told input.old turns (S.left source.old) (K.told sink.old)
+        → PassedTo L.tells (seen L.Disk v) (stores D.PageDevice V.Vault) start armed.new (Within (seen L.Disk v) N.opens life.new) (AreDevicesOf L.Disk D.PageDevice V.Vault N.opens life.new)
         left told input.new turns (S.left source.new) (K.told sink.new) result }
     ensures later { (S.faults source.old ≤ S.faults source.new) × (K.faults sink.old ≤ K.faults sink.new) }
     ensures cause { PassedCause life.old.calls life.new.calls (S.faults source.old) (S.faults source.new) (K.faults sink.old) (K.faults sink.new) result }
@@ -120,25 +124,62 @@ pub fn turn_inside<'a, N: Life, S: Source, K: Sink, V: Vault, L: Disk, D: PageDe
             Ok(lines) => Passed::Closes { lines },
             Err(status) => Passed::Ends { status },
         },
-        _ => match life_commands::step(rt, alloc, life, pages, &command, line) {
-            Ok(lines) => match write_all(sink, &lines) {
-                Ok(()) => Passed::Goes,
-                Err(_) => Passed::Ends {
-                    status: Status::SinkFault,
-                },
-            },
+        _ => match life_commands::step(rt, alloc, life, pages, *armed, &command, line) {
+            Ok(lines) => {
+                *armed = armed_after(&command, *armed);
+                match write_all(sink, &lines) {
+                    Ok(()) => Passed::Goes,
+                    Err(_) => Passed::Ends {
+                        status: Status::SinkFault,
+                    },
+                }
+            }
             Err(status) => Passed::Ends { status },
         },
     }
 }
 
-/// A stop is one of the vault too.
+/// A stop is one of the vault too, and renews its fuse. Where no life is open its fuse is armed and renewed here.
 fn cycle<V: Vault>(vault: &mut V, command: &Command)
     ensures { Cycles V.Vault command.now vault.old vault.new }
 {
     match command {
-        Command::Stop { keep: _ } => vault.power_cycle(),
+        Command::Stop { keep: _ } => cycle_vault(vault),
+        Command::Fuse { device, calls } => arm(vault, *device, Some(*calls)),
+        Command::Renew { device } => arm(vault, *device, None),
         _ => {}
+    }
+}
+
+/// Arms the vault's fuse, or renews it, where the device is the vault.
+fn arm<V: Vault>(vault: &mut V, device: Device, n: Option<u64>)
+    ensures { Arms V.Vault device n vault.old vault.new }
+{
+    match device {
+        Device::Vault => vault.fuse(n),
+        _ => {}
+    }
+}
+
+/// Whether the vault's fuse is armed behind a command that is done, by whether it was before.
+fn armed_after(command: &Command, armed: bool) -> bool
+    ensures { result ≡ armed_after command.now armed }
+{
+    match command {
+        Command::Stop { keep: _ } => false,
+        Command::Fuse { device, calls: _ } => armed_by(*device, true, armed),
+        Command::Renew { device } => armed_by(*device, false, armed),
+        _ => armed,
+    }
+}
+
+/// What is set is the vault's fuse, or that of another device.
+fn armed_by(device: Device, set: bool, armed: bool) -> bool
+    ensures { result ≡ armed_by device set armed }
+{
+    match device {
+        Device::Vault => set,
+        _ => armed,
     }
 }
 

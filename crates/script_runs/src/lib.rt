@@ -7,4 +7,4 @@
 
 mod runs;
 
-pub use runs::{Case, Ran, is_done, run, run_on, try_cases, try_script};
+pub use runs::{Case, Ran, is_done, run, run_on, run_over, try_cases, try_script};

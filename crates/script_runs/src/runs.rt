@@ -34,12 +34,25 @@ pub fn run_on<R: Wait>(
     writes: u64,
     log: MemDisk,
 ) -> Result<Ran, Fail> {
+    run_over(rt, alloc, script, reads, writes, log, MemVault::new(alloc))
+}
+
+/// The same over this vault.
+pub fn run_over<R: Wait>(
+    rt: &R,
+    alloc: Global,
+    script: &str,
+    reads: u64,
+    writes: u64,
+    log: MemDisk,
+    vault: MemVault,
+) -> Result<Ran, Fail> {
     let mut source = MemSource::failing(script.as_bytes().to_vec(alloc)?, vec![in alloc; reads]?);
     let mut sink = MemSink::failing(alloc, vec![in alloc; writes]?);
     let devices = Devices {
         log,
         pages: MemPages::new(alloc),
-        vault: MemVault::new(alloc),
+        vault,
     };
     let operators = boxed_operators!(alloc);
     let (status, devices) = run_words(rt, alloc, &[], &mut source, &mut sink, devices, &operators);

@@ -8,5 +8,5 @@ pub returns-in_err-upkeep_ended-in-Some-clause-err : goal.returns-in_err-upkeep_
 returns-in_err-upkeep_ended-in-Some-clause-err g c = by_memory c.from_residual.result _ c.from_residual.ensures.1 (λ line. lacks_memory g.L.Disk g.N.Life.opens c.args.life.now c.args.life.now refl (commands.Help c.args.steps) line)
 
 pub returns-in_ok-upkeep_ended-in-Some-clause-ok : goal.returns-in_ok-upkeep_ended-in-Some-clause-ok
-returns-in_ok-upkeep_ended-in-Some-clause-ok g c = ended_before g.L.Disk g.N.Life.opens c.args.life.now (commands.Help c.args.steps) c.in-Some.at c.in_ok-upkeep_ended-in-Some.field-0.items (sym c.in-Some.ensures.end)
-    (may_look g.L.Disk g.N.Life.opens c.args.life.now) tt tt c.in_ok-upkeep_ended-in-Some.ensures
+returns-in_ok-upkeep_ended-in-Some-clause-ok g c = λ v s same h. ended_before g.L.Disk g.N.Life.opens c.args.life.now (commands.Help c.args.steps) c.in-Some.at c.in_ok-upkeep_ended-in-Some.field-0.items (sym c.in-Some.ensures.end)
+    (may_look g.L.Disk g.N.Life.opens c.args.life.now) tt tt c.in_ok-upkeep_ended-in-Some.ensures v s h

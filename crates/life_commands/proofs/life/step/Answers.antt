@@ -1,18 +1,18 @@
 use Rattle.std.proofs.Common.{refl, sym, subst, arith}
 use Rattle.script.specs.declared.command.Command.{Command}
 use Rattle.life_commands.specs.Causes.{LifeCause}
-use Rattle.life_commands.specs.Promises.{Did, Refused}
+use Rattle.life_commands.specs.Promises.{DidArmed, Refused}
 use Rattle.life_commands.specs.declared.status.Status.{Status}
 use Rattle.life_commands.proofs.Ends.{bad_line, damages, in_life, lacks_memory, nothing, other_lawful}
 use Rattle.life_commands.proofs.Faults.{if_err, if_ok}
 use Rattle.life_commands.proofs.life.step.Goals as goal
 
 pub returns-in-Nothing-clause-ok : goal.returns-in-Nothing-clause-ok
-returns-in-Nothing-clause-ok g c = subst (λ (z : Command). Did g.L.Disk g.N.Life.opens c.args.life.now c.args.life.now z c.new.result.items) (sym c.in-Nothing.is) (nothing g.L.Disk g.N.Life.opens c.args.life.now c.new.result.items c.new.ensures.items)
+returns-in-Nothing-clause-ok g c = subst (λ (z : Command). DidArmed g.L.Disk g.N.Life.opens c.args.armed c.args.life.now c.args.life.now z c.new.result.items) (sym c.in-Nothing.is) (λ v s same h. nothing g.L.Disk g.N.Life.opens c.args.life.now c.new.result.items c.new.ensures.items v s h)
 
 pub returns-in-Damage-clause-ok : goal.returns-in-Damage-clause-ok
-returns-in-Damage-clause-ok g c = if_ok c.damage.result _ _ (λ lines text. subst (λ (z : Command). Did g.L.Disk g.N.Life.opens c.args.life.now c.args.life.now z lines.items) (sym c.in-Damage.is)
-    (damages g.L.Disk g.N.Life.opens c.args.life.now c.in-Damage.page lines.items text)) c.damage.ensures.line
+returns-in-Damage-clause-ok g c = if_ok c.damage.result _ _ (λ lines text. subst (λ (z : Command). DidArmed g.L.Disk g.N.Life.opens c.args.armed c.args.life.now c.args.life.now z lines.items) (sym c.in-Damage.is)
+    (λ v s same h. damages g.L.Disk g.N.Life.opens c.args.life.now c.in-Damage.page lines.items text v s h)) c.damage.ensures.line
 
 pub returns-in-Damage-clause-err : goal.returns-in-Damage-clause-err
 returns-in-Damage-clause-err g c = if_err c.damage.result _ _ (λ status memory. subst (λ (z : Status). Refused g.L.Disk g.N.Life.opens c.args.life.now c.args.life.now c.args.command.now c.args.line z) (sym memory)

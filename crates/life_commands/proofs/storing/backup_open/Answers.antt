@@ -1,8 +1,8 @@
-use Rattle.std.proofs.Common.{refl, rules, ap, subst, ◌∙◌}
+use Rattle.std.proofs.Common.{refl, rules, inl, inr, ap, subst, ◌∙◌}
 use Rattle.store_model.specs.declared.fault.Fault.{Fault}
 use Rattle.own_life.specs.State.{FailsOver}
 use Rattle.script.specs.declared.command.Command.TheVariants as commands
-use Rattle.life_commands.proofs.Ends.{backs_up_line, backup_cut, ends_run, fails_line, lacks_memory}
+use Rattle.life_commands.proofs.Ends.{backs_up_line, backup_cut, ends_run, fails_line, lacks_line, lacks_memory, vault_line}
 use Rattle.life_commands.proofs.Faults.{by_memory, if_err, if_ok, more_refused}
 use Rattle.life_commands.proofs.storing.backup_open.Goals as goal
 
@@ -18,24 +18,40 @@ returns-in_err-failed-clause-err g c = by_memory c.from_residual-in_err-failed.r
 pub returns-in-Ok-clause-ok : goal.returns-in-Ok-clause-ok
 returns-in-Ok-clause-ok g c =
     let k = c.in-Ok.ensures.backs_up in
-    backs_up_line g.L.Disk g.N.Life.opens c.args.life.now c.backup-made.new.self c.requires.goes c.in-Ok.ensures.names c.look.ensures.right c.in-Ok.field-0 k.0 (λ opening may. (k.1 opening may).0) c.in-Ok.ensures.goes c.in_ok-done.done.items c.in_ok-done.ensures
+    λ v s same h. backs_up_line g.L.Disk g.N.Life.opens c.args.life.now c.backup-made.new.self c.requires.goes c.in-Ok.ensures.names c.look.ensures.right c.in-Ok.field-0 k.0 (λ opening may. (k.1 opening may).0) c.in-Ok.ensures.goes c.in_ok-done.done.items c.in_ok-done.ensures v s h
 
 pub returns-in-Err-clause-ok : goal.returns-in-Err-clause-ok
 returns-in-Err-clause-ok g c =
     let x = c.args.life.now in
     let y = c.backup-made.new.self in
-    let k = c.in-Err.ensures.backs_up in
-    let cut = backup_cut g.L.Disk g.N.Life.opens x y c.requires.goes c.in-Err.ensures.names c.look.ensures.right k.0 k.1 in
-    let more = more_refused x.calls.refused y.calls.refused c.refused-before.result c.refused.result c.refused-before.ensures c.refused.ensures (search rules) in
-    if_ok c.fail.result _ _ (λ out k. fails_line g.L.Disk g.N.Life.opens x y c.in-Err.ensures.names c.look.ensures.right commands.Backup tt refl cut tt
-    (subst (λ (f : Fault). FailsOver g.N.Life.opens c.args.pages.now.pool.supply.bases.faults c.backup-made.new.pages.pool.supply.bases.faults x y f) k.0 c.in-Err.ensures.refused) (more k.2) out.items
-    (ap (λ z. z.items) k.1 ∙ c.in_ok-failed.ensures)) c.fail.ensures.ok
+    let cut = backup_cut g.L.Disk g.N.Life.opens x y c.requires.goes c.in-Err.ensures.names c.look.ensures.right c.in-Err.ensures.backs_up.0 c.in-Err.ensures.backs_up.1 in
+    let is = c.is_refused.ensures.0 c.if-is_refused.true in
+    vault_line g.L.Disk g.N.Life.opens x y c.in-Err.ensures.names c.look.ensures.right commands.Backup (inr refl) cut _ _ c.in-Err.fault is.0 c.in-Err.ensures.refused c.args.armed is.1
+    c.in_ok-upkeep_failed-in-Err.field-0.items c.in_ok-upkeep_failed-in-Err.ensures
 
-pub returns-in-Err-clause-err : goal.returns-in-Err-clause-err
-returns-in-Err-clause-err g c =
+pub returns-in_err-upkeep_failed-in-Err-clause-err : goal.returns-in_err-upkeep_failed-in-Err-clause-err
+returns-in_err-upkeep_failed-in-Err-clause-err g c =
+    let x = c.args.life.now in
+    let y = c.backup-made.new.self in
+    let cut = backup_cut g.L.Disk g.N.Life.opens x y c.requires.goes c.in-Err.ensures.names c.look.ensures.right c.in-Err.ensures.backs_up.0 c.in-Err.ensures.backs_up.1 in
+    by_memory c.from_residual-in_err-upkeep_failed-in-Err.result _ c.from_residual-in_err-upkeep_failed-in-Err.ensures.1 (lacks_line g.L.Disk g.N.Life.opens x y c.in-Err.ensures.names c.look.ensures.right commands.Backup tt (inl refl) cut)
+
+pub returns-clause-ok : goal.returns-clause-ok
+returns-clause-ok g c =
     let x = c.args.life.now in
     let y = c.backup-made.new.self in
     let k = c.in-Err.ensures.backs_up in
     let cut = backup_cut g.L.Disk g.N.Life.opens x y c.requires.goes c.in-Err.ensures.names c.look.ensures.right k.0 k.1 in
-    if_err c.fail.result _ _ (λ status k line. ends_run g.L.Disk g.N.Life.opens x y c.in-Err.ensures.names c.look.ensures.right commands.Backup tt refl cut _ _
+    let more = more_refused x.calls.refused y.calls.refused c.refused-before.result c.refused.result c.refused-before.ensures c.refused.ensures (search rules) in
+    if_ok c.fail.result _ _ (λ out k v s _ h. fails_line g.L.Disk g.N.Life.opens x y c.in-Err.ensures.names c.look.ensures.right commands.Backup tt (inl refl) cut tt
+    (subst (λ (f : Fault). FailsOver g.N.Life.opens c.args.pages.now.pool.supply.bases.faults c.backup-made.new.pages.pool.supply.bases.faults x y f) k.0 c.in-Err.ensures.refused) (more k.2) out.items
+    (ap (λ z. z.items) k.1 ∙ c.in_ok-failed.ensures) v s h) c.fail.ensures.ok
+
+pub returns-clause-err : goal.returns-clause-err
+returns-clause-err g c =
+    let x = c.args.life.now in
+    let y = c.backup-made.new.self in
+    let k = c.in-Err.ensures.backs_up in
+    let cut = backup_cut g.L.Disk g.N.Life.opens x y c.requires.goes c.in-Err.ensures.names c.look.ensures.right k.0 k.1 in
+    if_err c.fail.result _ _ (λ status k line. ends_run g.L.Disk g.N.Life.opens x y c.in-Err.ensures.names c.look.ensures.right commands.Backup tt (inl refl) cut _ _
     c.refused-before.result c.refused.result c.in-Err.fault c.in-Err.ensures.refused status k line) c.fail.ensures.err

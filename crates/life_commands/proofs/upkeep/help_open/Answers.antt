@@ -1,8 +1,8 @@
-use Rattle.std.proofs.Common.{refl, rules, ap, subst, ◌∙◌}
+use Rattle.std.proofs.Common.{refl, rules, inl, inr, ap, subst, ◌∙◌}
 use Rattle.store_model.specs.declared.fault.Fault.{Fault}
 use Rattle.own_life.specs.State.{FailsOver}
 use Rattle.script.specs.declared.command.Command.TheVariants as commands
-use Rattle.life_commands.proofs.Ends.{ends_run, fails_line, help_cut, helps_line, lacks_memory}
+use Rattle.life_commands.proofs.Ends.{ends_run, fails_line, help_cut, helps_line, lacks_line, lacks_memory, vault_line}
 use Rattle.life_commands.proofs.Faults.{by_memory, if_err, if_ok, more_refused}
 use Rattle.life_commands.proofs.upkeep.help_open.Goals as goal
 
@@ -16,22 +16,38 @@ pub returns-in_err-failed-clause-err : goal.returns-in_err-failed-clause-err
 returns-in_err-failed-clause-err g c = by_memory c.from_residual-in_err-failed.result _ c.from_residual-in_err-failed.ensures.1 (λ line. lacks_memory g.L.Disk g.N.Life.opens c.args.life.now c.args.life.now refl (commands.Help c.args.steps) line)
 
 pub returns-in-Ok-clause-ok : goal.returns-in-Ok-clause-ok
-returns-in-Ok-clause-ok g c = helps_line g.L.Disk g.N.Life.opens c.args.life.now c.help-helped.new.self c.requires.goes c.in-Ok.ensures.names c.args.steps c.in-Ok.ensures.helps c.in-Ok.field-0 c.look.ensures.right c.in-Ok.ensures.losers c.in-Ok.ensures.goes c.in_ok-done.done.items c.in_ok-done.ensures
+returns-in-Ok-clause-ok g c = λ v s same h. helps_line g.L.Disk g.N.Life.opens c.args.life.now c.help-helped.new.self c.requires.goes c.in-Ok.ensures.names c.args.steps c.in-Ok.ensures.helps c.in-Ok.field-0 c.look.ensures.right c.in-Ok.ensures.losers c.in-Ok.ensures.goes c.in_ok-done.done.items c.in_ok-done.ensures v s h
 
 pub returns-in-Err-clause-ok : goal.returns-in-Err-clause-ok
 returns-in-Err-clause-ok g c =
     let x = c.args.life.now in
     let y = c.help-helped.new.self in
     let cut = help_cut g.L.Disk g.N.Life.opens x y c.requires.goes c.in-Err.ensures.names c.args.steps c.in-Err.ensures.helps in
-    let more = more_refused x.calls.refused y.calls.refused c.refused-before.result c.refused.result c.refused-before.ensures c.refused.ensures (search rules) in
-    if_ok c.fail.result _ _ (λ out k. fails_line g.L.Disk g.N.Life.opens x y c.in-Err.ensures.names c.look.ensures.right (commands.Help c.args.steps) tt refl cut tt
-    (subst (λ (f : Fault). FailsOver g.N.Life.opens c.args.pages.now.pool.supply.bases.faults c.help-helped.new.pages.pool.supply.bases.faults x y f) k.0 c.in-Err.ensures.refused) (more k.2) out.items
-    (ap (λ z. z.items) k.1 ∙ c.in_ok-failed.ensures)) c.fail.ensures.ok
+    let is = c.is_refused.ensures.0 c.if-is_refused.true in
+    vault_line g.L.Disk g.N.Life.opens x y c.in-Err.ensures.names c.look.ensures.right (commands.Help c.args.steps) (inr refl) cut _ _ c.in-Err.fault is.0 c.in-Err.ensures.refused c.args.armed is.1
+    c.in_ok-upkeep_failed-in-Err.field-0.items c.in_ok-upkeep_failed-in-Err.ensures
 
-pub returns-in-Err-clause-err : goal.returns-in-Err-clause-err
-returns-in-Err-clause-err g c =
+pub returns-in_err-upkeep_failed-in-Err-clause-err : goal.returns-in_err-upkeep_failed-in-Err-clause-err
+returns-in_err-upkeep_failed-in-Err-clause-err g c =
     let x = c.args.life.now in
     let y = c.help-helped.new.self in
     let cut = help_cut g.L.Disk g.N.Life.opens x y c.requires.goes c.in-Err.ensures.names c.args.steps c.in-Err.ensures.helps in
-    if_err c.fail.result _ _ (λ status k line. ends_run g.L.Disk g.N.Life.opens x y c.in-Err.ensures.names c.look.ensures.right (commands.Help c.args.steps) tt refl cut _ _
+    by_memory c.from_residual-in_err-upkeep_failed-in-Err.result _ c.from_residual-in_err-upkeep_failed-in-Err.ensures.1 (lacks_line g.L.Disk g.N.Life.opens x y c.in-Err.ensures.names c.look.ensures.right (commands.Help c.args.steps) tt (inl refl) cut)
+
+pub returns-clause-ok : goal.returns-clause-ok
+returns-clause-ok g c =
+    let x = c.args.life.now in
+    let y = c.help-helped.new.self in
+    let cut = help_cut g.L.Disk g.N.Life.opens x y c.requires.goes c.in-Err.ensures.names c.args.steps c.in-Err.ensures.helps in
+    let more = more_refused x.calls.refused y.calls.refused c.refused-before.result c.refused.result c.refused-before.ensures c.refused.ensures (search rules) in
+    if_ok c.fail.result _ _ (λ out k v s _ h. fails_line g.L.Disk g.N.Life.opens x y c.in-Err.ensures.names c.look.ensures.right (commands.Help c.args.steps) tt (inl refl) cut tt
+    (subst (λ (f : Fault). FailsOver g.N.Life.opens c.args.pages.now.pool.supply.bases.faults c.help-helped.new.pages.pool.supply.bases.faults x y f) k.0 c.in-Err.ensures.refused) (more k.2) out.items
+    (ap (λ z. z.items) k.1 ∙ c.in_ok-failed.ensures) v s h) c.fail.ensures.ok
+
+pub returns-clause-err : goal.returns-clause-err
+returns-clause-err g c =
+    let x = c.args.life.now in
+    let y = c.help-helped.new.self in
+    let cut = help_cut g.L.Disk g.N.Life.opens x y c.requires.goes c.in-Err.ensures.names c.args.steps c.in-Err.ensures.helps in
+    if_err c.fail.result _ _ (λ status k line. ends_run g.L.Disk g.N.Life.opens x y c.in-Err.ensures.names c.look.ensures.right (commands.Help c.args.steps) tt (inl refl) cut _ _
     c.refused-before.result c.refused.result c.in-Err.fault c.in-Err.ensures.refused status k line) c.fail.ensures.err

@@ -28,14 +28,14 @@ returns-in-Stops-clause-turns g c = λ v start left told turns b.
     let p = c.loop.invariant.turns v start left told turns b in
     let gone = c.into_devices-disk.ensures.left in
     let devices = devices_of g.L.Disk g.D.PageDevice g.V.Vault v g.N.Life.opens c.turn_inside.new.life c.into_devices-disk.result.0 c.into_devices-disk.result.1 c.into_devices-disk.result.2 gone in
-    c.stop_life.ensures.turns v start gone.kept left told c.turn_inside.new.input p.0 _ (told_in g.L.Disk g.D.PageDevice g.V.Vault v c.requires.told p.1.holds) (c.in-Stops.ensures.turns v start left told p.0 p.1 gone.kept c.into_devices-disk.result.0 (c.into_devices-disk.result.1, c.into_devices-disk.result.2) devices)
+    c.stop_life.ensures.turns v start gone.kept left told c.turn_inside.new.input p.0 _ (told_in g.L.Disk g.D.PageDevice g.V.Vault v c.requires.told p.1.holds.here) (c.in-Stops.ensures.turns v start left told p.0 p.1 gone.kept c.into_devices-disk.result.0 (c.into_devices-disk.result.1, c.into_devices-disk.result.2) devices)
 
 pub returns-in-Closes-clause-turns : goal.returns-in-Closes-clause-turns
 returns-in-Closes-clause-turns g c = λ v start left told turns b.
     let p = c.loop.invariant.turns v start left told turns b in
     let gone = c.into_devices-disk-in-Closes.ensures.left in
     let devices = devices_of g.L.Disk g.D.PageDevice g.V.Vault v g.N.Life.opens c.turn_inside.new.life c.into_devices-disk-in-Closes.result.0 c.into_devices-disk-in-Closes.result.1 c.into_devices-disk-in-Closes.result.2 gone in
-    c.end_life.ensures.turns v start left told c.turn_inside.new.input p.0 _ (c.in-Closes.ensures.turns v start left told p.0 p.1 gone.kept c.into_devices-disk-in-Closes.result.0 (c.into_devices-disk-in-Closes.result.1, c.into_devices-disk-in-Closes.result.2) devices)
+    c.end_life.ensures.turns v start c.turn_inside.new.armed left told c.turn_inside.new.input p.0 _ (c.in-Closes.ensures.turns v start left told p.0 p.1 gone.kept c.into_devices-disk-in-Closes.result.0 (c.into_devices-disk-in-Closes.result.1, c.into_devices-disk-in-Closes.result.2) devices)
 
 pub returns-in-Ends-clause-turns : goal.returns-in-Ends-clause-turns
 returns-in-Ends-clause-turns g c = λ v start left told turns b.
@@ -48,7 +48,7 @@ returns-clause-turns g c = λ v start left told turns b.
     let p = c.loop.invariant.turns v start left told turns b in
     let gone = c.into_devices-disk-2.ensures.left in
     ends_here g.L.Disk.tells (seen g.L.Disk v) (stores g.D.PageDevice g.V.Vault) gone.kept c.into_devices-disk-2.result.0 (c.into_devices-disk-2.result.1, c.into_devices-disk-2.result.2) p.1
-    (rests_in g.L.Disk g.D.PageDevice g.V.Vault v c.requires.told p.1.holds gone.kept c.into_devices-disk-2.result.0 (c.into_devices-disk-2.result.1, c.into_devices-disk-2.result.2) (devices_of g.L.Disk g.D.PageDevice g.V.Vault v g.N.Life.opens c.loop.life c.into_devices-disk-2.result.0 c.into_devices-disk-2.result.1 c.into_devices-disk-2.result.2 gone))
+    (rests_in g.L.Disk g.D.PageDevice g.V.Vault v c.requires.told p.1.holds.here gone.kept c.into_devices-disk-2.result.0 (c.into_devices-disk-2.result.1, c.into_devices-disk-2.result.2) (devices_of g.L.Disk g.D.PageDevice g.V.Vault v g.N.Life.opens c.loop.life c.into_devices-disk-2.result.0 c.into_devices-disk-2.result.1 c.into_devices-disk-2.result.2 gone))
 
 pub returns-in-Stops-clause-cause : goal.returns-in-Stops-clause-cause
 returns-in-Stops-clause-cause g c =

@@ -6,6 +6,7 @@ use Rattle.life_commands.specs.Living.{Within}
 use Rattle.life_commands.specs.Stores.{stores}
 use Rattle.life_commands.specs.Turns.{stage}
 use Rattle.runner.specs.Clause.{HandsBack, Headline}
+use Rattle.runner.specs.Vault.{WithVault}
 use Rattle.runner.proofs.Stores.{are_earlier, are_named}
 use Rattle.runner.proofs.Insides.{within_begun}
 use Rattle.runner.proofs.Places.{rests_begun}
@@ -27,7 +28,10 @@ run_life-requires-clause-told g c = λ opening may. ((c.requires.opens opening).
 pub returns-in-Ok-clause-turns : goal.returns-in-Ok-clause-turns
 returns-in-Ok-clause-turns g c = λ v start left told turns b.
     c.run_life.ensures.turns v start left told turns
-    (between_as (Within (seen g.L.Disk v) g.N.Life.opens c.in-Ok.life) (within_begun g.L.Disk g.D.PageDevice g.V.Vault v g.N.Life.opens c.args.opened (c.args.pages, c.args.vault) c.into_log-log.result.log c.in-Ok.life (stage start turns) (λ opening begins. (c.requires.opens opening).1 begins) c.into_log-log.ensures.is.0 c.in-Ok.ensures.begins b.holds) b)
+    (between_as (WithVault c.args.armed.now (Within (seen g.L.Disk v) g.N.Life.opens c.in-Ok.life)) (record {
+      here = within_begun g.L.Disk g.D.PageDevice g.V.Vault v g.N.Life.opens c.args.opened (c.args.pages, c.args.vault) c.into_log-log.result.log c.in-Ok.life (stage start turns) (λ opening begins. (c.requires.opens opening).1 begins) c.into_log-log.ensures.is.0 c.in-Ok.ensures.begins b.holds.here;
+      vault = b.holds.vault;
+    }) b)
 
 pub returns-in-Err-clause-turns : goal.returns-in-Err-clause-turns
 returns-in-Err-clause-turns g c = λ v start left told turns b.
@@ -39,4 +43,4 @@ returns-in-Err-clause-turns g c = λ v start left told turns b.
     let vault = ap (λ r. r.vault) refused in
     subst (λ (d : g.row.L.Denot). ended d c.in-Err.refused.device c.in-Err.refused.vault) (sym log) (subst (λ (e : g.row.D.Denot). ended c.args.opened.log.log.device e c.in-Err.refused.vault) (sym device)
     (subst (λ (f : g.row.V.Denot). ended c.args.opened.log.log.device c.args.pages f) (sym vault)
-    (ends_here g.L.Disk.tells (seen g.L.Disk v) B 0 c.args.opened.log.log.device (c.args.pages, c.args.vault) b (rests_begun g.L.Disk.tells (seen g.L.Disk v) B (c.args.pages, c.args.vault) c.args.opened (stage start turns) b.holds))))
+    (ends_here g.L.Disk.tells (seen g.L.Disk v) B 0 c.args.opened.log.log.device (c.args.pages, c.args.vault) b (rests_begun g.L.Disk.tells (seen g.L.Disk v) B (c.args.pages, c.args.vault) c.args.opened (stage start turns) b.holds.here))))

@@ -1,4 +1,4 @@
-use Rattle.std.proofs.Common.{rules, true}
+use Rattle.std.proofs.Common.{true}
 use Rattle.life_commands.specs.LogDisk.{seen}
 use Rattle.runner.specs.Machine.{Begun}
 use Rattle.runner.proofs.Known.{known_by}
@@ -7,5 +7,5 @@ use Rattle.runner.proofs.Without.{did_fuse, fused_seen}
 use Rattle.runner.proofs.outside.fuse.Goals as goal
 
 pub returns-in-Ok-clause-turns : goal.returns-in-Ok-clause-turns
-returns-in-Ok-clause-turns g c = λ v s h. did_fuse g.L.Disk.tells (seen g.L.Disk v) (Begun g.L.Disk.tells (seen g.L.Disk v)) c.args.disk s h c.arm.new.disk (λ t. c.arm.ensures.told (tells_of v t)) c.arm.ensures.crash (known_by g.L.Disk.tells g.L.Disk c.args.disk c.arm.new.disk c.arm.ensures.told c.arm.ensures.crash) c.args.device (search rules) c.args.calls c.in-Ok.lines.items
+returns-in-Ok-clause-turns g c = λ v s line h. did_fuse g.L.Disk.tells (seen g.L.Disk v) (Begun g.L.Disk.tells (seen g.L.Disk v)) c.args.disk s h c.arm.new.disk (λ t. c.arm.ensures.told (tells_of v t)) c.arm.ensures.crash (known_by g.L.Disk.tells g.L.Disk c.args.disk c.arm.new.disk c.arm.ensures.told c.arm.ensures.crash) c.args.device c.args.calls c.in-Ok.lines.items
     (fused_seen g.L.Disk v c.args.disk c.arm.new.disk c.args.device true s.armed (c.arm.ensures.fused s.armed) h.fused) c.in-Ok.ensures

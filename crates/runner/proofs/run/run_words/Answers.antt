@@ -26,19 +26,19 @@ returns-in-Err-new-clause-headline g c = λ v start keeps known. no_buffer (IsWh
 
 pub returns-clause-headline : goal.returns-clause-headline
 returns-clause-headline g c = λ v start keeps known.
-    let back = HandsBack g.L.Disk.tells (seen g.L.Disk v) (stores g.D.PageDevice g.V.Vault) c.into_inner.result (c.into_inner-2.result, c.run-status.result.3) in
-    let inside = ended_fused g.L.Disk g.D.PageDevice g.V.Vault v c.run-status.result.1 c.run-status.result.2 c.into_inner.result c.into_inner-2.result c.run-status.result.3 c.into_inner.ensures c.into_inner-2.ensures
-    (c.run-status.ensures.headline v start (begun_fused g.L.Disk g.D.PageDevice g.V.Vault v c.new-3.result c.new-2.result c.args.devices.log c.args.devices.pages c.args.devices.vault c.new-3.ensures c.new-2.ensures start keeps known)) in
+    let back = HandsBack g.L.Disk.tells (seen g.L.Disk v) (stores g.D.PageDevice g.V.Vault) c.into_inner.result (c.into_inner-2.result, c.into_inner-vault.result) in
+    let inside = ended_fused g.L.Disk g.D.PageDevice g.V.Vault v c.run-status.result.1 c.run-status.result.2 c.run-status.result.3 c.into_inner.result c.into_inner-2.result c.into_inner-vault.result c.into_inner.ensures c.into_inner-2.ensures c.into_inner-vault.ensures
+    (c.run-status.ensures.headline v start (begun_fused g.L.Disk g.D.PageDevice g.V.Vault v c.new-4.result c.new-3.result c.new-2.result c.args.devices.log c.args.devices.pages c.args.devices.vault c.new-4.ensures c.new-3.ensures c.new-2.ensures start keeps known)) in
     ran_whole (IsWhole v) start _ (g.S.Source.left c.args.source.now) (g.S.Source.left c.run-status.new.source) (g.K.Sink.told c.args.sink.now) (g.K.Sink.told c.run-status.new.sink) c.in-Ok-new.input c.run-status.new.input c.blamed.result c.in-Ok-new.ensures
     (as_blamed (IsWhole v) start back c.faults-before.result c.faults-now.result c.run-status.result.0 c.blamed.result c.blamed.ensures inside)
 
 pub returns-clause-complete : goal.returns-clause-complete
 returns-clause-complete g c = λ call t p o last keeps these source sink own vaulted.
-    let asked = asked_fused g.L.Disk g.D.PageDevice g.V.Vault c.new-3.result c.new-2.result c.args.devices.log c.args.devices.pages c.args.devices.vault c.new-3.ensures c.new-2.ensures c.run-status.ensures.headline t p o last keeps these c.run-status.ensures.called
+    let asked = asked_fused g.L.Disk g.D.PageDevice g.V.Vault c.new-4.result c.new-3.result c.new-2.result c.args.devices.log c.args.devices.pages c.args.devices.vault c.new-4.ensures c.new-3.ensures c.new-2.ensures c.run-status.ensures.headline t p o last keeps these c.run-status.ensures.called
     (λ is. source (c.run-status.ensures.cause.source is))
     (λ is. sink (c.run-status.ensures.cause.sink is))
-    (λ is. own (subst (λ (n : ℕ). Rose (g.L.Disk.faults c.args.devices.log) n) (ap (λ (d : g.row.L.Denot). g.L.Disk.faults d) (sym c.into_inner.ensures)) (subst (λ (f : Fused g.row.L.Denot). Rose (g.L.Disk.faults f.inner) (g.L.Disk.faults c.run-status.result.1.inner)) c.new-3.ensures (c.run-status.ensures.cause.log is)))) in
-    asked_blamed c.faults-before.result c.faults-now.result c.run-status.result.0 c.blamed.result c.blamed.ensures (λ rose. vaulted (told_rose (g.V.Vault.faults c.args.devices.vault) (g.V.Vault.faults c.run-status.result.3) c.faults-before.result c.faults-now.result c.faults-before.ensures c.faults-now.ensures rose)) asked
+    (λ is. own (subst (λ (n : ℕ). Rose (g.L.Disk.faults c.args.devices.log) n) (ap (λ (d : g.row.L.Denot). g.L.Disk.faults d) (sym c.into_inner.ensures)) (subst (λ (f : Fused g.row.L.Denot). Rose (g.L.Disk.faults f.inner) (g.L.Disk.faults c.run-status.result.1.inner)) c.new-4.ensures (c.run-status.ensures.cause.log is)))) in
+    asked_blamed c.faults-before.result c.faults-now.result c.run-status.result.0 c.blamed.result c.blamed.ensures (λ rose. vaulted (told_rose (g.V.Vault.faults c.args.devices.vault) (g.V.Vault.faults c.into_inner-vault.result) c.faults-before.result c.faults-now.result c.faults-before.ensures c.faults-now.ensures rose)) asked
 
 pub returns-clause-untouched : goal.returns-clause-untouched
 returns-clause-untouched g c = λ is. absurd (begun_blamed c.faults-before.result c.faults-now.result c.run-status.result.0 c.blamed.result c.blamed.ensures c.run-status.ensures.called is)
@@ -53,10 +53,10 @@ pub returns-clause-log : goal.returns-clause-log
 returns-clause-log g c = λ e.
     let is = as_status c.faults-before.result c.faults-now.result c.run-status.result.0 c.blamed.result statuses.LogFault c.blamed.ensures e (λ m. absurd cc) in
     subst (λ (n : ℕ). Rose (g.L.Disk.faults c.args.devices.log) n) (ap (λ (d : g.row.L.Denot). g.L.Disk.faults d) (sym c.into_inner.ensures))
-    (subst (λ (f : Fused g.row.L.Denot). Rose (g.L.Disk.faults f.inner) (g.L.Disk.faults c.run-status.result.1.inner)) c.new-3.ensures (c.run-status.ensures.cause.log is))
+    (subst (λ (f : Fused g.row.L.Denot). Rose (g.L.Disk.faults f.inner) (g.L.Disk.faults c.run-status.result.1.inner)) c.new-4.ensures (c.run-status.ensures.cause.log is))
 
 pub returns-clause-vault : goal.returns-clause-vault
-returns-clause-vault g c = λ e. told_rose (g.V.Vault.faults c.args.devices.vault) (g.V.Vault.faults c.run-status.result.3) c.faults-before.result c.faults-now.result c.faults-before.ensures c.faults-now.ensures (blamed_rose c.faults-before.result c.faults-now.result c.run-status.result.0 c.blamed.result c.blamed.ensures e)
+returns-clause-vault g c = λ e. told_rose (g.V.Vault.faults c.args.devices.vault) (g.V.Vault.faults c.into_inner-vault.result) c.faults-before.result c.faults-now.result c.faults-before.ensures c.faults-now.ensures (blamed_rose c.faults-before.result c.faults-now.result c.run-status.result.0 c.blamed.result c.blamed.ensures e)
 
 pub returns-clause-shows : goal.returns-clause-shows
 returns-clause-shows g c = by_blamed (λ (z : Status). Shows g.L.Disk c.into_inner.result z) c.faults-before.result c.faults-now.result c.run-status.result.0 c.blamed.result c.blamed.ensures tt

@@ -1,11 +1,14 @@
-use Rattle.std.proofs.Common.{◌∙◌, ℕ, Option, Ok, sym, subst}
+use Rattle.std.proofs.Common.{◌∙◌, ℕ, Option, Ok, refl, sym, subst}
 use Rattle.script.specs.declared.command.Command.{Command}
+use Rattle.script.specs.declared.command.Command.TheVariants as commands
 use Rattle.life_commands.specs.Turns.{stage}
-use Rattle.life_commands.specs.LogDisk.{seen}
+use Rattle.life_commands.specs.LogDisk.{IsWhole, seen}
 use Rattle.life_commands.specs.Living.{Within}
 use Rattle.life_commands.specs.Stores.{stores}
 use Rattle.life_commands.proofs.Lives.{known_in}
-use Rattle.runner.specs.Clause.{TakesCommand}
+use Rattle.runner.specs.Clause.{AtRest, TakesCommand}
+use Rattle.runner.specs.Vault.{WithVault}
+use Rattle.runner.proofs.Fuses.{adds_armed}
 use Rattle.life_commands.specs.Refusals.{RefusesAt}
 use Rattle.runner.proofs.Insides.{closed_in, cut_inside, rests_in, right_in, still_inside, turned_inside}
 use Rattle.runner.proofs.Runs.{took, no_line, at_end, refused, went, fell, stops, closes, lacks_memory, all_written}
@@ -13,34 +16,34 @@ use Rattle.runner.proofs.turns.turn_inside.Goals as goal
 
 pub returns-in-Err-clause-turns : goal.returns-in-Err-clause-turns
 returns-in-Err-clause-turns g c = λ v start left told turns b kept disk beside d.
-    no_line g.L.Disk.tells (seen g.L.Disk v) (stores g.D.PageDevice g.V.Vault) c.next_command.new.input _ b c.next_command.ensures.most kept disk beside (rests_in g.L.Disk g.D.PageDevice g.V.Vault v c.requires.told b.holds kept disk beside d) c.in-Err.status _ _ c.in-Err.ensures.command c.in-Err.ensures.cause
+    no_line g.L.Disk.tells (seen g.L.Disk v) (stores g.D.PageDevice g.V.Vault) c.next_command.new.input _ b c.next_command.ensures.most kept disk beside (rests_in g.L.Disk g.D.PageDevice g.V.Vault v c.requires.told b.holds.here kept disk beside d) c.in-Err.status _ _ c.in-Err.ensures.command c.in-Err.ensures.cause
 
 pub returns-in-Ok-None-clause-turns : goal.returns-in-Ok-None-clause-turns
 returns-in-Ok-None-clause-turns g c = λ v start left told turns b kept disk beside d.
-    at_end g.L.Disk.tells (seen g.L.Disk v) (stores g.D.PageDevice g.V.Vault) c.next_command.new.input _ b c.next_command.ensures.most kept disk beside (rests_in g.L.Disk g.D.PageDevice g.V.Vault v c.requires.told b.holds kept disk beside d)
+    at_end g.L.Disk.tells (seen g.L.Disk v) (stores g.D.PageDevice g.V.Vault) c.next_command.new.input _ b c.next_command.ensures.most kept disk beside (rests_in g.L.Disk g.D.PageDevice g.V.Vault v c.requires.told b.holds.here kept disk beside d)
     (subst (λ (o : Option (Command × ℕ)). TakesCommand c.args.input.now c.next_command.new.input (g.S.Source.left c.args.source.now) (g.S.Source.left c.next_command.new.source) (Ok o)) c.in-Ok-None.field-0-is c.in-Ok-None.ensures.command)
 
 pub returns-in-Ok-clause-turns : goal.returns-in-Ok-clause-turns
 returns-in-Ok-clause-turns g c = λ v start left told turns b kept disk beside d.
     let t = took c.args.input.now c.next_command.new.input (g.S.Source.left c.args.source.now) (g.S.Source.left c.next_command.new.source) _ c.in-Ok-Some.next c.in-Ok-Some.field-0-is c.in-Ok-Some.ensures.command in
-    stops g.L.Disk.tells (seen g.L.Disk v) (stores g.D.PageDevice g.V.Vault) c.next_command.new.input _ b c.next_command.ensures.most c.in-Ok-Some.next.0 t.line kept disk beside (rests_in g.L.Disk g.D.PageDevice g.V.Vault v c.requires.told b.holds kept disk beside d) c.in-Stop.keep c.in-Ok.lines.items c.in-Stop.is c.in-Ok.ensures
+    stops g.L.Disk.tells (seen g.L.Disk v) (stores g.D.PageDevice g.V.Vault) c.next_command.new.input _ b c.next_command.ensures.most c.in-Ok-Some.next.0 t.line kept disk beside (rests_in g.L.Disk g.D.PageDevice g.V.Vault v c.requires.told b.holds.here kept disk beside d) c.in-Stop.keep c.in-Ok.lines.items c.in-Stop.is c.in-Ok.ensures
 
 pub returns-in-Stop-clause-turns : goal.returns-in-Stop-clause-turns
 returns-in-Stop-clause-turns g c = λ v start left told turns b kept disk beside d.
     let t = took c.args.input.now c.next_command.new.input (g.S.Source.left c.args.source.now) (g.S.Source.left c.next_command.new.source) _ c.in-Ok-Some.next c.in-Ok-Some.field-0-is c.in-Ok-Some.ensures.command in
-    lacks_memory g.L.Disk.tells (seen g.L.Disk v) (stores g.D.PageDevice g.V.Vault) c.next_command.new.input _ b c.next_command.ensures.most c.in-Ok-Some.next.0 t.line kept disk beside (rests_in g.L.Disk g.D.PageDevice g.V.Vault v c.requires.told b.holds kept disk beside d)
+    lacks_memory g.L.Disk.tells (seen g.L.Disk v) (stores g.D.PageDevice g.V.Vault) c.next_command.new.input _ b c.next_command.ensures.most c.in-Ok-Some.next.0 t.line kept disk beside (rests_in g.L.Disk g.D.PageDevice g.V.Vault v c.requires.told b.holds.here kept disk beside d)
 
 pub returns-in-Ok-close-clause-turns : goal.returns-in-Ok-close-clause-turns
 returns-in-Ok-close-clause-turns g c = λ v start left told turns b kept disk beside d.
     let t = took c.args.input.now c.next_command.new.input (g.S.Source.left c.args.source.now) (g.S.Source.left c.next_command.new.source) _ c.in-Ok-Some.next c.in-Ok-Some.field-0-is c.in-Ok-Some.ensures.command in
-    closes g.L.Disk.tells (seen g.L.Disk v) (stores g.D.PageDevice g.V.Vault) c.next_command.new.input _ b c.next_command.ensures.most c.in-Ok-Some.next.0 t.line disk beside c.in-Ok-close.lines.items c.in-Close.is
-    (closed_in g.L.Disk g.D.PageDevice g.V.Vault v c.requires.told b.holds kept disk beside d c.in-Ok-close.lines.items (c.in-Ok-close.ensures.ok v (stage start turns) b.holds kept disk beside d.durable d.log d.stores))
+    closes g.L.Disk.tells (seen g.L.Disk v) (stores g.D.PageDevice g.V.Vault) c.next_command.new.input _ b c.next_command.ensures.most c.in-Ok-Some.next.0 t.line disk beside c.args.armed.now c.in-Ok-close.lines.items c.in-Close.is
+    (adds_armed (IsWhole v) (AtRest g.L.Disk.tells (seen g.L.Disk v) (stores g.D.PageDevice g.V.Vault) disk beside) (stage start turns) commands.Close c.in-Ok-close.lines.items c.args.armed.now c.args.armed.now b.holds.vault refl (closed_in g.L.Disk g.D.PageDevice g.V.Vault v c.requires.told b.holds.here kept disk beside d c.in-Ok-close.lines.items (c.in-Ok-close.ensures.ok v (stage start turns) b.holds.here kept disk beside d.durable d.log d.stores)))
 
 pub returns-in-Close-clause-turns : goal.returns-in-Close-clause-turns
 returns-in-Close-clause-turns g c = λ v start left told turns b kept disk beside d.
     let t = took c.args.input.now c.next_command.new.input (g.S.Source.left c.args.source.now) (g.S.Source.left c.next_command.new.source) _ c.in-Ok-Some.next c.in-Ok-Some.field-0-is c.in-Ok-Some.ensures.command in
     let s = stage start turns in
-    let here = b.holds in
+    let here = b.holds.here in
     refused g.L.Disk.tells (seen g.L.Disk v) (stores g.D.PageDevice g.V.Vault) c.next_command.new.input _ b c.next_command.ensures.most c.in-Ok-Some.next.0 t.line kept disk beside g.N.Life.opens c.close.new.life.history
     (still_inside g.L.Disk g.D.PageDevice g.V.Vault v c.requires.told here kept disk beside d)
     (cut_inside g.L.Disk g.D.PageDevice g.V.Vault v c.requires.told here kept disk beside d c.in-Ok-Some.next.0)
@@ -53,21 +56,22 @@ pub returns-in-Ok-write_all-clause-turns : goal.returns-in-Ok-write_all-clause-t
 returns-in-Ok-write_all-clause-turns g c = λ v start left told turns b.
     let t = took c.args.input.now c.next_command.new.input (g.S.Source.left c.args.source.now) (g.S.Source.left c.next_command.new.source) _ c.in-Ok-Some.next c.in-Ok-Some.field-0-is c.in-Ok-Some.ensures.command in
     let w = c.in-Ok-write_all.ensures.bytes in
-    went g.L.Disk.tells (seen g.L.Disk v) (stores g.D.PageDevice g.V.Vault) c.next_command.new.input _ b c.next_command.ensures.most c.in-Ok-Some.next.0 t.line (Within (seen g.L.Disk v) g.N.Life.opens c.step.new.life) c.in-Ok-step.lines.items
-    (c.in-Ok-step.ensures.ok v (stage start turns) b.holds) _ (all_written _ _ c.in-Ok-step.lines.items w.0 w.1 (sym c.deref.ensures.value ∙ w.2) w.4 w.3)
+    went g.L.Disk.tells (seen g.L.Disk v) (stores g.D.PageDevice g.V.Vault) c.next_command.new.input _ b c.next_command.ensures.most c.in-Ok-Some.next.0 t.line (WithVault c.armed_after.result (Within (seen g.L.Disk v) g.N.Life.opens c.step.new.life)) c.in-Ok-step.lines.items
+    (adds_armed (IsWhole v) (Within (seen g.L.Disk v) g.N.Life.opens c.step.new.life) (stage start turns) c.in-Ok-Some.next.0 c.in-Ok-step.lines.items c.args.armed.now c.armed_after.result b.holds.vault c.armed_after.ensures
+    (c.in-Ok-step.ensures.ok v (stage start turns) b.holds.vault b.holds.here)) _ (all_written _ _ c.in-Ok-step.lines.items w.0 w.1 (sym c.deref.ensures.value ∙ w.2) w.4 w.3)
 
 pub returns-in-Ok-step-clause-turns : goal.returns-in-Ok-step-clause-turns
 returns-in-Ok-step-clause-turns g c = λ v start left told turns b kept disk beside d.
     let t = took c.args.input.now c.next_command.new.input (g.S.Source.left c.args.source.now) (g.S.Source.left c.next_command.new.source) _ c.in-Ok-Some.next c.in-Ok-Some.field-0-is c.in-Ok-Some.ensures.command in
     let w = c.in-Err-write_all.ensures.bytes in
     fell g.L.Disk.tells (seen g.L.Disk v) (stores g.D.PageDevice g.V.Vault) c.next_command.new.input _ b c.next_command.ensures.most c.in-Ok-Some.next.0 t.line kept disk beside (Within (seen g.L.Disk v) g.N.Life.opens c.step.new.life) (λ s h. rests_in g.L.Disk g.D.PageDevice g.V.Vault v c.requires.told h kept disk beside d) c.in-Ok-step.lines.items w.0 w.1
-    (c.in-Ok-step.ensures.ok v (stage start turns) b.holds) (sym c.deref.ensures.value ∙ w.2) _ w.3
+    (c.in-Ok-step.ensures.ok v (stage start turns) b.holds.vault b.holds.here) (sym c.deref.ensures.value ∙ w.2) _ w.3
 
 pub returns-clause-turns : goal.returns-clause-turns
 returns-clause-turns g c = λ v start left told turns b kept disk beside d.
     let t = took c.args.input.now c.next_command.new.input (g.S.Source.left c.args.source.now) (g.S.Source.left c.next_command.new.source) _ c.in-Ok-Some.next c.in-Ok-Some.field-0-is c.in-Ok-Some.ensures.command in
     let s = stage start turns in
-    let here = b.holds in
+    let here = b.holds.here in
     refused g.L.Disk.tells (seen g.L.Disk v) (stores g.D.PageDevice g.V.Vault) c.next_command.new.input _ b c.next_command.ensures.most c.in-Ok-Some.next.0 t.line kept disk beside g.N.Life.opens c.step.new.life.history
     (still_inside g.L.Disk g.D.PageDevice g.V.Vault v c.requires.told here kept disk beside d)
     (cut_inside g.L.Disk g.D.PageDevice g.V.Vault v c.requires.told here kept disk beside d c.in-Ok-Some.next.0)
