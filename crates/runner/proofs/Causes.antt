@@ -5,7 +5,8 @@ use Rattle.media.specs.Cause.{Rose}
 use Rattle.media.specs.declared.disk.Disk.{Ghosts}
 use Rattle.page_ops.specs.Seeing.{Calls}
 use Rattle.journal.specs.State.{calls_of}
-use Rattle.runner.specs.Causes.{IsOfALife, LivedCause, RunCause, Shows}
+use Rattle.store_log.specs.Shows.{Shows}
+use Rattle.runner.specs.Causes.{IsOfALife, LivedCause, RunCause}
 use Rattle.runner.specs.declared.living.Lived.{Lived}
 use Rattle.runner.specs.declared.living.Lived.TheVariants as ways
 use Rattle.life_commands.specs.declared.status.Status.{Status}

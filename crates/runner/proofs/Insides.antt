@@ -22,7 +22,8 @@ use Rattle.life_commands.proofs.Images.{stores_left}
 use Rattle.life_commands.proofs.Lives.{disk_seen, has_life, right_more, safe_in}
 use Rattle.runner.specs.Clause.{AtRest}
 use Rattle.runner.specs.Devices.{AreDevicesOf, AreOfAt, Rests, Stored}
-use Rattle.runner.specs.Machine.{Beginning, BeginsOn, Begun, OpensOn}
+use Rattle.store_log.specs.Beginnings.{Beginning, BeginsOn}
+use Rattle.runner.specs.Machine.{Begun, OpensOn}
 use Rattle.runner.proofs.Places.{begun_right}
 use Rattle.runner.proofs.Stages.{cut_open}
 

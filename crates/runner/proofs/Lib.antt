@@ -2,17 +2,12 @@ pub mod Blamed
 pub mod Causes
 pub mod Fused
 pub mod Fuses
-pub mod Gates
 pub mod Stores
 pub mod Insides
-pub mod Known
-pub mod Lists
 pub mod NextCalls
-pub mod Openings
 pub mod Places
 pub mod Rights
 pub mod Runs
 pub mod Stages
 pub mod Turning
-pub mod Whole
 pub mod Without

@@ -3,7 +3,6 @@ use Rattle.std.proofs.Common.{◌≡◌, ℕ, true, List, [], Option, refl, sym,
 use Rattle.std.specs.List.{All, list_any}
 use Rattle.media.specs.Kept.{Kept}
 use Rattle.media.specs.declared.disk.Disk.{Ghosts}
-use Rattle.log_blocks.specs.Log.{first_lsn}
 use Rattle.log_manager.specs.Devices.{DevicesStandFor}
 use Rattle.log_manager.specs.Records.{StandsForRecords}
 use Rattle.wal_record.specs.Left.{IsLeft, acknowledges}
@@ -18,18 +17,13 @@ use Rattle.life_commands.specs.LogDisk.{StandsOn, Keeps}
 use Rattle.life_commands.specs.Stores.{AreOf, Stores}
 use Rattle.life_commands.specs.Living.{Out, Safe}
 use Rattle.runner.specs.Devices.{AreOfAt, Rests, Stored}
-use Rattle.runner.specs.Machine.{Beginning, Begun, IsAt}
+use Rattle.store_log.specs.Beginnings.{Beginning}
+use Rattle.runner.specs.Machine.{Begun, IsAt}
 use Rattle.life_commands.specs.Turns.{Life, Stage, LeftBy, IsLeftBy, IsRightLife, lives_of, last_after, bytes_after}
 use Rattle.life_commands.proofs.Lives.{keeps_only, right_more}
 use Rattle.runner.specs.Causes.{disk_at}
 use Rattle.runner.proofs.Stores.{begun_of}
 use Rattle.runner.proofs.Rights.{right_life}
-use Rattle.runner.proofs.Whole.{hold_whole}
-
--- ---- what the kept bytes stand for
-
-pub stands_on : (log : List Record) (k : Kept) → IsSound log → (s : StandsForRecords 0 log k) → first_lsn s.bs ≡ 1 → StandsOn log k
-stands_on log k sound s one = record { sound = sound; bs = s.bs; stands = s.stands; records = hold_whole log s.bs s.records one }
 
 module _ {D : Type 0} (L : Ghosts D) where
   pub safe_out : (T : Type 0) (kept : ℕ) (disk : D) (s : Stage) → Out T L disk s → Safe T L kept disk s

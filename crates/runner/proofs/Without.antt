@@ -21,19 +21,21 @@ use Rattle.runner.specs.declared.at.Stepped.TheVariants as steps
 use Rattle.life_commands.specs.declared.status.Status.{Status}
 use Rattle.life_commands.specs.declared.status.Status.TheVariants as statuses
 use Rattle.life_commands.specs.Bytes.{Known, MayMake, MayOpen, StaysKnown, Allows}
-use Rattle.runner.specs.Causes.{LogCause, SteppedCause, Shows, disk_at}
+use Rattle.store_log.specs.Shows.{Shows}
+use Rattle.runner.specs.Causes.{LogCause, SteppedCause, disk_at}
 use Rattle.life_commands.specs.LogDisk.{View, Whole, Form, IsWhole, seen, Keeps}
 use Rattle.life_commands.specs.Living.{Adds, IsFused, Out, Safe}
-use Rattle.runner.specs.Machine.{Begun, BeginsOn, IsAt, Steps, Refuses, Beginning, no_opening}
+use Rattle.store_log.specs.Beginnings.{BeginsOn, Beginning}
+use Rattle.runner.specs.Machine.{Begun, IsAt, Steps, Refuses, no_opening}
 use Rattle.runner.specs.Clause.{AtRest}
-use Rattle.runner.specs.Openings.{Makes, IsMade, IsNotMade, IsBegun, IsNotBegun}
+use Rattle.store_log.specs.Openings.{Makes, IsMade, IsNotMade, IsBegun, IsNotBegun}
 use Rattle.life_commands.specs.Refusals.{HasLife, LeftAs, RefusesAt}
 use Rattle.life_commands.specs.Stores.{AreOf, Stores}
 use Rattle.life_commands.specs.Rows.{FitsAt, IsEnd, IsCutOff, no_life, is_lawful}
 use Rattle.life_commands.specs.Turns.{Fuses, Life, Stage, Turn, stage_step, turn, last_turn, with_fuse, Last, Unformatted, Stopped, Done, LogFault, Opening, room_of, last_after, bytes_after}
 use Rattle.life_commands.proofs.Entered.{enters_own}
 use Rattle.runner.proofs.Stores.{fewer_of, stopped_of}
-use Rattle.runner.proofs.Known.{known_none}
+use Rattle.store_log.proofs.Known.{known_none}
 use Rattle.runner.proofs.Places.{safe_out}
 use Rattle.life_commands.proofs.Lives.{keeps_same, keeps_only}
 

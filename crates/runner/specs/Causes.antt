@@ -1,6 +1,5 @@
 -- Why a run ends: which statuses a part of the run may give, and that a device's fault has its cause.
 use Rattle.std.specs.Prelude.{◌≡◌, ◌≢◌, ◌≤◌, ◌⊎◌, ℕ, []}
-use Rattle.log_blocks.specs.Log.{StandsFor}
 use Rattle.media.specs.Cause.{Rose}
 use Rattle.media.specs.declared.disk.Disk.{Ghosts}
 use Rattle.page_ops.specs.Seeing.{Calls}
@@ -14,10 +13,9 @@ use Rattle.runner.specs.declared.turns.Passed.{Passed}
 use Rattle.runner.specs.declared.turns.Passed.TheVariants as passes
 use Rattle.runner.specs.declared.living.Lived.{Lived}
 use Rattle.runner.specs.declared.living.Lived.TheVariants as ways
+use Rattle.store_log.specs.Shows.{Shows}
 use Rattle.life_commands.specs.declared.status.Status.{Status}
 use Rattle.life_commands.specs.declared.status.Status.TheVariants as statuses
-use Rattle.life_commands.specs.Bytes.{IsFormatted}
-use Rattle.opening.specs.Bytes.{IsBadLog}
 
 -- a fault of the log disk comes only where that disk's own count rose, and no stream's fault comes, and nothing that the words decide
 abbrev pub LogCause : ℕ → ℕ → Status → Type 0
@@ -51,14 +49,6 @@ pub record RunCause (source0 source1 sink0 sink1 log0 log1 : ℕ) (status : Stat
   pub source : status ≡ statuses.SourceFault → Rose source0 source1
   pub sink : status ≡ statuses.SinkFault → Rose sink0 sink1
   pub log : status ≡ statuses.LogFault → Rose log0 log1
-
--- Whatever the disk held: a log is refused as formatted only where an open gate stands on its disk with something behind
--- it, as not formatted only where the log is empty, and as bad only at its first fault.
-abbrev pub Shows : {D : Type 0} → Ghosts D → D → Status → Type 0
-Shows L disk statuses.AlreadyFormatted = L.tells → IsFormatted (L.told disk)
-Shows L disk statuses.NotFormatted = L.tells → StandsFor [] (L.told disk)
-Shows L disk (statuses.LogBad block byte) = L.tells → IsBadLog block byte (L.told disk)
-Shows L disk _ = Unit {0}
 
 -- the log disk of a place
 abbrev pub disk_at : {D F : Type 0} → (F → D) → At D F → D

@@ -1,6 +1,5 @@
 pub mod Cuts
 pub mod Machine
-pub mod Openings
 pub mod Causes
 pub mod Vault
 pub mod Usage

@@ -2,13 +2,10 @@
 use Rattle.std.specs.Prelude.{◌≡◌, ◌<◌, ◌≤◌, ℕ, List, [], Some, None, false}
 use Rattle.std.specs.List.{All}
 use Rattle.media.specs.declared.disk.Disk.{Ghosts}
-use Rattle.log_index.specs.declared.listing.Listing.{Listing}
-use Rattle.log_manager.specs.Devices.{DevicesStandFor}
-use Rattle.log_manager.specs.Managed.{Managed}
 use Rattle.wal_record.specs.declared.record.Record.{Record}
-use Rattle.opening.specs.Begins.{MayBegin}
 use Rattle.command_laws.specs.Names.{Active}
 use Rattle.script.specs.declared.command.Command.{Command}
+use Rattle.store_log.specs.Beginnings.{Beginning, BeginsOn}
 use Rattle.runner.specs.declared.at.At.{At}
 use Rattle.runner.specs.declared.at.At.TheVariants.{Outside, Inside}
 use Rattle.runner.specs.declared.at.Stepped.{Stepped}
@@ -23,17 +20,7 @@ use Rattle.life_commands.specs.Turns.{Stage, bytes_after, IsRightLife}
 
 -- ---- in a life
 
--- a log that was read, on which a life may begin
-pub record Beginning (D : Type 0) : Type 0 where
-  pub log : Managed D
-  pub listing : Listing
-
--- a life may begin with this log, which its disk kept
-pub record BeginsOn {D : Type 0} (tells : Type 0) (L : Ghosts D) (b : Beginning D) (opening : List Record) : Type 0 where
-  pub may : MayBegin tells L.told L.may_leave b.log b.listing opening
-  pub stands : DevicesStandFor L.told L.may_leave b.log.log.device opening
-
--- and the devices beside it tell what they hold, which is of this log
+-- a life may begin with this log, and the devices beside its disk tell what they hold, which is of it
 pub record OpensOn {D S : Type 0} (tells : Type 0) (L : Ghosts D) (B : Stores S) (b : Beginning D) (beside : S) (opening : List Record) : Type 0 where
   pub begins : BeginsOn tells L b opening
   pub told : B.tells

@@ -2,9 +2,9 @@
 ghost use Rattle.std.specs.Prelude.{◌≡◌};
 ghost use Rattle.runner.specs.Causes.{disk_at};
 
-use crate::opened::Opened;
 use life_commands::Status;
 use media::Disk;
+use store_log::Opened;
 
 /// Outside of a life, with the log disk, or within one.
 #[derive(Drop)]

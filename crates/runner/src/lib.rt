@@ -46,7 +46,7 @@
 //! it hands back may be handed to the next call (`laws`). It may begin, too, with what is known of the bytes alone
 //! (`specs/Bytes` of `life_commands`): over an open gate with something behind it no `format` is done, and where its bytes are
 //! no block no life opens and no byte changes. A status of an opening or of a format shows what the bytes of a disk are
-//! (`Shows` in `specs/Causes`).
+//! (`Shows` of `store_log`).
 //!
 //! What a disk tells is said twice: of disks that tell, with what they hold, and of all, with the form of the transcript
 //! alone. Each clause is universal over these views (`View` in `specs/LogDisk` of `life_commands`).
@@ -59,8 +59,6 @@
 mod at;
 mod laws;
 mod living;
-mod logs;
-mod opened;
 mod outside;
 mod run;
 mod stop;

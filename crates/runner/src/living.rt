@@ -15,7 +15,6 @@ ghost use Rattle.runner.specs.Vault.{WithVault};
 ghost use Rattle.own_life.specs.Pages.{IsIdle};
 
 use crate::at::At;
-use crate::opened::Opened;
 use crate::stop::{cycle_vault, cycled};
 use crate::turns::{Passed, turn_inside};
 use life_commands::Status;
@@ -27,6 +26,7 @@ use page_ops::{Ground, Life, Tokens, Unnamed};
 use std::alloc::Global;
 use std::marker::Brand;
 use std::sync::Wait;
+use store_log::Opened;
 
 /// How a life ended: by a stop or a close, or with the run. Here are its devices.
 #[derive(Drop)]

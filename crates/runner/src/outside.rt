@@ -12,13 +12,12 @@ ghost use Rattle.runner.specs.Machine.{Begun, Steps, Refuses};
 ghost use Rattle.script.specs.declared.command.Command.TheVariants as commands;
 
 use crate::at::{At, Stepped};
-use crate::logs::{NotOpened, make_log, open};
-use crate::opened::Opened;
 use crate::stop::stop;
 use life_commands::Status;
 use media::{Disk, PageDevice};
 use script::{Command, Device};
 use std::alloc::Global;
+use store_log::{NotOpened, Opened, make_log, open};
 use store_model::PageNo;
 
 /// The room of a store whose `format` names none.

@@ -14,7 +14,6 @@ ghost use Rattle.runner.specs.Causes.{LineCause, PassedCause, TurnedCause};
 ghost use Rattle.own_life.specs.Pages.{IsIdle};
 
 use crate::at::{At, Stepped, disk_opened};
-use crate::opened::Opened;
 use crate::outside;
 use crate::stop::cycle_vault;
 use life_commands::Status;
@@ -25,6 +24,7 @@ use page_ops::Life;
 use script::{Command, Device, command_of};
 use std::alloc::Global;
 use std::sync::Wait;
+use store_log::Opened;
 
 /// What a line did: where the run is then, or how it ended.
 #[derive(Drop)]

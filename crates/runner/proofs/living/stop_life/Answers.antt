@@ -7,7 +7,7 @@ use Rattle.life_commands.proofs.Lives.{tells_of}
 use Rattle.runner.specs.Clause.{AtRest}
 use Rattle.runner.specs.Vault.{WithVault}
 use Rattle.runner.proofs.Fuses.{adds_armed}
-use Rattle.runner.proofs.Known.{known_behind}
+use Rattle.store_log.proofs.Known.{known_behind}
 use Rattle.runner.proofs.Places.{rests_out}
 use Rattle.runner.proofs.Stores.{stores_after}
 use Rattle.runner.proofs.Without.{did_rest}

@@ -1,8 +1,9 @@
 use Rattle.std.proofs.Common.{sym, ap, subst, ◌∙◌, arith, ℕ}
 use Rattle.wal_record.specs.Rules.{is_limit}
 use Rattle.life_commands.specs.LogDisk.{Form, seen}
-use Rattle.runner.specs.Machine.{Beginning, Begun}
-use Rattle.runner.specs.Openings.{Makes, IsMade, IsNotMade}
+use Rattle.store_log.specs.Beginnings.{Beginning}
+use Rattle.runner.specs.Machine.{Begun}
+use Rattle.store_log.specs.Openings.{Makes, IsMade, IsNotMade}
 use Rattle.runner.proofs.Without.{did_format, format_refused, made_kind, refused_cause}
 use Rattle.runner.proofs.outside.format.Goals as goal
 

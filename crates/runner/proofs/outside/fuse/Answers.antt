@@ -1,7 +1,7 @@
 use Rattle.std.proofs.Common.{true}
 use Rattle.life_commands.specs.LogDisk.{seen}
 use Rattle.runner.specs.Machine.{Begun}
-use Rattle.runner.proofs.Known.{known_by}
+use Rattle.store_log.proofs.Known.{known_by}
 use Rattle.life_commands.proofs.Lives.{tells_of}
 use Rattle.runner.proofs.Without.{did_fuse, fused_seen}
 use Rattle.runner.proofs.outside.fuse.Goals as goal

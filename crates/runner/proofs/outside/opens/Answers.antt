@@ -5,7 +5,8 @@ use Rattle.life_commands.specs.LogDisk.{Form, seen}
 use Rattle.life_commands.specs.Refusals.{RefusesAt}
 use Rattle.life_commands.specs.Turns.{bytes_after}
 use Rattle.life_commands.specs.declared.status.Status.TheVariants as statuses
-use Rattle.runner.specs.Machine.{Beginning, Begun, no_opening}
+use Rattle.store_log.specs.Beginnings.{Beginning}
+use Rattle.runner.specs.Machine.{Begun, no_opening}
 use Rattle.runner.proofs.Without.{did_open, opened_leaves, open_kind, open_refused, refused_cause}
 use Rattle.runner.proofs.outside.opens.Goals as goal
 

@@ -1,7 +1,7 @@
 use Rattle.std.proofs.Common.{false}
 use Rattle.life_commands.specs.LogDisk.{seen}
 use Rattle.runner.specs.Machine.{Begun}
-use Rattle.runner.proofs.Known.{known_by}
+use Rattle.store_log.proofs.Known.{known_by}
 use Rattle.life_commands.proofs.Lives.{tells_of}
 use Rattle.runner.proofs.Without.{did_renew, fused_seen}
 use Rattle.runner.proofs.outside.renew.Goals as goal

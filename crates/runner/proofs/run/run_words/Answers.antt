@@ -5,7 +5,7 @@ use Rattle.life_commands.specs.LogDisk.{IsWhole, seen}
 use Rattle.life_commands.specs.declared.status.Status.{Status}
 use Rattle.life_commands.specs.declared.status.Status.TheVariants as statuses
 use Rattle.life_commands.specs.Stores.{stores}
-use Rattle.runner.specs.Causes.{Shows}
+use Rattle.store_log.specs.Shows.{Shows}
 use Rattle.runner.specs.Clause.{HandsBack}
 use Rattle.runner.proofs.Fused.{asked_fused, begun_fused, ended_fused, handed_back}
 use Rattle.runner.proofs.Blamed.{as_blamed, as_status, asked_blamed, begun_blamed, blamed_rose, by_blamed, told_rose}

@@ -1,5 +1,5 @@
 use Rattle.life_commands.specs.LogDisk.{seen}
-use Rattle.runner.proofs.Known.{known_behind}
+use Rattle.store_log.proofs.Known.{known_behind}
 use Rattle.life_commands.proofs.Lives.{tells_of}
 use Rattle.runner.proofs.Without.{did_stop}
 use Rattle.runner.proofs.stop.stop.Goals as goal

@@ -10,7 +10,8 @@ use Rattle.runner.specs.Clause.{HandsBack, Headline, TakesCommand}
 use Rattle.runner.specs.Devices.{Stored}
 use Rattle.runner.specs.Vault.{WithVault}
 use Rattle.runner.proofs.Fuses.{adds_armed}
-use Rattle.runner.specs.Machine.{Beginning, Begun, IsAt, no_opening}
+use Rattle.store_log.specs.Beginnings.{Beginning}
+use Rattle.runner.specs.Machine.{Begun, IsAt, no_opening}
 use Rattle.runner.proofs.Stores.{adds_stores, cut_outside, first_stores, no_more, still_stores, stores_after}
 use Rattle.runner.proofs.Places.{rests_at, rests_out, safe_out}
 use Rattle.runner.proofs.Runs.{took, no_line, at_end, refused, went, fell, all_written}

@@ -28,17 +28,17 @@ use Rattle.life_laws.proofs.Leaving.{has_room}
 use Rattle.life_laws.proofs.Start.{calm_start}
 use Rattle.life_commands.specs.Bytes.{Allows, MayMake}
 use Rattle.life_commands.specs.LogDisk.{StandsOn, Keeps, HoldsOne, lsn_from}
-use Rattle.runner.specs.Causes.{Shows}
-use Rattle.runner.specs.Machine.{Beginning}
-use Rattle.runner.specs.Openings.{CanRefuseOpening, IsMade, IsFirst, IsNotMade, IsNotBegunAt, IsBegun, IsFault, MadeStatus, ReadStatus}
+use Rattle.store_log.specs.Shows.{Shows}
+use Rattle.store_log.specs.Beginnings.{Beginning}
+use Rattle.store_log.specs.Openings.{CanRefuseOpening, IsMade, IsFirst, IsNotMade, IsNotBegunAt, IsBegun, IsFault, MadeStatus, ReadStatus}
 use Rattle.life_commands.specs.Turns.{Last, Unformatted, MayFind, MayBeLeft}
 use Rattle.life_commands.specs.declared.status.Status.{Status}
 use Rattle.life_commands.specs.declared.status.Status.TheVariants as statuses
-use Rattle.runner.proofs.Gates.{NeverBad, OneLog, bad_formatted, log_formatted}
-use Rattle.runner.proofs.Known.{allows_make}
-use Rattle.runner.proofs.Lists.{first_kept_is, next_is}
+use Rattle.store_log.proofs.Gates.{NeverBad, OneLog, bad_formatted, log_formatted}
+use Rattle.store_log.proofs.Known.{allows_make}
+use Rattle.store_log.proofs.Lists.{first_kept_is, next_is}
 use Rattle.life_commands.proofs.Lives.{left_too, keeps_map, keeps_same, keeps_only}
-use Rattle.runner.proofs.Places.{stands_on}
+use Rattle.store_log.proofs.Whole.{stands_on}
 
 -- ---- which log is found
 

@@ -4,7 +4,7 @@ use Rattle.std.specs.Prelude.{zero, Some}
 use Rattle.std.specs.List.{All}
 use Rattle.std.proofs.lemmas.List.Elements.{All-nil, All-cons}
 use Rattle.log_blocks.specs.Log.{Block, first_lsn}
-use Rattle.log_manager.specs.Records.{AreRecordsOf}
+use Rattle.log_manager.specs.Records.{AreRecordsOf, StandsForRecords}
 use Rattle.wal_record.specs.Chains.{record_with}
 use Rattle.wal_record.specs.OpenWrites.{open_writes, open_list}
 use Rattle.wal_record.specs.declared.record.OpenWrite.{OpenWrite}
@@ -12,6 +12,9 @@ use Rattle.wal_record.specs.declared.record.Record.{Record}
 use Rattle.log_laws.specs.Places.{AllPlaced}
 use Rattle.log_laws.proofs.Places.{places}
 use Rattle.log_manager.specs.Devices.{IsEnough, HoldEnd}
+use Rattle.media.specs.Kept.{Kept}
+use Rattle.wal_record.specs.Sound.{IsSound}
+use Rattle.life_commands.specs.LogDisk.{StandsOn}
 
 has_lsn : (log : List Record) (n : ℕ) (r : Record) → record_with log n ≡ Some r → 1 ≤ n
 has_lsn log zero r e = absurd cc
@@ -30,5 +33,10 @@ enough_whole log = record {
   runs = omega arith;
 }
 
-pub hold_whole : (log : List Record) (bs : List Block) → AreRecordsOf 0 bs log → first_lsn bs ≡ 1 → HoldEnd log bs
+hold_whole : (log : List Record) (bs : List Block) → AreRecordsOf 0 bs log → first_lsn bs ≡ 1 → HoldEnd log bs
 hold_whole log bs a one = record { dropped = []; kept = log; is = refl; records = a; first = one; enough = subst (IsEnough log) (sym one) (enough_whole log) }
+
+-- ---- what the kept bytes stand for
+
+pub stands_on : (log : List Record) (k : Kept) → IsSound log → (s : StandsForRecords 0 log k) → first_lsn s.bs ≡ 1 → StandsOn log k
+stands_on log k sound s one = record { sound = sound; bs = s.bs; stands = s.stands; records = hold_whole log s.bs s.records one }

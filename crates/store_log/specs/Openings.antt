@@ -12,7 +12,7 @@ use Rattle.wal_record.specs.declared.record.Record.{Record}
 use Rattle.life_commands.specs.declared.status.Status.{Status}
 use Rattle.life_commands.specs.declared.status.Status.TheVariants as statuses
 use Rattle.life_commands.specs.LogDisk.{Keeps}
-use Rattle.runner.specs.Machine.{Beginning, BeginsOn}
+use Rattle.store_log.specs.Beginnings.{Beginning, BeginsOn}
 use Rattle.life_commands.specs.Refusals.{FindsLog}
 use Rattle.life_commands.specs.Turns.{Last, Formatted, Unformatted, MayFind}
 

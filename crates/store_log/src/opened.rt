@@ -15,7 +15,7 @@ impl<L: Disk> Model for Opened<L> {
     ghost use Rattle.std.specs.Coded.{codes};
     ghost use Rattle.std.specs.Prelude.{◌≡◌, None};
     ghost use Rattle.log_index.specs.contracts.listing.Listing as listings;
-    ghost use Rattle.runner.specs.Machine.{Beginning};
+    ghost use Rattle.store_log.specs.Beginnings.{Beginning};
 
     ghost Value = { Beginning L };
 

@@ -2,11 +2,11 @@ use Rattle.std.proofs.Common.{refl, sym, ap, subst, ◌∙◌}
 use Rattle.life_commands.specs.Bytes.{StaysKnown}
 use Rattle.life_commands.specs.LogDisk.{View, Keeps, seen}
 use Rattle.life_commands.proofs.Lives.{tells_of}
-use Rattle.runner.specs.Machine.{Beginning}
-use Rattle.runner.specs.Openings.{Makes, IsBegun}
-use Rattle.runner.proofs.Known.{allows_open, known_read, known_same}
-use Rattle.runner.proofs.Openings.{is_begun, read_keeps, read_kind, read_shows, why_not}
-use Rattle.runner.proofs.logs.open.Goals as goal
+use Rattle.store_log.specs.Beginnings.{Beginning}
+use Rattle.store_log.specs.Openings.{Makes, IsBegun}
+use Rattle.store_log.proofs.Known.{allows_open, known_read, known_same}
+use Rattle.store_log.proofs.Openings.{is_begun, read_keeps, read_kind, read_shows, why_not}
+use Rattle.store_log.proofs.logs.open.Goals as goal
 
 pub returns-in-Ok-count_found-clause-begun : goal.returns-in-Ok-count_found-clause-begun
 returns-in-Ok-count_found-clause-begun g c = subst (λ (b : Beginning g.row.L.Denot). (v : View g.L.Disk.tells) → Makes (seen g.L.Disk v) c.args.disk (IsBegun g.L.Disk.tells (seen g.L.Disk v) b)) (sym c.new.ensures)

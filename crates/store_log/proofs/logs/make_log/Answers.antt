@@ -3,11 +3,11 @@ use Rattle.life_commands.specs.Bytes.{StaysKnown}
 use Rattle.life_commands.specs.LogDisk.{seen}
 use Rattle.life_commands.specs.declared.status.Status.TheVariants as statuses
 use Rattle.life_commands.proofs.Lives.{crashed, tells_of}
-use Rattle.runner.specs.Causes.{Shows}
-use Rattle.runner.specs.Openings.{Makes, IsMade, IsNotMade}
-use Rattle.runner.proofs.Known.{known_by, known_unless}
-use Rattle.runner.proofs.Openings.{made_refused, already_made, allows_format, format_made, format_cut}
-use Rattle.runner.proofs.logs.make_log.Goals as goal
+use Rattle.store_log.specs.Shows.{Shows}
+use Rattle.store_log.specs.Openings.{Makes, IsMade, IsNotMade}
+use Rattle.store_log.proofs.Known.{known_by, known_unless}
+use Rattle.store_log.proofs.Openings.{made_refused, already_made, allows_format, format_made, format_cut}
+use Rattle.store_log.proofs.logs.make_log.Goals as goal
 
 pub returns-in-Err-clause-not : goal.returns-in-Err-clause-not
 returns-in-Err-clause-not g c = λ v.

@@ -3,8 +3,8 @@ use Rattle.log_manager.specs.Managed.{HasMore}
 use Rattle.log_manager.specs.Payload.{bytes_of}
 use Rattle.log_manager.specs.Records.{IsLogOf}
 use Rattle.wal_record.specs.declared.record.Record.{Record}
-use Rattle.runner.proofs.Openings.{first_flushed, format_size}
-use Rattle.runner.proofs.logs.enter_format.Goals as goal
+use Rattle.store_log.proofs.Openings.{first_flushed, format_size}
+use Rattle.store_log.proofs.logs.enter_format.Goals as goal
 
 pub append_group-requires-clause-size : goal.append_group-requires-clause-size
 append_group-requires-clause-size g c = subst (λ (rs : List Record). length (bytes_of rs) ≤ 4194304) (sym c.from_ref.ensures.value) (format_size (record { limit = c.args.limit }))

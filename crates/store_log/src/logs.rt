@@ -7,10 +7,10 @@ ghost use Rattle.wal_record.specs.OpenWrites.{losers};
 ghost use Rattle.wal_record.specs.Rules.{is_limit};
 ghost use Rattle.wal_record.specs.declared.record.Record.{Record};
 ghost use Rattle.life_commands.specs.Bytes.{MayMake, MayOpen, StaysKnown, Allows};
-ghost use Rattle.runner.specs.Causes.{Shows};
+ghost use Rattle.store_log.specs.Shows.{Shows};
 ghost use Rattle.life_commands.specs.LogDisk.{View, seen};
-ghost use Rattle.runner.specs.Machine.{BeginsOn};
-ghost use Rattle.runner.specs.Openings.{Makes, IsMade, IsFirst, IsFault, IsNotMade, IsBegun, IsNotBegun, MadeStatus, ReadStatus};
+ghost use Rattle.store_log.specs.Beginnings.{BeginsOn};
+ghost use Rattle.store_log.specs.Openings.{Makes, IsMade, IsFirst, IsFault, IsNotMade, IsBegun, IsNotBegun, MadeStatus, ReadStatus};
 ghost use Rattle.life_commands.specs.declared.status.Status.TheVariants as statuses;
 
 use crate::opened::Opened;

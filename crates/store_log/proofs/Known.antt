@@ -8,7 +8,7 @@ use Rattle.log_blocks.specs.LogState.{LogState}
 use Rattle.log_blocks.specs.Opening.{IsBadAt}
 use Rattle.life_commands.specs.Bytes.{Bytes, Unknown, Gated, Bad, IsFormatted, IsGated, IsBad, Known, MayMake, MayOpen, StaysKnown, Allows}
 use Rattle.opening.specs.Bytes.{IsRead, StaysSame}
-use Rattle.runner.proofs.Gates.{NeverBad, log_formatted}
+use Rattle.store_log.proofs.Gates.{NeverBad, log_formatted}
 
 -- where nothing is known, no disk breaks it
 pub known_none : {D : Type 0} (tells : Type 0) (L : Ghosts D) (b : Bytes) (disk : D) → MayMake b → Known tells L b disk

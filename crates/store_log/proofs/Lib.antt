@@ -1,0 +1,5 @@
+mod Gates
+pub mod Known
+mod Lists
+mod Openings
+mod Whole
