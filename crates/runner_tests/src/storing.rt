@@ -162,6 +162,9 @@ fn a_vault_that_fails_by_itself_ends_the_run_also_in_an_armed_fuse(
     let script = "format\nopen\nfuse vault 9\nbackup\nstat\n";
     let ran = run_over(&rt, alloc, script, 0, 0, MemDisk::new(alloc), vault)?;
     assert_eq!(rt; ran.status, Status::VaultFault);
-    assert_eq!(rt; ran.printed.as_str(), "format ok\nopen commits=0 losers=0\nfuse vault 9\n");
+    assert_eq!(rt;
+        ran.printed.as_str(),
+        "format ok\nopen commits=0 losers=0\nfuse vault 9\n"
+    );
     Ok(())
 }

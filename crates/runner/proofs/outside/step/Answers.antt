@@ -21,7 +21,7 @@ pub returns-in-Damage-clause-turns : goal.returns-in-Damage-clause-turns
 returns-in-Damage-clause-turns g c = λ v s h. subst (λ (x : Command). Steps g.L.Disk.tells (seen g.L.Disk v) (Begun g.L.Disk.tells (seen g.L.Disk v)) s x c.args.line c.damage.result) (sym c.in-Damage.is) (c.damage.ensures.turns v s c.args.line h)
 
 pub returns-in-Fuse-clause-turns : goal.returns-in-Fuse-clause-turns
-returns-in-Fuse-clause-turns g c = λ v s h. subst (λ (x : Command). Steps g.L.Disk.tells (seen g.L.Disk v) (Begun g.L.Disk.tells (seen g.L.Disk v)) s x c.args.line c.fuse.result) (sym c.in-Fuse.is) (c.fuse.ensures.turns v s c.args.line h)
+returns-in-Fuse-clause-turns g c = λ v s h. subst (λ (x : Command). Steps g.L.Disk.tells (seen g.L.Disk v) (Begun g.L.Disk.tells (seen g.L.Disk v)) s x c.args.line c.fuse-in-Fuse.result) (sym c.in-Fuse.is) (c.fuse-in-Fuse.ensures.turns v s c.args.line h)
 
 pub returns-in-Renew-clause-turns : goal.returns-in-Renew-clause-turns
 returns-in-Renew-clause-turns g c = λ v s h. subst (λ (x : Command). Steps g.L.Disk.tells (seen g.L.Disk v) (Begun g.L.Disk.tells (seen g.L.Disk v)) s x c.args.line c.renew.result) (sym c.in-Renew.is) (c.renew.ensures.turns v s c.args.line h)
