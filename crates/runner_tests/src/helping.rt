@@ -119,8 +119,10 @@ fn try_writes<R: Wait>(
     printed: &str,
 ) -> Result<(), Fail> {
     let mut script = String::from_str(alloc, "format\nopen\nbegin A\nput A x 1\n")?;
-    let mut answered =
-        String::from_str(alloc, "format ok\nopen commits=0 losers=0\nA begin\nA put x was none\n")?;
+    let mut answered = String::from_str(
+        alloc,
+        "format ok\nopen commits=0 losers=0\nA begin\nA put x was none\n",
+    )?;
     for _ in 1..writes {
         script.push_str("put A x 1\n")?;
         answered.push_str("A put x was = 1\n")?;
@@ -137,12 +139,30 @@ fn a_run_is_made_where_a_thousand_records_wait(rt: HostRuntime) -> Result<(), Fa
     // 999 records are too few, and 1,000 are enough.
     let failing = "fuse log 0\nhelp 50\nhelp 1\n";
     try_writes(&rt, alloc, 997, failing, "fuse log 0\nhelp ok\nhelp ok\n")?;
-    try_writes(&rt, alloc, 998, failing, "fuse log 0\nhelp log failed\nhelp ended 1000\n")?;
+    try_writes(
+        &rt,
+        alloc,
+        998,
+        failing,
+        "fuse log 0\nhelp log failed\nhelp ended 1000\n",
+    )?;
     // The page is the first step, and the run the second one. No record waits behind it but those that tell of the two.
     let one = "help 1\nfuse log 0\nhelp 50\n";
-    try_writes(&rt, alloc, 998, one, "help ok\nfuse log 0\nhelp log failed\n")?;
+    try_writes(
+        &rt,
+        alloc,
+        998,
+        one,
+        "help ok\nfuse log 0\nhelp log failed\n",
+    )?;
     let two = "help 2\nfuse log 0\nhelp 50\nrenew log\narchive\n";
-    try_writes(&rt, alloc, 998, two, "help ok\nfuse log 0\nhelp ok\nrenew log\narchive runs=1\n")
+    try_writes(
+        &rt,
+        alloc,
+        998,
+        two,
+        "help ok\nfuse log 0\nhelp ok\nrenew log\narchive runs=1\n",
+    )
 }
 
 /// The data device's fuse is armed, and renewed.

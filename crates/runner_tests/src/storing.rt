@@ -1,8 +1,9 @@
 //! Backups of all pages, and runs of the log, in the vault.
 
-use media_mem::{MemDisk, MemVault};
+use media::Devices;
+use media_mem::{MemDisk, MemPages, MemVault};
 use runner::Status;
-use script_runs::{Case, run_over, try_cases};
+use script_runs::{Case, run_devices, try_cases};
 use std::test::Fail;
 
 /// Backups and runs of a store of one page.
@@ -158,12 +159,16 @@ fn a_vault_that_fails_by_itself_ends_the_run_also_in_an_armed_fuse(
     rt: HostRuntime,
 ) -> Result<(), Fail> {
     let alloc = rt.alloc();
-    let vault = MemVault::failing(alloc, vec![in alloc; 1]?);
+    let devices = Devices {
+        log: MemDisk::new(alloc),
+        pages: MemPages::new(alloc),
+        vault: MemVault::failing(alloc, vec![in alloc; 1]?),
+    };
     let script = "format\nopen\nfuse vault 9\nbackup\nstat\n";
-    let ran = run_over(&rt, alloc, script, 0, 0, MemDisk::new(alloc), vault)?;
-    assert_eq!(rt; ran.status, Status::VaultFault);
+    let left = run_devices(&rt, alloc, script, devices)?;
+    assert_eq!(rt; left.status, Status::VaultFault);
     assert_eq!(rt;
-        ran.printed.as_str(),
+        left.printed.as_str(),
         "format ok\nopen commits=0 losers=0\nfuse vault 9\n"
     );
     Ok(())
