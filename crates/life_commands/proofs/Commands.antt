@@ -537,6 +537,8 @@ module _ {D : Type 0} (L : Ghosts D) (opens : List Record → Type 0) (x : LifeS
       kept_up = k.are.kept_up;
       written = k.are.written;
       pages = k.are.pages;
+      runs = k.are.runs;
+      archived = k.are.archived;
       few = k.are.few;
       is = k.are.is;
     }
