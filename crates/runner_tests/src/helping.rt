@@ -1,4 +1,4 @@
-//! Help: losers undone, pages redone and pages written, step by step; and the fuse of the data device.
+//! Help: losers undone, pages redone and pages written, archive runs made, step by step; and the fuse of the data device.
 
 use script_runs::{Case, try_cases, try_script};
 use std::alloc::Global;
@@ -107,6 +107,65 @@ fn pages_are_redone_and_then_written_the_least_first(rt: HostRuntime) -> Result<
     // A device that fails keeps none, and a page that it didn't take is dropped.
     let failing = "fuse data 0\nhelp 9\n";
     try_pages(&rt, alloc, failing, "fuse data 0\nhelp ok\n", 0)
+}
+
+/// These lines behind a transaction that writes one key so many times, which print this. Its log then has a Format, these writes and
+/// a Commit, up to which it is durable; one page is dirty.
+fn try_writes<R: Wait>(
+    rt: &R,
+    alloc: Global,
+    writes: u32,
+    lines: &str,
+    printed: &str,
+) -> Result<(), Fail> {
+    let mut script = String::from_str(alloc, "format\nopen\nbegin A\nput A x 1\n")?;
+    let mut answered = String::from_str(
+        alloc,
+        "format ok\nopen commits=0 losers=0\nA begin\nA put x was none\n",
+    )?;
+    for _ in 1..writes {
+        script.push_str("put A x 1\n")?;
+        answered.push_str("A put x was = 1\n")?;
+    }
+    let script = format!(in alloc; "{script}commit A\n{lines}")?;
+    let answered = format!(in alloc; "{answered}A commit 1\n{printed}")?;
+    try_script(rt, alloc, &script, &answered)
+}
+
+/// How many writes, lines behind them, and what these print. A help that makes a run calls the log disk; one that finds all durable
+/// and makes none doesn't.
+const RUNS: [(u32, &str, &str); 4] = [
+    // 999 records are too few, and 1,000 are enough.
+    (
+        997,
+        "fuse log 0\nhelp 50\nhelp 1\n",
+        "fuse log 0\nhelp ok\nhelp ok\n",
+    ),
+    (
+        998,
+        "fuse log 0\nhelp 50\nhelp 1\n",
+        "fuse log 0\nhelp log failed\nhelp ended 1000\n",
+    ),
+    // The page is the first step, and the run the second one, behind which only the records of the two wait.
+    (
+        998,
+        "help 1\nfuse log 0\nhelp 50\n",
+        "help ok\nfuse log 0\nhelp log failed\n",
+    ),
+    (
+        998,
+        "help 2\nfuse log 0\nhelp 50\nrenew log\narchive\n",
+        "help ok\nfuse log 0\nhelp ok\nrenew log\narchive runs=1\n",
+    ),
+];
+
+#[test]
+fn a_run_is_made_where_a_thousand_records_wait(rt: HostRuntime) -> Result<(), Fail> {
+    let alloc = rt.alloc();
+    for (writes, lines, printed) in RUNS {
+        try_writes(&rt, alloc, writes, lines, printed)?;
+    }
+    Ok(())
 }
 
 /// The data device's fuse is armed, and renewed.
