@@ -132,37 +132,40 @@ fn try_writes<R: Wait>(
     try_script(rt, alloc, &script, &answered)
 }
 
-/// A help that makes a run calls the log disk, and one that finds all durable and makes none doesn't.
+/// How many writes, lines behind them, and what these print. A help that makes a run calls the log disk; one that finds all durable
+/// and makes none doesn't.
+const RUNS: [(u32, &str, &str); 4] = [
+    // 999 records are too few, and 1,000 are enough.
+    (
+        997,
+        "fuse log 0\nhelp 50\nhelp 1\n",
+        "fuse log 0\nhelp ok\nhelp ok\n",
+    ),
+    (
+        998,
+        "fuse log 0\nhelp 50\nhelp 1\n",
+        "fuse log 0\nhelp log failed\nhelp ended 1000\n",
+    ),
+    // The page is the first step, and the run the second one, behind which only the records of the two wait.
+    (
+        998,
+        "help 1\nfuse log 0\nhelp 50\n",
+        "help ok\nfuse log 0\nhelp log failed\n",
+    ),
+    (
+        998,
+        "help 2\nfuse log 0\nhelp 50\nrenew log\narchive\n",
+        "help ok\nfuse log 0\nhelp ok\nrenew log\narchive runs=1\n",
+    ),
+];
+
 #[test]
 fn a_run_is_made_where_a_thousand_records_wait(rt: HostRuntime) -> Result<(), Fail> {
     let alloc = rt.alloc();
-    // 999 records are too few, and 1,000 are enough.
-    let failing = "fuse log 0\nhelp 50\nhelp 1\n";
-    try_writes(&rt, alloc, 997, failing, "fuse log 0\nhelp ok\nhelp ok\n")?;
-    try_writes(
-        &rt,
-        alloc,
-        998,
-        failing,
-        "fuse log 0\nhelp log failed\nhelp ended 1000\n",
-    )?;
-    // The page is the first step, and the run the second one. No record waits behind it but those that tell of the two.
-    let one = "help 1\nfuse log 0\nhelp 50\n";
-    try_writes(
-        &rt,
-        alloc,
-        998,
-        one,
-        "help ok\nfuse log 0\nhelp log failed\n",
-    )?;
-    let two = "help 2\nfuse log 0\nhelp 50\nrenew log\narchive\n";
-    try_writes(
-        &rt,
-        alloc,
-        998,
-        two,
-        "help ok\nfuse log 0\nhelp ok\nrenew log\narchive runs=1\n",
-    )
+    for (writes, lines, printed) in RUNS {
+        try_writes(&rt, alloc, writes, lines, printed)?;
+    }
+    Ok(())
 }
 
 /// The data device's fuse is armed, and renewed.
