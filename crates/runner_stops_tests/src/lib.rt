@@ -1,7 +1,8 @@
 //! What runs leave whose log disk refuses a call, or whose machine stops.
 //!
 //! The crate has tests alone. A fuse blows at each call of a commit and of a format, and a stop keeps each number of bytes; it
-//! blows at each call of lives with a split, an abort and losers, and of those that undo them. What the next life finds is
+//! blows at each call of lives with a split, an abort and losers, of those that undo them, and of one with a vault, in which the
+//! vault and the data device fail at each of their calls, too. What the next life finds is
 //! written down beside the scripts.
 #![tactic(auto)]
 
@@ -11,3 +12,5 @@ mod commits;
 mod cuts;
 #[cfg(test)]
 mod formats;
+#[cfg(test)]
+mod vaults;

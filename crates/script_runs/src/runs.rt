@@ -25,6 +25,41 @@ pub struct Ran {
     pub log: MemDisk,
 }
 
+/// How a run ended, what it printed, and all devices that it handed back.
+#[derive(Drop)]
+pub struct Left {
+    pub status: Status,
+    pub printed: String,
+    pub devices: Devices<MemDisk, MemPages, MemVault>,
+}
+
+fn run_streams<R: Wait>(
+    rt: &R,
+    alloc: Global,
+    mut source: MemSource,
+    mut sink: MemSink,
+    devices: Devices<MemDisk, MemPages, MemVault>,
+) -> Result<Left, Fail> {
+    let operators = boxed_operators!(alloc);
+    let (status, devices) = run_words(rt, alloc, &[], &mut source, &mut sink, devices, &operators);
+    Ok(Left {
+        status,
+        printed: String::from_str(alloc, str::from_utf8(sink.bytes())?)?,
+        devices,
+    })
+}
+
+/// Runs a script, as it stands, on these devices.
+pub fn run_devices<R: Wait>(
+    rt: &R,
+    alloc: Global,
+    script: &str,
+    devices: Devices<MemDisk, MemPages, MemVault>,
+) -> Result<Left, Fail> {
+    let source = MemSource::new(alloc, script.as_bytes().to_vec(alloc)?);
+    run_streams(rt, alloc, source, MemSink::new(alloc), devices)
+}
+
 /// Runs a script, as it stands, on this log disk, with streams of which the calls with these numbers fail.
 pub fn run_on<R: Wait>(
     rt: &R,
@@ -34,19 +69,18 @@ pub fn run_on<R: Wait>(
     writes: u64,
     log: MemDisk,
 ) -> Result<Ran, Fail> {
-    let mut source = MemSource::failing(script.as_bytes().to_vec(alloc)?, vec![in alloc; reads]?);
-    let mut sink = MemSink::failing(alloc, vec![in alloc; writes]?);
+    let source = MemSource::failing(script.as_bytes().to_vec(alloc)?, vec![in alloc; reads]?);
+    let sink = MemSink::failing(alloc, vec![in alloc; writes]?);
     let devices = Devices {
         log,
         pages: MemPages::new(alloc),
         vault: MemVault::new(alloc),
     };
-    let operators = boxed_operators!(alloc);
-    let (status, devices) = run_words(rt, alloc, &[], &mut source, &mut sink, devices, &operators);
+    let left = run_streams(rt, alloc, source, sink, devices)?;
     Ok(Ran {
-        status,
-        printed: String::from_str(alloc, str::from_utf8(sink.bytes())?)?,
-        log: devices.log,
+        status: left.status,
+        printed: left.printed,
+        log: left.devices.log,
     })
 }
 
