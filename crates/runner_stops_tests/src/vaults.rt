@@ -16,8 +16,7 @@ struct Line(&'static str, &'static str, &'static str, u64);
 /// A transaction that hasn't begun can't ask in an ended life, so all begin first.
 const BEFORE: &str = "format 64\nopen\nbegin A\nbegin B\nbegin C\n";
 
-const BEFORE_PRINTED: &str =
-    "format ok\nopen commits=0 losers=0\nA begin\nB begin\nC begin\n";
+const BEFORE_PRINTED: &str = "format ok\nopen commits=0 losers=0\nA begin\nB begin\nC begin\n";
 
 /// The lines behind these. The log has Format, then two Writes and a Commit, a BackupDone, a Write and a Commit, a RunDone, a
 /// Lost, and a Restored and a Commit.
@@ -209,7 +208,12 @@ fn run_lines<R: Wait>(
         pages: MemPages::failing(alloc, pages.to_vec(alloc)?),
         vault: MemVault::failing(alloc, vault.to_vec(alloc)?),
     };
-    run_devices(rt, alloc, &format!(in alloc; "{BEFORE}{lines}close\n")?, devices)
+    run_devices(
+        rt,
+        alloc,
+        &format!(in alloc; "{BEFORE}{lines}close\n")?,
+        devices,
+    )
 }
 
 /// A backup puts an object and syncs it, and so does an archive; a page whose place in a backup's object is its own is read in two
@@ -220,7 +224,11 @@ fn each_call_of_the_vault_that_fails_ends_the_run_and_no_more(rt: HostRuntime) -
     for (call, line) in [(1, 3), (2, 3), (3, 6), (4, 6), (5, 8), (6, 8)] {
         let first = run_lines(&rt, alloc, true, &[], &[call])?;
         assert_eq!(rt; first.status, Status::VaultFault, "{call}");
-        assert_eq!(rt; first.printed.as_str(), printed(alloc, line, true)?.as_str(), "{call}");
+        assert_eq!(rt;
+            first.printed.as_str(),
+            printed(alloc, line, true)?.as_str(),
+            "{call}"
+        );
         let next = run_devices(&rt, alloc, NEXT, first.devices)?;
         let wanted = printed_next(alloc, commits(line))?;
         assert_eq!(rt; next.status, Status::Done, "{call}");
@@ -242,7 +250,11 @@ fn each_call_of_the_data_device_that_fails_changes_no_answer(rt: HostRuntime) ->
         assert_eq!(rt; left.status, Status::Done, "{call}");
         assert_eq!(rt; left.printed.as_str(), wanted.as_str(), "{call}");
         let next = run_devices(&rt, alloc, NEXT, left.devices)?;
-        assert_eq!(rt; next.printed.as_str(), printed_next(alloc, 3)?.as_str(), "{call}");
+        assert_eq!(rt;
+            next.printed.as_str(),
+            printed_next(alloc, 3)?.as_str(),
+            "{call}"
+        );
         if next.devices.pages.faults() == 0 {
             return Ok(());
         }
