@@ -1,14 +1,12 @@
 //! A life that begins.
-ghost use Rattle.std.specs.Prelude.{◌≡◌, ◌<◌, ◌≤◌, ℕ, List, [], None, length, max, map, IfOk, IfSome};
+ghost use Rattle.std.specs.Prelude.{◌≡◌, ◌<◌, ◌≤◌, ℕ, List, [], None, length, map, IfOk, IfSome};
 ghost use Rattle.journal.specs.State.{calls_of};
 ghost use Rattle.life_history.specs.Kept.{AreKept, Begins, IsSmall};
 ghost use Rattle.log_blocks.specs.LogState.{durable_lsn};
 ghost use Rattle.losers.specs.Losers.{untouched};
-ghost use Rattle.opening_rights.specs.Opened.{AreAtHome};
+ghost use Rattle.opening_rights.specs.Opened.{AreAtHome, places_of};
 ghost use Rattle.page_index.specs.Index.{home_of, limit_of};
 ghost use Rattle.page_ops.specs.Claims.{IsInRange};
-ghost use Rattle.wal_record.specs.Chains.{pages};
-ghost use Rattle.wal_record.specs.Checkpoints as checkpoints;
 ghost use Rattle.wal_record.specs.OpenWrites as writes;
 ghost use Rattle.wal_record.specs.declared.record.Record.{Record};
 ghost use Rattle.opening.specs.Begins.{MayBegin, all_parts};
@@ -64,7 +62,7 @@ pub fn prepare<L: Disk, N: Life>(
     ensures sessions { IfOk result (λ p. p.tokens.books.sessions ≡ []) }
     ensures small { IfOk result (λ p. IsSmall p.next_page (record { pages = p.tokens.books.pages; sessions = p.tokens.books.sessions; maint = p.tokens.books.maint })) }
     // Each page's right is at home, at the page's head.
-    ensures limit { IfOk result (λ p. (opening : List Record) → N.opens opening → limit_of p.index ≡ max (checkpoints.limit_of opening) (pages opening)) }
+    ensures limit { IfOk result (λ p. (opening : List Record) → N.opens opening → limit_of p.index ≡ places_of opening) }
     ensures homes { IfOk result (λ p. (opening : List Record) → N.opens opening → AreAtHome opening p.index) }
     ensures range { IfOk result (λ p. (page : ℕ) → IfSome (home_of p.index page) IsInRange) }
     ensures maint { IfOk result (λ p. p.maint ≡ record { number = 0; lsn = 0 }) }

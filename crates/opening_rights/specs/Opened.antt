@@ -1,11 +1,17 @@
 -- The pages of a log as a life begins.
-use Rattle.std.specs.Prelude.{◌≡◌, ◌≢◌, ℕ, ◌<◌, ◌≤◌, List, Some, None}
+use Rattle.std.specs.Prelude.{◌≡◌, ◌≢◌, ℕ, ◌<◌, ◌≤◌, max, List, Some, None}
 use Rattle.books.specs.Booking.{entry_of}
 use Rattle.books.specs.declared.entry.BookEntry.{BookEntry}
 use Rattle.page_index.specs.Index.{Index, home_of, limit_of, written_of}
+use Rattle.opening_rights.specs.declared.opening.TheConstants.{LEAST_FRAMES}
 use Rattle.wal_record.specs.Chains.{head, pages}
+use Rattle.wal_record.specs.Checkpoints as checkpoints
 use Rattle.wal_record.specs.Upkeep.{written_lsn}
 use Rattle.wal_record.specs.declared.record.Record.{Record}
+
+-- an index has so many places: one for each page that the store may have or has, and at least as many as a pool has frames
+abbrev pub places_of : List Record → ℕ
+places_of log = max (max (checkpoints.limit_of log) (pages log)) LEAST_FRAMES
 
 -- the right to the page is at home, at this head, and its image is written as this LSN; all else is as before
 pub record Homes (old new : Index) (page lsn image : ℕ) : Type 0 where

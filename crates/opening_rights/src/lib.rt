@@ -11,4 +11,4 @@
 
 mod opening;
 
-pub use opening::{Opening, begin};
+pub use opening::{LEAST_FRAMES, Opening, begin};

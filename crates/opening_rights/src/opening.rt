@@ -1,17 +1,16 @@
 //! What a life begins with.
-ghost use Rattle.std.specs.Prelude.{◌≡◌, ◌≢◌, ◌≤◌, ℕ, max, List, [], ◌∷◌, ◌++◌, None, IfOk, IfSome, IsTrue};
+ghost use Rattle.std.specs.Prelude.{◌≡◌, ◌≢◌, ◌≤◌, ℕ, List, [], ◌∷◌, ◌++◌, None, IfOk, IfSome, IsTrue};
 ghost use Rattle.books.specs.Booking.{entry, entry_of};
 ghost use Rattle.page_index.specs.Index.{IsIn, home_of, limit_of};
 ghost use Rattle.page_ops.specs.Claims.{IsInRange};
 ghost use Rattle.store_model.specs.declared.limits.TheConstants.{MOST_PAGES};
 ghost use Rattle.wal_record.specs.Chains.{head, pages};
-ghost use Rattle.wal_record.specs.Checkpoints as checkpoints;
 ghost use Rattle.wal_record.specs.Rules.{is_number};
 ghost use Rattle.wal_record.specs.Sound.{AreLawful, IsSound};
 ghost use Rattle.wal_record.specs.declared.record.Record.{Record};
 ghost use Rattle.log_index.specs.Listing.{IsListingOf};
 ghost use Rattle.life_history.specs.Kept.{AreKept, Begins, IsSmall};
-ghost use Rattle.opening_rights.specs.Opened.{AreAtHome, ArePagesOf, Homes, NoneAbove};
+ghost use Rattle.opening_rights.specs.Opened.{AreAtHome, ArePagesOf, Homes, NoneAbove, places_of};
 
 use books::{Book, BookNames, BookTables, Books, MaintRight, PageBook, PageRight};
 use log_index::Listing;
@@ -19,6 +18,10 @@ use page_index::PageIndex;
 use page_ops::Life;
 use std::alloc::Global;
 use store_model::{HIGHEST, Lsn, MOST_PAGES, Memory, PageNo, TxId};
+
+/// A pool has a frame for each place of its index, and at least so many: a descent holds a parent and its child, and a split
+/// with the growth above it takes pages beside them.
+pub const LEAST_FRAMES: u32 = 12;
 
 /// The rights to the pages, each at home, that to maintenance, and the numbers that come next.
 #[derive(Drop)]
@@ -30,7 +33,7 @@ pub struct Opening<N: BookNames> {
 }
 
 /// The rights of a life of which no right was handed out, after the log of this listing. The index has room for as many
-/// pages as the store may have. `Memory` where there is none for it, or where the listing has more pages or higher LSNs than
+/// pages as the store may have, and at least for [`LEAST_FRAMES`]. `Memory` where there is none for it, or where the listing has more pages or higher LSNs than
 /// a log can have.
 pub fn begin<N: Life>(
     alloc: Global,
@@ -46,7 +49,7 @@ pub fn begin<N: Life>(
     ensures small { IfOk result (λ o. IsSmall o.next_page (record { pages = books.new.pages; sessions = books.new.sessions; maint = books.new.maint })) }
     ensures number { IfOk result (λ o. 1 ≤ o.next_tx) }
     ensures begins { IfOk result (λ o. (opening : List Record) → N.opens opening → Begins opening o.next_tx) }
-    ensures limit { IfOk result (λ o. (opening : List Record) → N.opens opening → limit_of o.index ≡ max (checkpoints.limit_of opening) (pages opening)) }
+    ensures limit { IfOk result (λ o. (opening : List Record) → N.opens opening → limit_of o.index ≡ places_of opening) }
     ensures homes { IfOk result (λ o. (opening : List Record) → N.opens opening → AreAtHome opening o.index) }
     ensures range { IfOk result (λ o. (page : ℕ) → IfSome (home_of o.index page) IsInRange) }
     ensures maint { IfOk result (λ o. o.maint ≡ record { number = 0; lsn = 0 }) }
@@ -55,7 +58,7 @@ pub fn begin<N: Life>(
         Ok(pages) if pages <= MOST_PAGES => pages,
         _ => return Err(Memory),
     };
-    let limit = listing.limit().max(pages);
+    let limit = listing.limit().max(pages).max(LEAST_FRAMES);
     let index = open_pages(alloc, tables, &mut books.pages, listing, pages, limit)?;
     Ok(Opening {
         index,

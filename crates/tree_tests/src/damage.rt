@@ -11,8 +11,8 @@ use std::alloc::Global;
 use std::marker::{Model, PhantomData};
 use std::mem;
 use std::sync::Wait;
-use store_model::{Bound, Fault, List, PageNo};
-use wal_record::{BranchRow, Entry, PageState, Rows};
+use store_model::{Bound, Fault, Key, List, PageNo};
+use wal_record::{BranchRow, Entry, Foster, PageState, Rows};
 
 /// A state that keeps its rules.
 #[derive(Drop)]
@@ -148,8 +148,22 @@ impl<N: Life, J: Entering<N>, P: Pages<N, J>> Pages<N, J> for Damaged<N, P> {
     }
 }
 
+/// A way in which a leaf is wrong that has the keys from k072 on: below k144, by its parent, or all others, by its foster
+/// parent. Each of these states keeps the rules of a page, so only a step to it, or from it, shows what is wrong.
+#[derive(Clone, Copy)]
+pub(crate) enum Way {
+    BeginsEarly,
+    EndsEarly,
+    EndsLate,
+    /// It claims the fence keys of page 4.
+    Another,
+    NoLeaf,
+    /// Its foster child is page 4, which doesn't begin with its foster key.
+    WrongFoster,
+}
+
 /// Its low fence key is too low for one that begins with k072.
-fn too_low(alloc: Global) -> Option<PageState>
+fn begins_early(alloc: Global) -> Option<PageState>
     ensures { IfSome result KeepsState }
 {
     Some(PageState {
@@ -161,8 +175,21 @@ fn too_low(alloc: Global) -> Option<PageState>
     })
 }
 
+/// Its high fence key is too low for one that has all keys from k072 on.
+fn ends_early(alloc: Global) -> Option<PageState>
+    ensures { IfSome result KeepsState }
+{
+    Some(PageState {
+        level: 0,
+        low: Bound::at(b"k072")?,
+        high: Bound::at(b"k144")?,
+        foster: None,
+        rows: Rows::Leaf(List::new(alloc)),
+    })
+}
+
 /// Its high fence key is too high for one that ends with k144.
-fn too_high(alloc: Global) -> Option<PageState>
+fn ends_late(alloc: Global) -> Option<PageState>
     ensures { IfSome result KeepsState }
 {
     Some(PageState {
@@ -203,15 +230,33 @@ fn no_leaf(alloc: Global) -> Option<PageState>
     })
 }
 
-/// Wrong states of a leaf that has the keys from k072 on and below k144.
-fn wrong_state(alloc: Global, number: u32) -> Option<PageState>
+/// Its keys from k090 on are those of a foster child, which is no child of it.
+fn wrong_foster(alloc: Global) -> Option<PageState>
     ensures { IfSome result KeepsState }
 {
-    match number {
-        0 => too_low(alloc),
-        1 => too_high(alloc),
-        2 => another(alloc),
-        _ => no_leaf(alloc),
+    Some(PageState {
+        level: 0,
+        low: Bound::at(b"k072")?,
+        high: Bound::at(b"k144")?,
+        foster: Some(Foster {
+            key: Key::new(b"k090")?,
+            child: 4,
+        }),
+        rows: Rows::Leaf(List::new(alloc)),
+    })
+}
+
+/// A state that is wrong in this way.
+fn wrong_state(alloc: Global, way: Way) -> Option<PageState>
+    ensures { IfSome result KeepsState }
+{
+    match way {
+        Way::BeginsEarly => begins_early(alloc),
+        Way::EndsEarly => ends_early(alloc),
+        Way::EndsLate => ends_late(alloc),
+        Way::Another => another(alloc),
+        Way::NoLeaf => no_leaf(alloc),
+        Way::WrongFoster => wrong_foster(alloc),
     }
 }
 
@@ -257,20 +302,21 @@ fn letters_of<N: Life, J: Entering<N>, P: Pages<N, J>, R: Wait>(
     })
 }
 
-/// Damages page 2 in each way in turn, and asks for the value of k100 then. The letters found, one after the other.
+/// Damages page 2 in each of these ways in turn, and asks for the value of k100 then. The letters found, together.
 pub(crate) fn ask_all<N: Life, J: Entering<N>, P: Pages<N, J>, R: Wait>(
     rt: &R,
     alloc: Global,
     pages: &mut Damaged<N, P>,
     journal: &mut J,
+    ways: &[Way],
     pass: &mut Pass<Entry, N>,
 ) -> Result<usize, Fault>
     requires none { (P.desk pages.old.pages).out ≡ 0 }
     ensures none { (P.desk pages.new.pages).out ≡ 0 }
 {
     let mut letters = 0usize;
-    for number in 0..4 {
-        if let Some(state) = wrong_state(alloc, number) {
+    for way in ways {
+        if let Some(state) = wrong_state(alloc, *way) {
             spoil_page::<N, J, P, R>(rt, pages, 2, state);
         }
         let found = letters_of(rt, alloc, pages, journal, 100, pass)?;

@@ -5,6 +5,7 @@ ghost use Rattle.page_ops.specs.Names.{life_names};
 ghost use Rattle.wal_record.specs.State.{KeepsState};
 ghost use Rattle.wal_record.specs.declared.record.Record.{Record};
 
+use crate::damage::Way;
 use crate::steps::{Deed, Keys};
 use crate::work::{Step, work, work_on_damaged};
 use listed_log::ListedLog;
@@ -20,13 +21,14 @@ use std::test::*;
 use store_model::Fault;
 use wal_record::PageState;
 
-/// A tree that is made, and below which number its pages are told; where that is 0, page 2 is damaged in turn.
+/// A tree that is made, and below which number its pages are told; or the ways in which page 2 is damaged in turn.
 #[derive(Clone, Copy)]
 struct Tree<'a> {
     limit: u32,
     places: u32,
     steps: &'a [Step],
     behind: u32,
+    ways: &'a [Way],
 }
 
 /// What a store is made of that wants memory.
@@ -77,9 +79,9 @@ fn make_tree<L: Disk + Drop, N: Life, R: Wait>(
         mut pages,
         mut pass,
     } = plant(alloc, ground, tokens, log, leaf, frames);
-    let (steps, behind) = (tree.steps, tree.behind);
-    if behind == 0 {
-        return work_on_damaged(rt, alloc, &mut journal, pages, steps, &mut pass);
+    let (steps, behind, ways) = (tree.steps, tree.behind, tree.ways);
+    if !ways.is_empty() {
+        return work_on_damaged(rt, alloc, &mut journal, pages, steps, ways, &mut pass);
     }
     work(
         rt,
@@ -124,6 +126,7 @@ fn told<R: Wait>(rt: &R, alloc: Global, steps: &[Step]) -> Result<String, Fault>
             places: 9,
             steps,
             behind: 9,
+            ways: &[],
         },
     )
 }
@@ -301,6 +304,7 @@ fn a_limit_forbids_growing_and_then_puts(rt: HostRuntime) -> Result<(), Fail> {
         places: 9,
         steps: &steps,
         behind: 9,
+        ways: &[],
     };
     let told = told_of(&rt, rt.alloc(), tree)?;
     let wanted =
@@ -318,6 +322,7 @@ fn four_hundred_of_the_longest_rows_are_a_tree_of_level_two(rt: HostRuntime) -> 
         places: 80,
         steps: &[longest(0, 400)],
         behind: 2,
+        ways: &[],
     };
     let told = told_of(&rt, rt.alloc(), tree)?;
     assert_eq!(rt; told.as_str(), "pages 69\n2 ..- >63 k180>62\n");
@@ -346,18 +351,46 @@ fn a_put_that_lacks_memory_enters_nothing(rt: HostRuntime) -> Result<(), Fail> {
     }
 }
 
-/// A leaf that claims other fence keys than its parent has for it, those of another leaf among them, or another level, is
-/// renewed, and the value is found.
+/// A leaf that claims other fence keys than its parent has for it, those of another leaf among them, or another level, or a
+/// foster child that isn't its own, is renewed, and the value is found.
 #[test]
 fn a_page_that_does_not_fit_its_parent_is_renewed(rt: HostRuntime) -> Result<(), Fail> {
     let tree = Tree {
         limit: 16384,
         places: 9,
         steps: &[short(0, 300)],
-        behind: 0,
+        behind: 3,
+        ways: &[
+            Way::BeginsEarly,
+            Way::EndsLate,
+            Way::Another,
+            Way::NoLeaf,
+            Way::WrongFoster,
+        ],
     };
     let told = told_of(&rt, rt.alloc(), tree)?;
-    let wanted = "1 ..- >3 k072>2 k144>4 k216>5\n0 k072..k144 72 0 1440 k072 k143\nletters 80\n";
+    let wanted = "1 ..- >3 k072>2 k144>4 k216>5\n0 k072..k144 72 0 1440 k072 k143\nletters 100\n";
+    assert_eq!(rt; told.as_str(), wanted);
+    Ok(())
+}
+
+/// So is a foster child that claims other fence keys than its foster parent has for it, or another level.
+#[test]
+fn a_page_that_does_not_fit_its_foster_parent_is_renewed(rt: HostRuntime) -> Result<(), Fail> {
+    let tree = Tree {
+        limit: 16384,
+        places: 9,
+        steps: &[short(0, 145)],
+        behind: 3,
+        ways: &[
+            Way::BeginsEarly,
+            Way::EndsEarly,
+            Way::Another,
+            Way::NoLeaf,
+        ],
+    };
+    let told = told_of(&rt, rt.alloc(), tree)?;
+    let wanted = "0 ..- k072>2 72 0 1440 k000 k071\n0 k072..- 73 0 1460 k072 k144\nletters 80\n";
     assert_eq!(rt; told.as_str(), wanted);
     Ok(())
 }

@@ -2,7 +2,7 @@
 ghost use Rattle.std.specs.Prelude.{◌≡◌, List};
 ghost use Rattle.wal_record.specs.declared.record.Record.{Record};
 
-use crate::damage::{Damaged, ask_all};
+use crate::damage::{Damaged, Way, ask_all};
 use crate::steps::{Keys, change_all, key_of};
 use crate::told::told_pages;
 use books::SessionRight;
@@ -143,13 +143,14 @@ fn do_all<N: Life, J: Journaling<N>, P: Pages<N, J>, R: Wait>(
     Ok(Done { found, refused })
 }
 
-/// Does the steps, damages page 2 in turn, and gives the letters of k100 that were found each time, together.
+/// Does the steps, damages page 2 in each of these ways in turn, and gives the letters of k100 that were found each time, together.
 pub(crate) fn work_on_damaged<N: Life, J: Journaling<N>, P: Pages<N, J> + Drop, R: Wait>(
     rt: &R,
     alloc: Global,
     journal: &mut J,
     pages: P,
     steps: &[Step],
+    ways: &[Way],
     pass: &mut Pass<Entry, N>,
 ) -> Result<String, Fault>
     requires untold { (opening : List Record) → N.opens opening → ⊥ }
@@ -157,7 +158,7 @@ pub(crate) fn work_on_damaged<N: Life, J: Journaling<N>, P: Pages<N, J> + Drop, 
 {
     let mut pages = Damaged::new(pages);
     do_all(rt, alloc, journal, &mut pages, steps, pass)?;
-    let letters = ask_all(rt, alloc, &mut pages, journal, pass)?;
+    let letters = ask_all(rt, alloc, &mut pages, journal, ways, pass)?;
     let told = told_pages::<N, J, Damaged<N, P>, R>(rt, alloc, &mut pages, 3)?;
     Ok(format!(in alloc; "{told}letters {letters}\n")?)
 }
