@@ -1,10 +1,8 @@
 -- What holds where no life is open, and in a life that has just begun.
 use Rattle.std.proofs.Common.{◌≡◌, ℕ, true, List, [], Option, refl, sym, ap, subst, append-nil, arith}
 use Rattle.std.specs.List.{All, list_any}
-use Rattle.media.specs.Kept.{Kept}
 use Rattle.media.specs.declared.disk.Disk.{Ghosts}
 use Rattle.log_manager.specs.Devices.{DevicesStandFor}
-use Rattle.log_manager.specs.Records.{StandsForRecords}
 use Rattle.wal_record.specs.Left.{IsLeft, acknowledges}
 use Rattle.wal_record.specs.History.{log_of}
 use Rattle.wal_record.specs.Sound.{IsSound}
@@ -13,7 +11,7 @@ use Rattle.wal_record.specs.declared.entry.Entry.{Entry}
 use Rattle.runner.specs.declared.at.At.{At}
 use Rattle.runner.specs.declared.at.At.TheVariants.{Outside, Inside}
 use Rattle.life_commands.specs.Bytes.{Known}
-use Rattle.life_commands.specs.LogDisk.{StandsOn, Keeps}
+use Rattle.life_commands.specs.LogDisk.{Keeps}
 use Rattle.life_commands.specs.Stores.{AreOf, Stores}
 use Rattle.life_commands.specs.Living.{Out, Safe}
 use Rattle.runner.specs.Devices.{AreOfAt, Rests, Stored}

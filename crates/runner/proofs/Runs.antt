@@ -18,7 +18,7 @@ use Rattle.line_reader.specs.Lines.{Reader, to_come, first_reader, longest_scrip
 use Rattle.line_reader.specs.Built.{is_built}
 use Rattle.runner.specs.Causes.{LineCause}
 use Rattle.life_commands.specs.Stores.{AreOf, Stores}
-use Rattle.life_commands.specs.Rows.{Fits, FitsAt, IsOfLife, is_lawful}
+use Rattle.life_commands.specs.Rows.{Fits, FitsAt, IsOfLife}
 use Rattle.life_commands.specs.Turns.{Start, Turn, Stage, Cut, stage, stage_step, begin_stage, bytes_after, last_after, Life, IsRightLife, lives, turn}
 use Rattle.life_commands.specs.Living.{Adds}
 use Rattle.life_commands.specs.Text.{lines, text}
