@@ -8,8 +8,8 @@
 //! [`read_page`] gives of an object in its form what the page's copy says. (By its code it reads the head and one image
 //! where the backup has the whole segment; no clause counts calls.) What it gives stands in the object, whatever else
 //! does. An object that isn't in its form is named with the start of its first faulty field, and one without the page
-//! with its count. [`page_in_place`] and [`page_in_object`] do the same over bytes that somebody else has read, and
-//! [`segment_bytes`] makes those that somebody else puts.
+//! with its count. [`page_in_place`] and [`page_in_object`] do the same over bytes that somebody else has read, of which
+//! [`first_image`] takes an image, and [`segment_bytes`] makes those that somebody else puts.
 #![tactic(auto)]
 
 mod copy;
@@ -23,6 +23,7 @@ mod search;
 mod writing;
 
 pub use copy::PageCopy;
+pub use image::first_image;
 pub use pieces::{image_place, object_of, page_in_object, page_in_place};
 pub use reading::read_page;
 pub use writing::{segment_bytes, write_segment};

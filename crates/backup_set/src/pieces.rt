@@ -5,6 +5,7 @@ ghost use Rattle.wal_record.specs.Upkeep.{segment_of};
 ghost use Rattle.backup_set.specs.Answers.{FailsToFind, GivesCopy, HasImage, IsBad, StandsInPlace, place_of};
 ghost use Rattle.backup_set.specs.Backup.{IsAmong, IsBackup, backup_name};
 ghost use Rattle.backup_set.specs.declared.copy.PageCopy.{PageCopy};
+ghost use Rattle.page_image.specs.Image.{image_bytes};
 ghost use Rattle.page_image.specs.declared.sealed.Sealed.{Sealed};
 ghost use Rattle.backup_set.specs.declared.layout.TheConstants.{IMAGES_AT};
 ghost use Rattle.store_model.specs.declared.limits.TheConstants.{PAGE_BYTES};
@@ -48,6 +49,7 @@ pub fn page_in_place(
     ensures held { (bytes : List ℕ) → head.now ≡ take IMAGES_AT bytes → image.now ≡ take PAGE_BYTES (drop (IMAGES_AT + PAGE_BYTES * place_of page) bytes)
         → IfOk result (λ found. IfSome found (HasImage backup (segment_of page) page bytes)) }
     ensures rules { IfOk result (λ found. IfSome found (λ x. KeepsState x.state)) }
+    ensures image { IfOk result (λ found. IfSome found (λ x. take PAGE_BYTES image.now ≡ image_bytes page x.lsn x.state)) }
 {
     let part = Part {
         backup,

@@ -11,7 +11,7 @@ use operators::Operators;
 use page_image::Sealed;
 use page_ops::{Entering, Life, VaultFaults};
 use page_repair::{Images, Supply};
-use segment_restore::{Bases, mark_restored, rebuild_in_life, restore};
+use segment_restore::{Bases, mark_restored, rebuild_in_life, restore, sealed_of};
 use std::alloc::Global;
 use std::sync::Wait;
 use store_model::{Fault, Lsn, PageNo, SEGMENT_PAGES};
@@ -86,6 +86,7 @@ impl<'a, V: Vault, N: Life, J: Entering<N>> Supply<N, J> for LifeSupply<'a, V, N
             return rebuild_in_life(rt, alloc, journal, page, base, head, self.operators, pass);
         }
         let base = self.bases.base(rt, alloc, journal, page, head, pass)?;
+        let base = sealed_of(base);
         rebuild_in_life(rt, alloc, journal, page, base, head, self.operators, pass)
     }
 }

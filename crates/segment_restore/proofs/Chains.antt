@@ -15,6 +15,7 @@ use Rattle.wal_record.specs.declared.entry.Entry.{Entry}
 use Rattle.chain_laws.specs.Steps.{named_between, previous}
 use Rattle.chain_laws.proofs.Named.{at_place, named_kept, place_kept, head_in}
 use Rattle.chain_laws.proofs.Steps.{heads}
+use Rattle.page_image.specs.Image.{image_bytes}
 use Rattle.page_image.specs.declared.sealed.Sealed.{Sealed}
 use Rattle.page_ops.specs.Causes.{EndsBy, FailsToBring, FailsToRead, IsUntold, MeetsNoEnd}
 use Rattle.page_ops.specs.Desks.{Faults}
@@ -32,6 +33,9 @@ use Rattle.wal_record.specs.declared.page.PageState.{PageState}
 use Rattle.std.specs.Prelude.{Bool, false}
 use Rattle.page_repair.specs.Supplies.{IsBase, IsHead, IsRebuilt}
 use Rattle.page_repair.proofs.Following.{falls}
+use Rattle.std.specs.Option.{option_map}
+use Rattle.segment_restore.specs.Based.{IsBased}
+use Rattle.segment_restore.specs.declared.base.Base.{Base}
 
 -- ---- the logs of a life, as they were seen
 
@@ -156,3 +160,17 @@ module _ (opens : List Record → Type 0) (h : List Entry) (p high : ℕ) (consi
 
   pub made : (new : Option PageState) (done : Bool) (s : PageState) → done ≡ true → Replayed p (reverse rs) old new done → IfSome new KeepsState → new ≡ Some s → IsRebuilt opens h p high (record { state = s; lsn = high })
   made new done s is r keeps is_s = is_rebuilt opens h p high (record { state = s; lsn = high }) (page_is (IsLogOf opens h) p high (is_chain opens h p high consistent named) base (is_base opens h p high base based) low low_is old old_is rs all new done s is r keeps is_s)
+
+-- ---- an image with its bytes
+
+-- without them it is an image to begin from
+pub based : (opens : List Record → Type 0) (h : List Entry) (p high : ℕ) (base : Option Base) (image : Option Sealed) → image ≡ option_map (λ (b : Base). b.sealed) base → IfSome base (IsBased opens h p high) → IfSome image (IsBase opens h p high)
+based opens h p high None image is b = subst (λ (o : Option Sealed). IfSome o (IsBase opens h p high)) (sym is) tt
+based opens h p high (Some x) image is b = subst (λ (o : Option Sealed). IfSome o (IsBase opens h p high)) (sym is) b.image
+
+-- at the head it is the page's image there
+pub at_head : (opens : List Record → Type 0) (h now : List Entry) (p high : ℕ) (b : Base) → IsPrefix h now → IsHead opens h p high → b.sealed.lsn ≡ high → IsBased opens h p high b → IsRebuilt opens now p high b.sealed
+at_head opens h now p high b begins named at is = rebuilt_later opens h now p high b.sealed begins named (record { keeps = is.image.keeps; lsn = at; image = is.image.image })
+
+pub own_bytes : (p high : ℕ) (b : Base) → b.sealed.lsn ≡ high → IfSome b.bytes (λ bytes. bytes ≡ image_bytes p b.sealed.lsn b.sealed.state) → IfSome b.bytes (λ bytes. bytes ≡ image_bytes p high b.sealed.state)
+own_bytes p high b at is = subst (λ (n : ℕ). IfSome b.bytes (λ bytes. bytes ≡ image_bytes p n b.sealed.state)) at is

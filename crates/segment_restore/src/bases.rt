@@ -3,11 +3,12 @@ ghost use Rattle.std.specs.Prelude.{◌≡◌, ◌-◌, ◌^◌, ◌≤◌, ℕ,
 ghost use Rattle.page_ops.specs.Causes.{FailsToBring, MeetsNoEnd};
 ghost use Rattle.page_ops.specs.Claims.{no_claims};
 ghost use Rattle.page_ops.specs.Seeing.{Upholds, is_none, known};
-ghost use Rattle.page_repair.specs.Supplies.{IsBase, IsHead};
+ghost use Rattle.page_repair.specs.Supplies.{IsHead};
+ghost use Rattle.segment_restore.specs.Based.{IsBased};
 ghost use Rattle.segment_restore.specs.Faults.{of_vault};
 
+use crate::base::Base;
 use front::Pass;
-use page_image::Sealed;
 use page_ops::{Entering, Life, Rights};
 use std::alloc::Global;
 use std::sync::Wait;
@@ -32,9 +33,9 @@ pub trait Bases<N: Life, J: Entering<N>> {
         page: PageNo,
         head: Lsn,
         pass: &mut Pass<Entry, N>,
-    ) -> Result<Option<Sealed>, Fault>
+    ) -> Result<Option<Base>, Fault>
         requires head { IsHead N.opens pass.old.log page head }
-        ensures base { IfOk result (λ base. IfSome base (IsBase N.opens pass.new.log page head)) }
+        ensures base { IfOk result (λ base. IfSome base (IsBased N.opens pass.new.log page head)) }
         ensures faults { vault_faults self.old ≤ vault_faults self.new }
         ensures entered { Upholds N.opens N.entries N.session_entries is_none (known (J.account journal.old) pass.old no_claims) (known (J.account journal.new) pass.new no_claims) }
         ensures open { OnOk result (MeetsNoEnd (J.account journal.old) (J.account journal.new)) }
@@ -60,7 +61,7 @@ impl<N: Life, J: Entering<N>> Bases<N, J> for NoBases {
         _page: PageNo,
         _head: Lsn,
         pass: &mut Pass<Entry, N>,
-    ) -> Result<Option<Sealed>, Fault> {
+    ) -> Result<Option<Base>, Fault> {
         journal.see(rt, &mut Rights::none(), pass);
         Ok(None)
     }

@@ -15,6 +15,7 @@
 //! [`Bases`] gives the images that a repair begins from; [`NoBases`] gives none.
 #![tactic(auto)]
 
+mod base;
 mod bases;
 mod following;
 mod rebuilding;
@@ -22,6 +23,7 @@ mod restoring;
 mod supply;
 mod writing;
 
+pub use base::{Base, sealed_of};
 pub use bases::{Bases, NoBases};
 pub use rebuilding::rebuild_in_life;
 pub use restoring::{mark_restored, restore};

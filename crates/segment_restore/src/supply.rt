@@ -1,6 +1,7 @@
 //! A supply of pages from the log.
 ghost use Rattle.segment_restore.specs.Faults.{of_vault};
 
+use crate::base::sealed_of;
 use crate::bases::Bases;
 use crate::rebuilding::rebuild_in_life;
 use crate::restoring::{mark_restored, restore, segment_of};
@@ -75,6 +76,7 @@ impl<'a, N: Life, J: Entering<N>, B: Bases<N, J>> Supply<N, J> for LogSupply<'a,
             return rebuild_in_life(rt, alloc, journal, page, base, head, self.operators, pass);
         }
         let base = self.bases.base(rt, alloc, journal, page, head, pass)?;
+        let base = sealed_of(base);
         rebuild_in_life(rt, alloc, journal, page, base, head, self.operators, pass)
     }
 }

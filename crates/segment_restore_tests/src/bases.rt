@@ -7,7 +7,7 @@ use crate::telling::Telling;
 use front::Pass;
 use page_image::Sealed;
 use page_ops::Life;
-use segment_restore::Bases;
+use segment_restore::{Base, Bases};
 use std::alloc::Global;
 use std::sync::Wait;
 use store_model::{Fault, Lsn, PageNo};
@@ -44,13 +44,16 @@ impl<'a, N: Life> Bases<N, Telling<'a, N>> for BehindSplit {
         page: PageNo,
         head: Lsn,
         pass: &mut Pass<Entry, N>,
-    ) -> Result<Option<Sealed>, Fault> {
+    ) -> Result<Option<Base>, Fault> {
         journal.history.watch(pass, &mut journal.counts);
         if !self.has_both || head < 4 {
             return Ok(None);
         }
         match split_image(alloc, page) {
-            Some(image) => Ok(Some(image)),
+            Some(sealed) => Ok(Some(Base {
+                sealed,
+                bytes: None,
+            })),
             None => Err(Fault::Memory),
         }
     }

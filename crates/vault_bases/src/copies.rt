@@ -4,15 +4,15 @@ ghost use Rattle.page_ops.specs.Causes.{MeetsNoEnd};
 ghost use Rattle.page_ops.specs.Claims.{no_claims};
 ghost use Rattle.page_ops.specs.Seeing.{Upholds, is_none, known};
 ghost use Rattle.vault_bases.specs.Faults.{FailsToGive};
-ghost use Rattle.vault_bases.specs.Named.{IsCopyIn, IsHeld};
+ghost use Rattle.vault_bases.specs.Named.{IsBaseIn, IsHeld};
 
 use crate::bases::VaultBases;
 use crate::reading::read_named;
-use backup_set::{image_place, object_of, page_in_object, page_in_place};
+use backup_set::{first_image, image_place, object_of, page_in_object, page_in_place};
 use front::Pass;
 use named_objects::Objects;
-use page_image::Sealed;
 use page_ops::{Entering, Life};
+use segment_restore::Base;
 use std::alloc::Global;
 use std::sync::Wait;
 use std::sync::ledger::Ledger;
@@ -34,8 +34,8 @@ fn in_place<N: Life, J: Entering<N>, O: Objects<N>, L: Ledger, R: Wait>(
     page: PageNo,
     backup: u64,
     pass: &mut Pass<Entry, N>,
-) -> Result<Option<Sealed>, Fault>
-    ensures copy { IfOk result (λ found. IfSome found (IsCopyIn N.opens pass.old.log page backup)) }
+) -> Result<Option<Base>, Fault>
+    ensures copy { IfOk result (λ found. IfSome found (IsBaseIn N.opens pass.old.log page backup)) }
     ensures faults { bases.old.faults ≤ bases.new.faults }
     ensures vault { O.faults bases.old.objects ≤ O.faults bases.new.objects }
     ensures entered { Upholds N.opens N.entries N.session_entries is_none (known (J.account journal.old) pass.old no_claims) (known (J.account journal.new) pass.new no_claims) }
@@ -46,7 +46,13 @@ fn in_place<N: Life, J: Entering<N>, O: Objects<N>, L: Ledger, R: Wait>(
     let head = read_named(rt, alloc, journal, bases, name, 0, HEAD_BYTES, pass)?;
     let place = image_place(page);
     let image = read_named(rt, alloc, journal, bases, name, place, PAGE_BYTES, pass)?;
-    Ok(page_in_place(alloc, backup, page, &head, &image)?)
+    Ok(match page_in_place(alloc, backup, page, &head, &image)? {
+        Some(sealed) => Some(Base {
+            sealed,
+            bytes: first_image(&image),
+        }),
+        None => None,
+    })
 }
 
 /// The page's copy, from the whole object.
@@ -58,9 +64,9 @@ fn in_whole<N: Life, J: Entering<N>, O: Objects<N>, L: Ledger, R: Wait>(
     page: PageNo,
     backup: u64,
     pass: &mut Pass<Entry, N>,
-) -> Result<Sealed, Fault>
+) -> Result<Base, Fault>
     requires held { IsHeld N.opens pass.old.log page backup }
-    ensures copy { IfOk result (IsCopyIn N.opens pass.old.log page backup) }
+    ensures copy { IfOk result (IsBaseIn N.opens pass.old.log page backup) }
     ensures faults { bases.old.faults ≤ bases.new.faults }
     ensures vault { O.faults bases.old.objects ≤ O.faults bases.new.objects }
     ensures entered { Upholds N.opens N.entries N.session_entries is_none (known (J.account journal.old) pass.old no_claims) (known (J.account journal.new) pass.new no_claims) }
@@ -69,7 +75,11 @@ fn in_whole<N: Life, J: Entering<N>, O: Objects<N>, L: Ledger, R: Wait>(
 {
     let name = object_of(backup, page);
     let bytes = read_named(rt, alloc, journal, bases, name, 0, OBJECT_BYTES, pass)?;
-    page_in_object(alloc, backup, page, &bytes)
+    let sealed = page_in_object(alloc, backup, page, &bytes)?;
+    Ok(Base {
+        sealed,
+        bytes: None,
+    })
 }
 
 /// The page's copy in a backup that the log names. In a life whose opening log isn't known an object may be bad.
@@ -81,9 +91,9 @@ pub(crate) fn find_copy<N: Life, J: Entering<N>, O: Objects<N>, L: Ledger, R: Wa
     page: PageNo,
     backup: u64,
     pass: &mut Pass<Entry, N>,
-) -> Result<Sealed, Fault>
+) -> Result<Base, Fault>
     requires held { IsHeld N.opens pass.old.log page backup }
-    ensures copy { IfOk result (IsCopyIn N.opens pass.old.log page backup) }
+    ensures copy { IfOk result (IsBaseIn N.opens pass.old.log page backup) }
     ensures faults { bases.old.faults ≤ bases.new.faults }
     ensures vault { O.faults bases.old.objects ≤ O.faults bases.new.objects }
     ensures entered { Upholds N.opens N.entries N.session_entries is_none (known (J.account journal.old) pass.old no_claims) (known (J.account journal.new) pass.new no_claims) }

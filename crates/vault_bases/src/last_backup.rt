@@ -3,7 +3,7 @@ ghost use Rattle.std.specs.Prelude.{◌≤◌, List, IfErr, IfNone, IfOk, IfSome
 ghost use Rattle.page_ops.specs.Causes.{FailsToBring, MeetsNoEnd};
 ghost use Rattle.page_ops.specs.Claims.{no_claims};
 ghost use Rattle.page_ops.specs.Seeing.{Upholds, is_none, known};
-ghost use Rattle.page_repair.specs.Supplies.{IsBase};
+ghost use Rattle.segment_restore.specs.Based.{IsBased};
 ghost use Rattle.segment_restore.specs.Faults.{of_vault};
 ghost use Rattle.wal_record.specs.History.{life_log};
 ghost use Rattle.wal_record.specs.declared.record.Record.{Record};
@@ -15,9 +15,8 @@ use crate::copies::find_copy;
 use backup_set::object_of;
 use front::Pass;
 use named_objects::Objects;
-use page_image::Sealed;
 use page_ops::{Entering, Life};
-use segment_restore::Bases;
+use segment_restore::{Base, Bases};
 use std::alloc::Global;
 use std::sync::Wait;
 use std::sync::ledger::Ledger;
@@ -41,9 +40,9 @@ impl<N: Life, J: Entering<N>, O: Objects<N>, L: Ledger> Bases<N, J> for VaultBas
         page: PageNo,
         head: Lsn,
         pass: &mut Pass<Entry, N>,
-    ) -> Result<Option<Sealed>, Fault>
-        ensures base { IfOk result (λ base. IfSome base (IsBase N.opens pass.new.log page head)) }
-        ensures last { IfOk result (λ base. IfSome base (WasLast N.opens pass.old.log pass.new.log page)) }
+    ) -> Result<Option<Base>, Fault>
+        ensures base { IfOk result (λ base. IfSome base (IsBased N.opens pass.new.log page head)) }
+        ensures last { IfOk result (λ base. IfSome base (λ b. WasLast N.opens pass.old.log pass.new.log page b.sealed)) }
         ensures none { IfOk result (λ base. IfNone base ((opening : List Record) → N.opens opening → HasNone (life_log opening pass.new.log) page head)) }
         ensures faults { self.old.faults ≤ self.new.faults }
         ensures vault { O.faults self.old.objects ≤ O.faults self.new.objects }
@@ -62,7 +61,7 @@ impl<N: Life, J: Entering<N>, O: Objects<N>, L: Ledger> Bases<N, J> for VaultBas
             return Ok(None);
         }
         let copy = find_copy(rt, alloc, journal, self, page, backup, pass)?;
-        if copy.lsn != lsn {
+        if copy.sealed.lsn != lsn {
             return Err(Fault::VaultBad {
                 object: object_of(backup, page),
                 byte: 0,

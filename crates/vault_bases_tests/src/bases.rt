@@ -8,9 +8,8 @@ use crate::objects::{BACKUP, name, object, vault_with};
 use crate::telling::Telling;
 use media::Fuse;
 use media_mem::MemVault;
-use page_image::Sealed;
 use page_ops::{Ground, Life, Tokens, Unnamed};
-use segment_restore::Bases;
+use segment_restore::{Base, Bases};
 use std::alloc::Global;
 use std::marker::Brand;
 use std::sync::Wait;
@@ -36,10 +35,10 @@ struct Case {
     head: Lsn,
 }
 
-fn answer_of(found: Result<Option<Sealed>, Fault>) -> Answer {
+fn answer_of(found: Result<Option<Base>, Fault>) -> Answer {
     match found {
         Ok(None) => Answer::Nothing,
-        Ok(Some(sealed)) => Answer::At(sealed.lsn),
+        Ok(Some(base)) => Answer::At(base.sealed.lsn),
         Err(Fault::VaultBad { object, byte }) => if object == name() {
             Answer::BadAt(byte)
         } else {

@@ -17,7 +17,7 @@ returns-in_err-flush-clause-refused g c =
 
 pub write-written-requires : goal.write-written-requires
 write-written-requires g c =
-    record { written = may_write g.N.Life.opens c.args.pass.now.log c.flush.new.pass c.args.page c.args.head c.args.sealed.now c.flush.ensures.seen.now.begins c.requires.head c.requires.rebuilt c.in_ok-flush.ensures.durable c.seal-bytes.result c.seal-bytes.ensures }
+    record { written = may_write g.N.Life.opens c.args.pass.now.log c.flush.new.pass c.args.page c.args.head c.args.image.now.sealed c.flush.ensures.seen.now.begins c.requires.head c.requires.rebuilt c.in_ok-flush.ensures.durable c.bytes_of-bytes.result c.bytes_of-bytes.ensures }
 
 pub returns-clause-entered : goal.returns-clause-entered
 returns-clause-entered g c =
@@ -30,4 +30,4 @@ returns-clause-open g c = open_then _ _ _ (open_met (g.J.Entering.account c.args
 
 pub returns-clause-written : goal.returns-clause-written
 returns-clause-written g c = λ t.
-    written_or c.write-written.result _ _ _ _ _ c.seal-bytes.ensures (c.write-written.ensures.newest t) c.write-written.ensures.cause.failed
+    written_or c.write-written.result _ _ _ _ _ c.bytes_of-bytes.ensures (c.write-written.ensures.newest t) c.write-written.ensures.cause.failed

@@ -1,5 +1,5 @@
 use Rattle.std.proofs.Common.{sym}
-use Rattle.segment_restore.proofs.Chains.{head_later, upheld_both}
+use Rattle.segment_restore.proofs.Chains.{based, head_later, upheld_both}
 use Rattle.segment_restore.proofs.Owned.{result_behind_own}
 use Rattle.segment_restore.proofs.supply.LogSupplySupply.rebuilt.Goals as goal
 
@@ -7,6 +7,9 @@ pub rebuild_in_life-requires-2-clause-head : goal.rebuild_in_life-requires-2-cla
 rebuild_in_life-requires-2-clause-head g c =
     let u = c.base.ensures.entered in
     head_later g.N.Life.opens c.args.pass.now.log c.base.new.pass.log c.args.page c.args.head (u.gained, sym u.is) c.requires.head
+
+pub rebuild_in_life-requires-2-clause-base : goal.rebuild_in_life-requires-2-clause-base
+rebuild_in_life-requires-2-clause-base g c = based g.N.Life.opens c.base.new.pass.log c.args.page c.args.head _ c.sealed_of-base.result c.sealed_of-base.ensures c.in_ok-base.ensures.base
 
 pub returns-clause-entered : goal.returns-clause-entered
 returns-clause-entered g c = upheld_both _ _ _ _ _ _ _ _ _ c.base.ensures.entered c.rebuild_in_life-2.ensures.entered
