@@ -1,6 +1,6 @@
 -- Pieces of objects, and the copy in its place.
 use Rattle.std.proofs.Common.{◌≡◌, ℕ, ◌+◌, ◌-◌, ◌*◌, ◌^◌, ◌<◌, List, ◌++◌, length, take, drop, Option, Some, None, sym, ap, subst, ◌∙◌, arith}
-use Rattle.std.specs.Prelude.{IfSome, min}
+use Rattle.std.specs.Prelude.{◌≤◌, IfSome, MatchOption, min}
 use Rattle.std.proofs.lemmas.List.{length-drop, length-take, take_at, take_min}
 use mathlib.Core.List.{IsPrefix}
 use Rattle.front.proofs.Keeping.{prefix_trans}
@@ -51,3 +51,8 @@ module _ (opens : List Record → Type 0) (h first second : List Entry) (begins 
         let two = image_read opening n.bytes stands (names_later opening h second name n.bytes (prefix_trans h first second begins goes) there) ∙ ap (λ (k : ℕ). take 4096 (drop k n.bytes)) at in
         found_is backup (segment_of p) small (segment_below p low) n.copies n.bytes n.are p x c low (held n.bytes one two) n.among n.page;
   }
+
+-- the first bytes, where they aren't cut
+pub first_bytes : (o : Option (List ℕ)) (read held : List ℕ) (y : List ℕ) → MatchOption o (length read < 4096) (λ image. (4096 ≤ length read) × (image ≡ take 4096 read)) → read ≡ held → take 4096 held ≡ y → IfSome o (λ bytes. bytes ≡ y)
+first_bytes None read held y m is here = tt
+first_bytes (Some x) read held y m is here = m.1 ∙ ap (take 4096) is ∙ here

@@ -46,13 +46,14 @@ fn in_place<N: Life, J: Entering<N>, O: Objects<N>, L: Ledger, R: Wait>(
     let head = read_named(rt, alloc, journal, bases, name, 0, HEAD_BYTES, pass)?;
     let place = image_place(page);
     let image = read_named(rt, alloc, journal, bases, name, place, PAGE_BYTES, pass)?;
-    Ok(match page_in_place(alloc, backup, page, &head, &image)? {
-        Some(sealed) => Some(Base {
-            sealed,
-            bytes: first_image(&image),
-        }),
-        None => None,
-    })
+    let found = page_in_place(alloc, backup, page, &head, &image)?;
+    let Some(sealed) = found else {
+        return Ok(None);
+    };
+    Ok(Some(Base {
+        sealed,
+        bytes: first_image(&image),
+    }))
 }
 
 /// The page's copy, from the whole object.

@@ -13,7 +13,7 @@ in_whole-requires g c =
 pub returns-in-None-clause-copy : goal.returns-in-None-clause-copy
 returns-in-None-clause-copy g c =
     let u = c.in_place.ensures.entered in
-    IfOk-weaker c.in_whole.result _ _ (λ x found. copy_before g.N.Life.opens c.args.pass.now.log c.in_place.new.pass.log c.args.page c.args.backup (u.gained, sym u.is) x found) c.in_whole.ensures.copy
+    IfOk-weaker c.in_whole.result _ _ (λ b found. record { copy = copy_before g.N.Life.opens c.args.pass.now.log c.in_place.new.pass.log c.args.page c.args.backup (u.gained, sym u.is) b.sealed found.copy; bytes = found.bytes }) c.in_whole.ensures.copy
 
 pub returns-in-None-clause-entered : goal.returns-in-None-clause-entered
 returns-in-None-clause-entered g c = upheld_both _ _ _ _ _ _ _ _ _ c.in_place.ensures.entered c.in_whole.ensures.entered
