@@ -15,10 +15,9 @@ use page_index::PageIndex;
 use page_ops::{Ground, Life, Tokens};
 use page_repair::OwnImages;
 use restart::RestartPlan;
-use small_journal::Counts;
 use std::alloc::Global;
 use store_model::{Fault, List, Lsn, Memory, PageNo};
-use untold_journal::Untold;
+use untold_journal::{Counts, Untold};
 use wal_record::{Analysis, Entry, PageHead};
 
 /// The head of the one page, page 1.

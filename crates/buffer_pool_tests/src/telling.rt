@@ -5,12 +5,11 @@ ghost use Rattle.wal_record.specs.declared.entry.Entry.TheVariants.{Repaired};
 use books::PageRight;
 use front::Pass;
 use page_ops::{Entered, Entering, Found, Ground, Group, Life, Listed, Rights};
-use small_journal::Counts;
 use std::alloc::Global;
 use std::marker::Model;
 use std::sync::Wait;
 use store_model::{Fault, Lsn, PageNo, Pos};
-use untold_journal::{Untold, alone_in};
+use untold_journal::{Counts, Untold, alone_in};
 use wal_record::{Entry, PageHead, Record};
 
 /// A journal of a life of which no opening log is known. It enters that a page was written or repaired, and tells these ends

@@ -112,10 +112,11 @@ pub(crate) fn committed_text(
     }
 }
 
-/// Where the end stands, or the refusal.
+/// Where the end stands, or the refusal, which may be that it lacks memory.
 pub(crate) fn aborted_text(alloc: Global, aborted: Result<Pos, Fault>) -> Result<String, Fault> {
     match aborted {
         Ok(pos) => Ok(format!(in alloc; "at {pos}")?),
+        Err(Fault::Memory) => Ok(format!(in alloc; "lacks memory")?),
         Err(fault) => fault_text(alloc, fault),
     }
 }

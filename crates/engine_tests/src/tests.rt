@@ -23,6 +23,8 @@ use wal_record::PageState;
 #[derive(Clone, Copy)]
 struct Table<'a> {
     limit: u32,
+    /// Which of the frames that are asked for is refused, counted from 1; 0 for none.
+    refused: u32,
     lines: &'a [Line<'a>],
     letters: &'a [u8],
 }
@@ -72,6 +74,7 @@ fn play_on<L: Disk + Drop, N: Life, R: Wait>(
         mut pages,
         mut pass,
     } = plant(alloc, ground, tokens, log, leaf, frames);
+    pages.refuse(table.refused);
     play(
         rt,
         alloc,
@@ -113,6 +116,7 @@ fn told_of<R: Wait>(rt: &R, alloc: Global, table: Table<'_>) -> Result<String, F
 fn told<R: Wait>(rt: &R, alloc: Global, lines: &[Line<'_>]) -> Result<String, Fault> {
     let table = Table {
         limit: 16384,
+        refused: 0,
         lines,
         letters: b"",
     };
@@ -154,6 +158,38 @@ fn an_abort_undoes_a_key_that_was_written_three_times(rt: HostRuntime) -> Result
         ("abort B", "at 24"),
     ];
     assert_eq!(rt; told(&rt, rt.alloc(), &lines)?.as_str(), "");
+    Ok(())
+}
+
+/// Each of three puts asks for a frame, and each undo. The second undo doesn't get one: the first stays, the transaction goes
+/// on with the two writes before it, and its commit keeps them.
+#[test]
+fn an_abort_refused_in_the_middle_leaves_what_may_be_committed(
+    rt: HostRuntime,
+) -> Result<(), Fail> {
+    let lines = [
+        ("begin A", "1"),
+        ("put A x 1", "was none at 4"),
+        ("put A x 2", "was = 1 at 7"),
+        ("put A x 3", "was = 2 at 10"),
+        ("abort A", "lacks memory"),
+        ("stat", "pages=1 pending=2 entries=11"),
+        ("get A x", "= 2 at 13"),
+        ("commit A", "1 at 15"),
+        ("stat", "pages=1 pending=0 entries=15"),
+        ("begin B", "2"),
+        ("put B x 4", "was = 2 at 19"),
+        ("abort B", "at 21"),
+        ("begin C", "3"),
+        ("get C x", "= 2 at 24"),
+    ];
+    let table = Table {
+        limit: 16384,
+        refused: 5,
+        lines: &lines,
+        letters: b"",
+    };
+    assert_eq!(rt; told_of(&rt, rt.alloc(), table)?.as_str(), "");
     Ok(())
 }
 
@@ -235,6 +271,7 @@ fn a_put_is_full_at_the_limit_and_an_abort_never_is(rt: HostRuntime) -> Result<(
     ];
     let table = Table {
         limit: 8,
+        refused: 0,
         lines: &lines,
         letters: b"",
     };
@@ -285,6 +322,7 @@ fn an_operator_is_refused_before_room_is_asked_for(rt: HostRuntime) -> Result<()
     ];
     let table = Table {
         limit: 8,
+        refused: 0,
         lines: &lines,
         letters: b"",
     };
@@ -332,6 +370,7 @@ fn a_put_that_lacks_memory_is_made_again(rt: HostRuntime) -> Result<(), Fail> {
     ];
     let table = Table {
         limit: 16384,
+        refused: 0,
         lines: &lines,
         letters: b"q",
     };

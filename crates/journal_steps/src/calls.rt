@@ -10,9 +10,9 @@ use wal_record::Entry;
 
 /// The rights to page 1 and to the sessions of a life.
 #[derive(Drop)]
-pub(crate) struct Hands<N: Life> {
-    pub(crate) page: Option<PageRight<N>>,
-    pub(crate) sessions: Vec<SessionRight<N>>,
+pub struct Hands<N: Life> {
+    pub page: Option<PageRight<N>>,
+    pub sessions: Vec<SessionRight<N>>,
 }
 
 /// Where the session of a transaction is.
@@ -29,7 +29,7 @@ fn place_of<N: Life>(sessions: &[SessionRight<N>], tx: TxId) -> Option<usize> {
 
 impl<N: Life> Hands<N> {
     /// Those of a life without sessions.
-    pub(crate) fn new(alloc: Global, page: Option<PageRight<N>>) -> Hands<N> {
+    pub fn new(alloc: Global, page: Option<PageRight<N>>) -> Hands<N> {
         Hands {
             page,
             sessions: Vec::new(alloc),
@@ -37,7 +37,7 @@ impl<N: Life> Hands<N> {
     }
 
     /// The right to the session of a transaction.
-    pub(crate) fn take(&mut self, tx: TxId) -> Option<SessionRight<N>> {
+    pub fn take(&mut self, tx: TxId) -> Option<SessionRight<N>> {
         let place = place_of(&self.sessions, tx)?;
         if place < self.sessions.len() {
             Some(self.sessions.swap_remove(place))
@@ -80,25 +80,6 @@ pub(crate) fn begin_one<N: Life, J: Journaling<N>, R: Wait>(
     begun
 }
 
-/// The session that has no transaction begins one.
-pub(crate) fn begin_by<N: Life, J: Journaling<N>, R: Wait>(
-    rt: &R,
-    alloc: Global,
-    journal: &mut J,
-    hands: &mut Hands<N>,
-    pass: &mut Pass<Entry, N>,
-) -> Result<TxId, Fault> {
-    let Some(mut s) = hands.take(0) else {
-        return Err(Fault::NotActive);
-    };
-    if s.tx() > 0 {
-        return Err(Fault::NotActive);
-    }
-    let begun = journal.begin(rt, alloc, &mut s, pass);
-    hands.sessions.push(s)?;
-    begun
-}
-
 /// A new session begins a transaction.
 pub(crate) fn begin<N: Life, J: Journaling<N>, R: Wait>(
     rt: &R,
@@ -129,7 +110,7 @@ pub(crate) fn begin_all<N: Life, J: Journaling<N>, R: Wait>(
 }
 
 /// Locks a range for the session's transaction.
-pub(crate) fn lock_by<N: Life, J: Journaling<N>, R: Wait>(
+pub fn lock_by<N: Life, J: Journaling<N>, R: Wait>(
     rt: &R,
     alloc: Global,
     journal: &mut J,
@@ -145,7 +126,7 @@ pub(crate) fn lock_by<N: Life, J: Journaling<N>, R: Wait>(
 }
 
 /// Locks a range for a transaction.
-pub(crate) fn lock_one<N: Life, J: Journaling<N>, R: Wait>(
+pub fn lock_one<N: Life, J: Journaling<N>, R: Wait>(
     rt: &R,
     alloc: Global,
     journal: &mut J,
@@ -179,7 +160,7 @@ pub(crate) fn lock<N: Life, J: Journaling<N>, R: Wait>(
 }
 
 /// Commits a transaction.
-pub(crate) fn commit_one<N: Life, J: Journaling<N>, R: Wait>(
+pub fn commit_one<N: Life, J: Journaling<N>, R: Wait>(
     rt: &R,
     journal: &mut J,
     hands: &mut Hands<N>,

@@ -1,7 +1,8 @@
 //! Groups that are entered.
-ghost use Rattle.std.specs.Prelude.{◌≡◌, List, IfOk, IfSome, IsTrue};
+ghost use Rattle.std.specs.Prelude.{◌≡◌, List, Some, None, IfOk, IfSome, IsTrue};
 ghost use Rattle.page_ops.specs.Claims.{IsInRange};
-ghost use Rattle.wal_record.specs.Rules.{HasSpelling, KeepsUndo, is_change, is_number};
+ghost use Rattle.page_ops.specs.Groups.{HasRights, IsGroup};
+ghost use Rattle.wal_record.specs.Rules.{HasSpelling, is_change, is_number};
 ghost use Rattle.wal_record.specs.declared.record.Record.{Record};
 
 use crate::answers::entered_text;
@@ -9,10 +10,10 @@ use crate::calls::Hands;
 use crate::groups::{absent, alone, applied, taken_back, written};
 use books::{PageRight, SessionRight};
 use front::Pass;
-use page_ops::{Entered, Journaling, Life, Rights};
+use page_ops::{Entered, Group, Journaling, Life, Rights};
 use std::alloc::Global;
 use std::sync::Wait;
-use store_model::{Fault, HIGHEST, Key, Lsn, MOST_PAGES, OpValue, TxId, Value};
+use store_model::{Fault, HIGHEST, Key, Lsn, MOST_PAGES, Memory, OpValue, TxId, Value};
 use wal_record::{End, Entry, Lost, Record, Restored, Undo};
 
 /// What became of a group, the LSN of its first record, and the rights.
@@ -31,126 +32,20 @@ fn is_in_range<N: Life>(page: &PageRight<N>) -> bool
     0 < number && number <= MOST_PAGES && 0 < lsn && lsn <= HIGHEST
 }
 
-/// A write of a key that has this value, by the session's transaction.
-fn put_by<N: Life, J: Journaling<N>, R: Wait>(
+/// Enters a group, if it could be made.
+fn enter_made<N: Life, J: Journaling<N>, R: Wait>(
     rt: &R,
     alloc: Global,
     journal: &mut J,
-    page: PageRight<N>,
-    s: SessionRight<N>,
-    write: Change<'_>,
+    made: Result<Group, Memory>,
+    mut rights: Rights<N>,
     pass: &mut Pass<Entry, N>,
 ) -> Came<N>
     requires untold { (opening : List Record) → N.opens opening → ⊥ }
-    requires page { IsInRange page }
-    requires number { IsTrue (is_number s.tx) }
-    requires change { IsTrue (is_change write.old.now write.new.now) }
+    requires group { IfOk made IsGroup }
+    requires rights { IfOk made (HasRights N.opens pass.old.log rights) }
 {
-    let mut rights = Rights::none();
-    let (session, tx, number) = (s.session(), s.tx(), page.page());
-    let made = written(alloc, session, tx, number, write.key, write.old, write.new);
-    rights.a = Some(page);
-    rights.s = Some(s);
     let Ok(mut group) = made else {
-        return Came {
-            entered: Err(Fault::Memory),
-            lsn: 0,
-            rights,
-        };
-    };
-    let entered = journal.enter(rt, alloc, &mut group, &mut rights, pass);
-    Came {
-        entered,
-        lsn: group.lsn,
-        rights,
-    }
-}
-
-/// An operator on a key that has this value, by the session's transaction.
-fn apply_by<N: Life, J: Journaling<N>, R: Wait>(
-    rt: &R,
-    alloc: Global,
-    journal: &mut J,
-    page: PageRight<N>,
-    s: SessionRight<N>,
-    asked: Operation<'_>,
-    pass: &mut Pass<Entry, N>,
-) -> Came<N>
-    requires untold { (opening : List Record) → N.opens opening → ⊥ }
-    requires page { IsInRange page }
-    requires number { IsTrue (is_number s.tx) }
-{
-    let mut rights = Rights::none();
-    let (session, tx, number) = (s.session(), s.tx(), page.page());
-    let (operator, argument) = (asked.operator, asked.argument);
-    let made = applied(
-        alloc, session, tx, number, asked.key, asked.old, operator, argument,
-    );
-    rights.a = Some(page);
-    rights.s = Some(s);
-    let Ok(mut group) = made else {
-        return Came {
-            entered: Err(Fault::Memory),
-            lsn: 0,
-            rights,
-        };
-    };
-    let entered = journal.enter(rt, alloc, &mut group, &mut rights, pass);
-    Came {
-        entered,
-        lsn: group.lsn,
-        rights,
-    }
-}
-
-/// Takes back a write of this page, by the right to its session if it is live.
-fn undo_by<N: Life, J: Journaling<N>, R: Wait>(
-    rt: &R,
-    alloc: Global,
-    journal: &mut J,
-    page: PageRight<N>,
-    s: Option<SessionRight<N>>,
-    undo: Undo,
-    pass: &mut Pass<Entry, N>,
-) -> Came<N>
-    requires untold { (opening : List Record) → N.opens opening → ⊥ }
-    requires page { IsInRange page }
-    requires same { page.page ≡ undo.page }
-    requires spelled { KeepsUndo undo }
-{
-    let mut rights = Rights::none();
-    rights.a = Some(page);
-    rights.s = s;
-    let Ok(mut group) = alone(alloc, Record::Undo(undo)) else {
-        return Came {
-            entered: Err(Fault::Memory),
-            lsn: 0,
-            rights,
-        };
-    };
-    let entered = journal.enter(rt, alloc, &mut group, &mut rights, pass);
-    Came {
-        entered,
-        lsn: group.lsn,
-        rights,
-    }
-}
-
-/// Ends a transaction, by the right to its session if it is live.
-fn end_by<N: Life, J: Journaling<N>, R: Wait>(
-    rt: &R,
-    alloc: Global,
-    journal: &mut J,
-    s: Option<SessionRight<N>>,
-    tx: TxId,
-    pass: &mut Pass<Entry, N>,
-) -> Came<N>
-    requires untold { (opening : List Record) → N.opens opening → ⊥ }
-    requires number { IsTrue (is_number tx) }
-{
-    let mut rights = Rights::none();
-    rights.s = s;
-    let Ok(mut group) = alone(alloc, Record::End(End { tx, prev: 0 })) else {
         return Came {
             entered: Err(Fault::Memory),
             lsn: 0,
@@ -178,10 +73,10 @@ fn come_back<N: Life>(alloc: Global, hands: &mut Hands<N>, came: Came<N>) -> Res
 
 /// What a put writes: a key that has a value, or none, and has another one then, or none.
 #[derive(Clone, Copy)]
-pub(crate) struct Change<'a> {
-    pub(crate) key: &'a Key,
-    pub(crate) old: &'a Option<Value>,
-    pub(crate) new: &'a Option<Value>,
+pub struct Change<'a> {
+    pub key: &'a Key,
+    pub old: &'a Option<Value>,
+    pub new: &'a Option<Value>,
 }
 
 /// What an operator is applied to, a key that has a value, or none, and its argument.
@@ -207,6 +102,17 @@ fn writer<N: Life>(hands: &mut Hands<N>, tx: TxId) -> Result<(PageRight<N>, Sess
     Ok((page, s))
 }
 
+/// The rights to the page and to the session.
+fn rights_of<N: Life>(page: PageRight<N>, s: SessionRight<N>) -> Rights<N>
+    requires page { IsInRange page }
+    ensures { result ≡ record { a = Some page; b = None; c = None; s = Some s; m = None } }
+{
+    let mut rights = Rights::none();
+    rights.a = Some(page);
+    rights.s = Some(s);
+    rights
+}
+
 /// Writes a key for a transaction.
 fn put_one<N: Life, J: Journaling<N>, R: Wait>(
     rt: &R,
@@ -221,7 +127,9 @@ fn put_one<N: Life, J: Journaling<N>, R: Wait>(
     requires change { IsTrue (is_change write.old.now write.new.now) }
 {
     let (page, s) = writer(hands, tx)?;
-    Ok(put_by(rt, alloc, journal, page, s, write, pass))
+    let (session, tx, number) = (s.session(), s.tx(), page.page());
+    let made = written(alloc, session, tx, number, write.key, write.old, write.new);
+    Ok(enter_made(rt, alloc, journal, made, rights_of(page, s), pass))
 }
 
 /// Writes a key for a transaction. What became of it as text.
@@ -254,12 +162,20 @@ pub(crate) fn apply<N: Life, J: Journaling<N>, R: Wait>(
     requires untold { (opening : List Record) → N.opens opening → ⊥ }
 {
     let (page, s) = writer(hands, tx)?;
-    let came = apply_by(rt, alloc, journal, page, s, asked, pass);
+    let (session, tx, number) = (s.session(), s.tx(), page.page());
+    let Operation {
+        key,
+        old,
+        operator,
+        argument,
+    } = asked;
+    let made = applied(alloc, session, tx, number, key, old, operator, argument);
+    let came = enter_made(rt, alloc, journal, made, rights_of(page, s), pass);
     come_back(alloc, hands, came)
 }
 
 /// Writes a key for a transaction. The LSN of its record, where it was entered and no other one came first.
-pub(crate) fn put_lsn<N: Life, J: Journaling<N>, R: Wait>(
+pub fn put_lsn<N: Life, J: Journaling<N>, R: Wait>(
     rt: &R,
     alloc: Global,
     journal: &mut J,
@@ -342,8 +258,11 @@ fn undo_write<N: Life, J: Journaling<N>, R: Wait>(
     if !is_in_range(&page) || page.page() != undo.page {
         return Err(Fault::NotActive);
     }
-    let s = hands.take(undo.tx);
-    let came = undo_by(rt, alloc, journal, page, s, undo, pass);
+    let mut rights = Rights::none();
+    rights.a = Some(page);
+    rights.s = hands.take(undo.tx);
+    let made = alone(alloc, Record::Undo(undo));
+    let came = enter_made(rt, alloc, journal, made, rights, pass);
     come_back(alloc, hands, came)
 }
 
@@ -402,8 +321,10 @@ pub(crate) fn end<N: Life, J: Journaling<N>, R: Wait>(
     if tx == 0 || HIGHEST < tx {
         return Err(Fault::NotActive);
     }
-    let s = hands.take(tx);
-    let came = end_by(rt, alloc, journal, s, tx, pass);
+    let mut rights = Rights::none();
+    rights.s = hands.take(tx);
+    let made = alone(alloc, Record::End(End { tx, prev: 0 }));
+    let came = enter_made(rt, alloc, journal, made, rights, pass);
     come_back(alloc, hands, came)
 }
 
@@ -416,10 +337,9 @@ pub(crate) fn lose<N: Life, J: Journaling<N>, R: Wait>(
 ) -> Result<String, Fault>
     requires untold { (opening : List Record) → N.opens opening → ⊥ }
 {
-    let mut group = alone(alloc, Record::Lost(Lost { pages: 0 }))?;
-    let mut rights = Rights::none();
-    let entered = journal.enter(rt, alloc, &mut group, &mut rights, pass);
-    entered_text(alloc, entered, group.lsn)
+    let made = alone(alloc, Record::Lost(Lost { pages: 0 }));
+    let came = enter_made(rt, alloc, journal, made, Rights::none(), pass);
+    entered_text(alloc, came.entered, came.lsn)
 }
 
 /// Says that the first segment is restored.
@@ -431,8 +351,7 @@ pub(crate) fn restore<N: Life, J: Journaling<N>, R: Wait>(
 ) -> Result<String, Fault>
     requires untold { (opening : List Record) → N.opens opening → ⊥ }
 {
-    let mut group = alone(alloc, Record::Restored(Restored { segment: 0 }))?;
-    let mut rights = Rights::none();
-    let entered = journal.enter(rt, alloc, &mut group, &mut rights, pass);
-    entered_text(alloc, entered, group.lsn)
+    let made = alone(alloc, Record::Restored(Restored { segment: 0 }));
+    let came = enter_made(rt, alloc, journal, made, Rights::none(), pass);
+    entered_text(alloc, came.entered, came.lsn)
 }

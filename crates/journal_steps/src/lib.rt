@@ -11,9 +11,9 @@ mod ended;
 mod entering;
 mod groups;
 mod refused;
-mod rounds;
 mod steps;
 
+pub use calls::{Hands, commit_one, lock_by, lock_one};
+pub use entering::{Change, put_lsn};
 pub use refused::{Made, put_and_commit};
-pub use rounds::{Deed, Rounds, put_in_rounds};
 pub use steps::{Line, Step, play};

@@ -47,7 +47,8 @@ pub(crate) const FULL_BY_OPERATORS: &[Line<'static>] = &[
     (Step::Apply(2, 1, "n", "10", "1"), "record 11 at 26"),
 ];
 
-/// The last of two writes is undone, as by an abort that is then refused, and the transaction commits.
+/// The last of two writes is undone, as by an abort that is then refused, and the transaction commits. engine_tests has the
+/// refusal.
 pub(crate) const UNDONE_IN_PART: &[Line<'static>] = &[
     (Step::Begin, "1 at 1"),
     (Step::Lock(1, Exclusive, "x"), "held at 2"),

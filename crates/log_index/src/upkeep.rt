@@ -9,7 +9,7 @@ ghost use Rattle.log_index.specs.Ready.{IsReadyFor};
 use crate::copies::copy_of_run;
 use std::alloc::{AllocError, Global};
 use std::mem;
-use store_model::Lsn;
+use store_model::{Lsn, SEGMENT_PAGES};
 use wal_record::{Record, Run, RunDone};
 
 #[derive(Drop)]
@@ -29,7 +29,7 @@ pub struct Upkeep {
 fn segments_of(alloc: Global, pages: u32) -> Result<Vec<u32>, AllocError>
     ensures { IfOk result (λ made. made.items ≡ segments pages) }
 {
-    let count = ((u64::from(pages) + 15) / 16) as u32;
+    let count = pages.div_ceil(SEGMENT_PAGES);
     (0..count).collect(alloc)
 }
 

@@ -55,12 +55,11 @@ pub fn new_log<L: Disk + Drop>(alloc: Global, disk: L, limit: u32) -> Result<Lis
 
 /// Places for so many pages, none of which is there.
 pub fn no_pages<N: Life>(alloc: Global, places: u32) -> Result<Frames<N>, Memory> {
-    let (mut frames, mut away) = (Vec::new(alloc), Vec::new(alloc));
+    let mut frames = Vec::new(alloc);
     for _ in 0..places {
         frames.push(None)?;
-        away.push(None)?;
     }
-    Ok(Frames::new(frames, away))
+    Ok(Frames::new(frames))
 }
 
 /// The right to a page whose last record is the log's first.

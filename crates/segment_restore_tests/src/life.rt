@@ -7,8 +7,7 @@ use front::Pass;
 use media_mem::MemPages;
 use page_ops::{Ground, Life, Tokens};
 use page_repair::OwnImages;
-use small_journal::Counts;
-use untold_journal::Untold;
+use untold_journal::{Counts, Untold};
 use wal_record::Entry;
 
 /// A journal, the device that takes the place of the lost one, and a first pass.

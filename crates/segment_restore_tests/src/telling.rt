@@ -5,12 +5,11 @@ use crate::log::{PAGES, head_of, record_of};
 use books::PageRight;
 use front::Pass;
 use page_ops::{Entered, Entering, Found, Ground, Group, Life, Listed, Rights};
-use small_journal::Counts;
 use std::alloc::Global;
 use std::marker::Model;
 use std::sync::Wait;
 use store_model::{Fault, Lsn, PageNo, Pos};
-use untold_journal::{Untold, alone_in};
+use untold_journal::{Counts, Untold, alone_in};
 use wal_record::{Entry, PageHead, Record, Restored, Run};
 
 /// What the journal tells, and what it refuses.

@@ -1,22 +1,14 @@
-//! Two small stores in memory behind the traits of `page_ops`. Their journal is that of `small_journal`.
+//! Small pages in memory behind the trait `Pages` of `page_ops`, for tests of trees and of requests over any journal.
 //!
-//! They are no part of the product. They show that the contracts of the traits can be met, by one thread that owns all
-//! and by threads that share it under locks. The tests work through them by the descents of `foster_tree`.
+//! They are no part of the product. There is no device: each page stays in memory, none is brought, and nothing is rebuilt.
 //!
-//! - [`Frames`] is a table of pages: each is in its frame, put away, or in somebody's hand.
-//! - [`OwnJournal`] and [`OwnPages`] belong to one thread. A [`Store`] is shared, by a [`JournalDesk`] and a [`PageDesk`]
-//!   for each thread. Both journals meet `Entering` and `Journaling`, each call of the desk by one hold of the lock.
+//! - [`Frames`] is a table of pages: each is in its frame or in hand.
+//! - [`OwnPages`] are such pages, which belong to one thread, and meet the trait. They may be told to refuse a new page's
+//!   frame.
 #![tactic(auto)]
 
 mod frames;
 mod own;
-mod shared;
 
 pub use frames::Frames;
-pub use own::{OwnJournal, OwnPages};
-pub use shared::{JournalDesk, PageDesk, Store};
-
-#[cfg(test)]
-mod commit_tests;
-#[cfg(test)]
-mod tests;
+pub use own::OwnPages;

@@ -1,226 +1,14 @@
-//! A store that one thread owns.
+//! Pages that one thread owns.
 ghost use Rattle.std.specs.Prelude.{◌≡◌};
 
 use crate::frames::Frames;
-use books::{PageRight, SessionRight};
 use foster_tree::see_page;
 use front::Pass;
-use page_ops::{
-    Committed, Entered, Entering, Found, Grant, Ground, Group, Held, Journaling, Life, Listed,
-    Pages, Rights, Survey, Taken, Work,
-};
-use small_journal::{Counts, History};
+use page_ops::{Entering, Held, Life, Pages, Rights, Taken};
 use std::alloc::Global;
 use std::sync::Wait;
-use store_model::{Fault, KeyRange, Lsn, Mode, PageNo, Pos, Request, TxId};
-use wal_record::{Entry, Record};
-
-/// A journal that one thread owns.
-#[derive(Drop)]
-pub struct OwnJournal<'a, N: Life> {
-    pub history: History<'a, N>,
-    pub counts: Counts<N>,
-}
-
-impl<'a, N: Life> Entering<N> for OwnJournal<'a, N> {
-    ghost account = { λ j. j.counts };
-
-    fn ground(&self) -> &Ground<N> {
-        self.history.ground()
-    }
-
-    fn log_faults(&self) -> u64 {
-        let _ = &self.counts.made;
-        0
-    }
-
-    fn vault_faults(&self) -> u64 {
-        let _ = &self.counts.made;
-        0
-    }
-
-    fn enter<R: Wait>(
-        &mut self,
-        _rt: &R,
-        _alloc: Global,
-        group: &mut Group,
-        rights: &mut Rights<N>,
-        pass: &mut Pass<Entry, N>,
-    ) -> Result<Entered, Fault> {
-        let OwnJournal { history, counts } = self;
-        history.enter(group, rights, pass, counts)
-    }
-
-    fn repaired<R: Wait>(
-        &mut self,
-        _rt: &R,
-        _alloc: Global,
-        _right: &PageRight<N>,
-        pass: &mut Pass<Entry, N>,
-    ) -> Result<Option<Pos>, Fault> {
-        let OwnJournal { history, counts } = self;
-        history.watch(pass, counts);
-        Err(Fault::Memory)
-    }
-
-    fn see<R: Wait>(&mut self, _rt: &R, rights: &mut Rights<N>, pass: &mut Pass<Entry, N>) {
-        let OwnJournal { history, counts } = self;
-        history.see(rights, pass, counts);
-    }
-
-    fn flush<R: Wait>(
-        &mut self,
-        _rt: &R,
-        _lsn: Lsn,
-        pass: &mut Pass<Entry, N>,
-    ) -> Result<(), Fault> {
-        let OwnJournal { history, counts } = self;
-        history.flush(pass, counts);
-        Ok(())
-    }
-
-    fn read<R: Wait>(
-        &mut self,
-        _rt: &R,
-        _alloc: Global,
-        _lsn: Lsn,
-        pass: &mut Pass<Entry, N>,
-    ) -> Result<Found, Fault> {
-        let OwnJournal { history, counts } = self;
-        history.watch(pass, counts);
-        Err(Fault::Memory)
-    }
-
-    fn listed<R: Wait>(
-        &mut self,
-        _rt: &R,
-        _page: PageNo,
-        pass: &mut Pass<Entry, N>,
-    ) -> Result<Listed, Fault> {
-        let OwnJournal { history, counts } = self;
-        history.watch(pass, counts);
-        Err(Fault::Memory)
-    }
-
-    fn pages<R: Wait>(&mut self, _rt: &R, pass: &mut Pass<Entry, N>) -> u32 {
-        let OwnJournal { history, counts } = self;
-        history.pages(pass, counts)
-    }
-
-    fn pending<R: Wait>(&mut self, _rt: &R, pass: &mut Pass<Entry, N>) -> u32 {
-        let OwnJournal { history, counts } = self;
-        history.pending(pass, counts)
-    }
-}
-
-impl<'a, N: Life> Journaling<N> for OwnJournal<'a, N> {
-    fn session<R: Wait>(
-        &mut self,
-        _rt: &R,
-        _alloc: Global,
-        pass: &mut Pass<Entry, N>,
-    ) -> Result<SessionRight<N>, Fault> {
-        let OwnJournal { history, counts } = self;
-        history.session(pass, counts)
-    }
-
-    fn begin<R: Wait>(
-        &mut self,
-        _rt: &R,
-        _alloc: Global,
-        s: &mut SessionRight<N>,
-        pass: &mut Pass<Entry, N>,
-    ) -> Result<TxId, Fault> {
-        let OwnJournal { history, counts } = self;
-        history.begin(s, pass, counts)
-    }
-
-    fn lock<R: Wait>(
-        &mut self,
-        _rt: &R,
-        _alloc: Global,
-        s: &mut SessionRight<N>,
-        _range: &KeyRange,
-        _mode: Mode,
-        pass: &mut Pass<Entry, N>,
-    ) -> Result<Grant, Fault> {
-        let OwnJournal { history, counts } = self;
-        history.watch_session(s, pass, counts);
-        Err(Fault::Memory)
-    }
-
-    fn last_open<R: Wait>(
-        &mut self,
-        _rt: &R,
-        _alloc: Global,
-        _tx: TxId,
-        pass: &mut Pass<Entry, N>,
-    ) -> Result<Option<Record>, Fault> {
-        let OwnJournal { history, counts } = self;
-        history.watch(pass, counts);
-        Err(Fault::Memory)
-    }
-
-    fn refuse<R: Wait>(
-        &mut self,
-        _rt: &R,
-        _alloc: Global,
-        s: &mut SessionRight<N>,
-        request: Request,
-        pass: &mut Pass<Entry, N>,
-    ) -> Result<Pos, Fault> {
-        let OwnJournal { history, counts } = self;
-        history.refuse(s, request, pass, counts)
-    }
-
-    fn commit<R: Wait>(
-        &mut self,
-        _rt: &R,
-        s: &mut SessionRight<N>,
-        pass: &mut Pass<Entry, N>,
-    ) -> Result<Committed, Fault> {
-        let OwnJournal { history, counts } = self;
-        Ok(history.commit(s, pass, counts))
-    }
-
-    fn survey<R: Wait>(
-        &mut self,
-        _rt: &R,
-        _alloc: Global,
-        pass: &mut Pass<Entry, N>,
-    ) -> Result<Survey, Fault> {
-        let OwnJournal { history, counts } = self;
-        history.watch(pass, counts);
-        Err(Fault::Memory)
-    }
-
-    fn work<R: Wait>(&mut self, _rt: &R, pass: &mut Pass<Entry, N>) -> Result<Work, Fault> {
-        let OwnJournal { history, counts } = self;
-        history.watch(pass, counts);
-        Err(Fault::Memory)
-    }
-
-    fn recycle<R: Wait>(&mut self, _rt: &R, pass: &mut Pass<Entry, N>) -> Result<Lsn, Fault> {
-        let OwnJournal { history, counts } = self;
-        Ok(history.recycle(pass, counts))
-    }
-
-    fn length<R: Wait>(&mut self, _rt: &R, pass: &mut Pass<Entry, N>) -> Pos {
-        let OwnJournal { history, counts } = self;
-        history.length(pass, counts)
-    }
-
-    fn ended<R: Wait>(&mut self, _rt: &R) -> Option<Lsn> {
-        let _ = &self.counts.made;
-        None
-    }
-
-    fn desk<R: Wait>(&mut self, _rt: &R, pass: &mut Pass<Entry, N>) -> Result<(), Fault> {
-        let OwnJournal { history, counts } = self;
-        history.desk(pass, counts);
-        Ok(())
-    }
-}
+use store_model::{Fault, PageNo};
+use wal_record::Entry;
 
 /// The pages of a store that one thread owns.
 #[derive(Drop)]
@@ -228,6 +16,8 @@ pub struct OwnPages<N: Life> {
     frames: Frames<N>,
     out: u32,
     reserves: bool,
+    /// How many frames may be asked for until one is refused, and that one; 0 where none is.
+    refused: u32,
 }
 
 impl<N: Life> OwnPages<N> {
@@ -239,7 +29,15 @@ impl<N: Life> OwnPages<N> {
             frames,
             out: 0,
             reserves: false,
+            refused: 0,
         }
+    }
+
+    /// Of the frames that are asked for from now on, the one of this number is refused, as if there were no memory for it.
+    pub fn refuse(&mut self, number: u32)
+        ensures out { self.new.out ≡ self.old.out }
+    {
+        self.refused = number;
     }
 }
 
@@ -274,20 +72,11 @@ impl<N: Life, J: Entering<N>> Pages<N, J> for OwnPages<N> {
         rt: &R,
         _alloc: Global,
         journal: &mut J,
-        page: PageNo,
+        _page: PageNo,
         pass: &mut Pass<Entry, N>,
     ) -> Result<(), Fault> {
-        match self.frames.fetch(page) {
-            Some(mut held) => {
-                see_page(rt, journal, &mut held, pass);
-                self.frames.put_back(held);
-                Ok(())
-            }
-            None => {
-                journal.see(rt, &mut Rights::none(), pass);
-                Err(Fault::Memory)
-            }
-        }
+        journal.see(rt, &mut Rights::none(), pass);
+        Err(Fault::Memory)
     }
 
     #[tactic(auto, using(page_ops::proofs::Gaining::upheld, page_ops::proofs::Gaining::looked))]
@@ -325,6 +114,11 @@ impl<N: Life, J: Entering<N>> Pages<N, J> for OwnPages<N> {
         pass: &mut Pass<Entry, N>,
     ) -> Result<(), Fault> {
         journal.see(rt, &mut Rights::none(), pass);
+        let refused = self.refused;
+        self.refused = refused.saturating_sub(1);
+        if refused == 1 {
+            return Err(Fault::Memory);
+        }
         self.reserves = true;
         Ok(())
     }

@@ -23,7 +23,7 @@ use Rattle.page_ops.specs.Seeing.{Account, Enters, HasTotals, IsMoment, Keeps, i
 use Rattle.page_ops.specs.declared.group.Group.{Group}
 use Rattle.page_ops.specs.declared.group.Said.{Said}
 use Rattle.page_ops.specs.declared.outcome.Entered.TheVariants.{At}
-use Rattle.small_journal.proofs.Keeping.{of_sessions_push}
+use Rattle.life_history.proofs.Keeping.{of_sessions_push}
 use Rattle.untold_journal.specs.Upkeep.{IsAloneIn, IsKept, IsUpkeep}
 
 untold_push : (h : List Entry) (e : Entry) → untold (h ++ e ∷ []) ≡ untold_step e

@@ -5,6 +5,8 @@
 //! entry of a group that has one such record alone.
 #![tactic(auto)]
 
+mod counts;
 mod untold;
 
+pub use counts::Counts;
 pub use untold::{Untold, alone_in};

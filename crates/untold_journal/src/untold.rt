@@ -8,10 +8,10 @@ ghost use Rattle.wal_record.specs.Legal.{untold};
 ghost use Rattle.page_ops.specs.Seeing.{Enters, HasTotals, Looks, known};
 ghost use Rattle.untold_journal.specs.Upkeep.{IsAloneIn, IsUpkeep};
 
+use crate::counts::Counts;
 use books::{Book, MaintBook, SessionBook};
 use front::{Added, Board, Front, Pass};
 use page_ops::{Entries, Ground, Group, Life, Rights, SessionEntries};
-use small_journal::Counts;
 use std::marker::{Brand, Model};
 use std::sync::ledger;
 use store_model::Lsn;

@@ -62,7 +62,6 @@ fn asked<N: Life, R: Wait>(
     requires untold { (opening : List Record) → N.opens opening → ⊥ }
     requires parts { (N.entries.parts ≡ 2) × (N.session_entries.parts ≡ 2) × (N.log_faults.parts ≡ 2) × (N.vault_faults.parts ≡ 2) × (N.made.parts ≡ 2) }
     requires front { tokens.front ≡ [] }
-    requires mark { tokens.mark ≡ 0 }
     requires pass { tokens.pass.log ≡ [] }
     requires pages { tokens.books.pages ≡ [] }
     requires sessions { tokens.books.sessions ≡ [] }

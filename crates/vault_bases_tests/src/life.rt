@@ -5,11 +5,11 @@ ghost use Rattle.wal_record.specs.declared.record.Record.{Record};
 use crate::telling::Telling;
 use books::MaintRight;
 use front::Pass;
+use life_history::{Counts, History};
 use media::Fuse;
 use media_mem::MemVault;
 use named_objects::OwnObjects;
 use page_ops::{Ground, Life, Tokens, VaultFaults};
-use small_journal::{Counts, History};
 use store_model::Lsn;
 use vault_bases::{Tally, VaultBases};
 use wal_record::Entry;
@@ -33,7 +33,6 @@ pub(crate) fn begin<'a, N: Life>(
     requires untold { (opening : List Record) → N.opens opening → ⊥ }
     requires parts { (N.entries.parts ≡ 2) × (N.session_entries.parts ≡ 2) × (N.log_faults.parts ≡ 2) × (N.vault_faults.parts ≡ 2) × (N.made.parts ≡ 2) }
     requires front { tokens.front ≡ [] }
-    requires mark { tokens.mark ≡ 0 }
     requires pass { tokens.pass.log ≡ [] }
     requires pages { tokens.books.pages ≡ [] }
     requires sessions { tokens.books.sessions ≡ [] }
@@ -41,7 +40,7 @@ pub(crate) fn begin<'a, N: Life>(
 {
     let Tokens {
         front,
-        mark,
+        mark: _,
         mut pass,
         mut books,
         entries,
@@ -61,16 +60,11 @@ pub(crate) fn begin<'a, N: Life>(
     let history = History::new(
         ground,
         front,
-        mark,
         books,
         entries_book,
         session_book,
         made_book,
         1,
-        1,
-        0,
-        0,
-        8,
         1,
     );
     let counts = Counts {
@@ -79,6 +73,8 @@ pub(crate) fn begin<'a, N: Life>(
         log_faults,
         vault_faults,
         made,
+        ended: None,
+        faults: 0,
     };
     let objects = OwnObjects::new(vault, right, pass.copy(&ground.board));
     let faults = Tally::new(faults_book, own_faults);

@@ -2,15 +2,16 @@
 
 use books::PageRight;
 use front::Pass;
+use life_history::{Counts, History};
 use page_ops::{Entered, Entering, Found, Ground, Group, Life, Listed, Rights};
-use small_journal::{Counts, History};
 use std::alloc::Global;
 use std::marker::Model;
 use std::sync::Wait;
 use store_model::{Fault, Lsn, PageNo, Pos};
 use wal_record::{Entry, PageHead};
 
-/// A small journal of a life of which no opening log is known. It tells of each page that this backup has it, at this LSN.
+/// A journal without records, of a life of which no opening log is known. It tells of each page that this backup has it, at this
+/// LSN, and for all that it would have to enter it says that it wants memory.
 #[derive(Drop)]
 pub(crate) struct Telling<'a, N: Life> {
     pub(crate) history: History<'a, N>,
@@ -20,14 +21,14 @@ pub(crate) struct Telling<'a, N: Life> {
 }
 
 impl<'a, N: Life> Model for Telling<'a, N> {
-    ghost use Rattle.page_ops.specs.Causes.{IsUntold};
+    ghost use Rattle.page_ops.specs.Causes.{IsOpen, IsUntold};
     ghost use Rattle.page_ops.specs.Seeing.{Account};
 
     ghost Value = { Account };
 
     ghost view = { λ j. j.counts };
 
-    ghost invariant = { λ j. IsUntold N.opens };
+    ghost invariant = { λ j. IsUntold N.opens × IsOpen j.counts };
 }
 
 impl<'a, N: Life> Entering<N> for Telling<'a, N> {
@@ -38,24 +39,23 @@ impl<'a, N: Life> Entering<N> for Telling<'a, N> {
     }
 
     fn log_faults(&self) -> u64 {
-        let _ = &self.counts.made;
-        0
+        self.counts.log_faults()
     }
 
     fn vault_faults(&self) -> u64 {
-        let _ = &self.counts.made;
-        0
+        self.counts.vault_faults()
     }
 
     fn enter<R: Wait>(
         &mut self,
         _rt: &R,
         _alloc: Global,
-        group: &mut Group,
+        _group: &mut Group,
         rights: &mut Rights<N>,
         pass: &mut Pass<Entry, N>,
     ) -> Result<Entered, Fault> {
-        self.history.enter(group, rights, pass, &mut self.counts)
+        self.history.see(rights, pass, &mut self.counts);
+        Err(Fault::Memory)
     }
 
     fn repaired<R: Wait>(
@@ -65,7 +65,7 @@ impl<'a, N: Life> Entering<N> for Telling<'a, N> {
         _right: &PageRight<N>,
         pass: &mut Pass<Entry, N>,
     ) -> Result<Option<Pos>, Fault> {
-        self.history.watch(pass, &mut self.counts);
+        self.history.look(pass, &mut self.counts);
         Err(Fault::Memory)
     }
 
@@ -79,7 +79,7 @@ impl<'a, N: Life> Entering<N> for Telling<'a, N> {
         _lsn: Lsn,
         pass: &mut Pass<Entry, N>,
     ) -> Result<(), Fault> {
-        self.history.flush(pass, &mut self.counts);
+        self.history.look(pass, &mut self.counts);
         Ok(())
     }
 
@@ -90,7 +90,7 @@ impl<'a, N: Life> Entering<N> for Telling<'a, N> {
         _lsn: Lsn,
         pass: &mut Pass<Entry, N>,
     ) -> Result<Found, Fault> {
-        self.history.watch(pass, &mut self.counts);
+        self.history.look(pass, &mut self.counts);
         Err(Fault::Memory)
     }
 
@@ -100,7 +100,7 @@ impl<'a, N: Life> Entering<N> for Telling<'a, N> {
         _page: PageNo,
         pass: &mut Pass<Entry, N>,
     ) -> Result<Listed, Fault> {
-        self.history.flush(pass, &mut self.counts);
+        self.history.look(pass, &mut self.counts);
         Ok(Listed {
             ends: PageHead {
                 head: 0,
@@ -114,10 +114,12 @@ impl<'a, N: Life> Entering<N> for Telling<'a, N> {
     }
 
     fn pages<R: Wait>(&mut self, _rt: &R, pass: &mut Pass<Entry, N>) -> u32 {
-        self.history.pages(pass, &mut self.counts)
+        self.history.look(pass, &mut self.counts);
+        0
     }
 
     fn pending<R: Wait>(&mut self, _rt: &R, pass: &mut Pass<Entry, N>) -> u32 {
-        self.history.pending(pass, &mut self.counts)
+        self.history.look(pass, &mut self.counts);
+        0
     }
 }

@@ -5,6 +5,7 @@ use Rattle.std.specs.List.{range_with_len}
 use Rattle.std.specs.Option.{option_map_or}
 use Rattle.store_model.specs.Along.{along}
 use Rattle.store_model.specs.Lists.{last_of}
+use Rattle.store_model.specs.declared.limits.TheConstants.{SEGMENT_PAGES}
 use Rattle.wal_record.specs.declared.analysis.Run.{Run}
 use Rattle.wal_record.specs.declared.record.PageLsn.{PageLsn}
 use Rattle.wal_record.specs.declared.record.RunDone.{RunDone}
@@ -24,9 +25,9 @@ written_lsn log p = along (λ before n r. written_step p n r) 0 log
 
 -- ---- backups
 
--- a segment is 16 neighbouring pages, counted from 0
+-- a segment is so many neighbouring pages, counted from 0
 abbrev pub segment_of : ℕ → ℕ
-segment_of page = (page - 1) / 16
+segment_of page = (page - 1) / SEGMENT_PAGES
 
 abbrev pub backup_number : Record → ℕ
 backup_number (kinds.BackupDone b) = b.backup
@@ -69,7 +70,7 @@ lost_pages log = along (λ before n r. lost_step n r) 0 log
 
 -- the segments that so many pages fill, rising
 abbrev pub segments : ℕ → List ℕ
-segments n = range_with_len 0 ((n + 15) / 16)
+segments n = range_with_len 0 ((n + (SEGMENT_PAGES - 1)) / SEGMENT_PAGES)
 
 abbrev pub unrestored_step : List ℕ → Record → List ℕ
 unrestored_step ss (kinds.Lost l) = segments l.pages
