@@ -71,6 +71,6 @@ pub(crate) fn restore_page<N: Life, J: Entering<N>, I: Images<N>, B: Bases<N, J>
     ensures refused { IfErr result (FailsToBring N.opens N.log_faults N.made (of_vault (B.vault_faults bases.old)) (of_vault (B.vault_faults bases.new)) (J.account journal.old) (J.account journal.new) pass.new.log) }
 {
     let base = bases.base(rt, alloc, journal, page, head, pass)?;
-    let sealed = rebuild_in_life(rt, alloc, journal, page, base, head, operators, pass)?;
+    let sealed = rebuild_in_life(rt, alloc, journal, bases, page, base, head, operators, pass)?;
     write_image(rt, journal, images, page, head, &sealed, pass)
 }
