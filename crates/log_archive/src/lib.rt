@@ -38,6 +38,7 @@ pub use laws::{merging_law, runs_law};
 pub use layout::RUN_BYTES;
 pub use making::{make_run, run_bytes};
 pub use merging::merge_runs;
+pub use name::run_name;
 pub use reads::Reads;
 pub use records::{items_of, records_in, records_of};
 pub use run_items::RunItems;

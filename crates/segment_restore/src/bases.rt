@@ -56,7 +56,7 @@ pub trait Bases<N: Life, J: Entering<N>> {
     ) -> Result<Record, Fault>
         requires run { IsFound N.opens pass.old.log lsn (founds.Run run) }
         requires named { IsHead N.opens pass.old.log page lsn }
-        ensures record { IfOk result (λ record. IsFound N.opens pass.new.log lsn (founds.Record record)) }
+        ensures found { IfOk result (λ r. IsFound N.opens pass.new.log lsn (founds.Record r)) }
         ensures faults { vault_faults self.old ≤ vault_faults self.new }
         ensures entered { Upholds N.opens N.entries N.session_entries is_none (known (J.account journal.old) pass.old no_claims) (known (J.account journal.new) pass.new no_claims) }
         ensures open { OnOk result (MeetsNoEnd (J.account journal.old) (J.account journal.new)) }

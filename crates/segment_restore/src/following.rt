@@ -34,7 +34,7 @@ fn record_at<N: Life, J: Entering<N>, B: Bases<N, J>, R: Wait>(
     pass: &mut Pass<Entry, N>,
 ) -> Result<Record, Fault>
     requires named { IsHead N.opens pass.old.log page lsn }
-    ensures record { IfOk result (λ record. IsFound N.opens pass.new.log lsn (founds.Record record)) }
+    ensures found { IfOk result (λ r. IsFound N.opens pass.new.log lsn (founds.Record r)) }
     ensures faults { B.vault_faults bases.old ≤ B.vault_faults bases.new }
     ensures entered { Upholds N.opens N.entries N.session_entries is_none (known (J.account journal.old) pass.old no_claims) (known (J.account journal.new) pass.new no_claims) }
     ensures open { OnOk result (MeetsNoEnd (J.account journal.old) (J.account journal.new)) }
