@@ -1,5 +1,5 @@
 //! The chain of a page, asked of the journal and of archive runs.
-ghost use Rattle.std.specs.Prelude.{◌≡◌, ◌≤◌, ◌<◌, List, Some, reverse, IfOk, IfErr, OnOk};
+ghost use Rattle.std.specs.Prelude.{◌≡◌, ◌≤◌, List, reverse, IfOk, IfErr, OnOk};
 ghost use Rattle.chain_laws.specs.Steps.{named_between, previous};
 ghost use Rattle.page_ops.specs.Causes.{FailsToBring, MeetsNoEnd};
 ghost use Rattle.page_ops.specs.Claims.{no_claims};

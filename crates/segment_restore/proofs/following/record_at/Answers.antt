@@ -2,7 +2,7 @@ use Rattle.std.proofs.Common.{◌≡◌, subst, arith}
 use Rattle.wal_record.specs.History.{life_log}
 use Rattle.page_ops.specs.Outcomes.{IsFound}
 use Rattle.page_ops.specs.declared.outcome.Found.TheVariants as founds
-use Rattle.segment_restore.proofs.Chains.{head_later, is_there, looks, open_then, read_fails, upheld_both}
+use Rattle.segment_restore.proofs.Chains.{head_later, is_there, looks, read_fails, upheld_both}
 use Rattle.segment_restore.proofs.Owned.{result_after}
 use Rattle.segment_restore.proofs.Segments.{open_met}
 use Rattle.segment_restore.proofs.following.record_at.Goals as goal
