@@ -7,13 +7,15 @@ use Rattle.std.proofs.lemmas.List.{length-drop, length-take}
 use Rattle.std.proofs.lemmas.List.Elements.{All-drop, All-head, All-nil, All-push, All-tail, All-take}
 use mathlib.Core.List.{IsPrefix}
 use Rattle.store_model.proofs.Bools.{both_true}
+use Rattle.store_model.specs.Along.{along}
 use Rattle.store_model.specs.declared.fault.Fault.{Fault}
 use Rattle.store_model.specs.declared.fault.Fault.TheVariants as faults
 use Rattle.store_model.specs.declared.object.ObjectName.{ObjectName}
 use Rattle.wal_record.specs.Chains.{names, names_at, record_with}
 use Rattle.wal_record.specs.History.{life_log, log_of}
-use Rattle.wal_record.specs.Rules.{HasSpelling, is_child, is_number, is_page}
+use Rattle.wal_record.specs.Rules.{HasSpelling, is_number, is_page}
 use Rattle.wal_record.specs.Sound.{AreLawful, IsLawful}
+use Rattle.wal_record.specs.State.{is_child}
 use Rattle.wal_record.specs.Upkeep.{runs_step, standing_runs}
 use Rattle.wal_record.specs.declared.analysis.Run.{Run}
 use Rattle.wal_record.specs.declared.entry.Entry.{Entry}
@@ -56,11 +58,11 @@ each_joined P (x ∷ xs) ys h k = (h.0, each_joined P xs ys h.1 k)
 
 each_left : (P : Run → Type 0) (f : Run → Bool) (xs : List Run) → EachRun P xs → EachRun P (filter f xs)
 each_left P f [] h = tt
-each_left P f (x ∷ xs) h = by (f x)
+each_left P f (x ∷ xs) h = by (f x) (each_left P f xs h.1)
   where
-    by : (b : Bool) → EachRun P (cond b (x ∷ filter f xs) (filter f xs))
-    by true = (h.0, each_left P f xs h.1)
-    by false = each_left P f xs h.1
+    by : (b : Bool) → EachRun P (filter f xs) → EachRun P (cond b (x ∷ filter f xs) (filter f xs))
+    by true rest = (h.0, rest)
+    by false rest = rest
 
 each_among : (P : Run → Type 0) (front : List Run) (x : Run) (back : List Run) → EachRun P (front ++ x ∷ back) → P x
 each_among P [] x back h = h.0
@@ -179,12 +181,12 @@ found_at page lsn (x ∷ xs) first (suc i) r is e named =
 -- ---- the record in the run
 
 -- the log has the record, and names the run's object, in which it stands
-record InRun (log : List Record) (run page lsn : ℕ) : Type 0 where
-  rec : Record
-  at : record_with log lsn ≡ Some rec
-  bytes : List ℕ
-  names_it : Names log (run_name run) bytes
-  has : length bytes < 2 ^ 32 → HasRecord run page lsn rec bytes
+pub record InRun (log : List Record) (run page lsn : ℕ) : Type 0 where
+  pub rec : Record
+  pub at : record_with log lsn ≡ Some rec
+  pub bytes : List ℕ
+  pub names_it : Names log (run_name run) bytes
+  pub has : length bytes < 2 ^ 32 → HasRecord run page lsn rec bytes
 
 some_number : (n : ℕ) → is_number n ≡ true → 1 ≤ n
 some_number n number = grind (arith, nat_tests)
@@ -249,6 +251,19 @@ module _ (log : List Record) (page lsn : ℕ) (run : Run) (lawful : AreLawful lo
 
 -- ---- what is answered of a run that was read
 
+ok_of : (result : Result Record Fault) (P Q : Record → Type 0) → ((r : Record) → result ≡ Ok r → P r → Q r) → IfOk result P → IfOk result Q
+ok_of (Ok x) P Q f p = f x refl p
+ok_of (Err e) P Q f p = tt
+
+err_of : (opens : List Record → Type 0) (result : Result Record Fault) (before after vault vault_now : ℕ) → ((object : ObjectName) (byte : ℕ) → result ≡ Err (faults.VaultBad object byte) → IsUntold opens) → IfErr result FailsToFind → IfErr result (FailsToGive opens before after vault vault_now)
+err_of opens (Ok x) before after vault vault_now untold e = tt
+err_of opens (Err f) before after vault vault_now untold e = by f untold e
+  where
+    by : (f : Fault) → ((object : ObjectName) (byte : ℕ) → ◌≡◌ {A = Result Record Fault} (Err f) (Err (faults.VaultBad object byte)) → IsUntold opens) → FailsToFind f → FailsToGive opens before after vault vault_now f
+    by faults.Memory untold e = tt
+    by (faults.VaultBad object byte) untold e = untold object byte refl
+    by _ untold e = absurd e
+
 module _ (opens : List Record → Type 0) (h now : List Entry) (page lsn : ℕ) (run : Run) (begins : IsPrefix h now) (consistent : IsConsistent opens now) (of : IsFound opens h lsn (founds.Run run)) (named : IsHead opens h page lsn)
     (name : ObjectName) (name_is : name ≡ run_name run.run) (got : List ℕ) (read : OfNamed opens h name (λ bytes. (got ≡ bytes) × (length bytes < 2 ^ 28))) (result : Result Record Fault)
     (found : (r : Record) → HasRecord run.run page lsn r got → GivesRecord r result) where
@@ -266,12 +281,18 @@ module _ (opens : List Record → Type 0) (h now : List Entry) (page lsn : ℕ) 
       found x.rec (subst (HasRecord run.run page lsn x.rec) (sym e.0) (x.has (omega (arith, short))))
 
   -- the record is the log's
-  pub found_in_run : (r : Record) → result ≡ Ok r → HasSpelling r → IsFound opens now lsn (founds.Record r)
+  found_in_run : (r : Record) → result ≡ Ok r → HasSpelling r → IsFound opens now lsn (founds.Record r)
   found_in_run r is spelled = (spelled, λ opening stands.
       let x = stands_there opening stands in
       let same : r ≡ x.rec = subst (GivesRecord x.rec) is (gives opening stands) in
       subst (λ (l : List Record). record_with l lsn ≡ Some r) (sym (longer opening h now begins)) (place_kept (life_log opening h) (log_of begins.0) lsn r (x.at ∙ ap Some (sym same))))
 
   -- a run that lacks it is in a life of which nothing is known
-  pub untold_run : (object : ObjectName) (byte : ℕ) → result ≡ Err (faults.VaultBad object byte) → IsUntold opens
+  untold_run : (object : ObjectName) (byte : ℕ) → result ≡ Err (faults.VaultBad object byte) → IsUntold opens
   untold_run object byte is opening stands = subst (GivesRecord (stands_there opening stands).rec) is (gives opening stands)
+
+  pub run_found : IfOk result HasSpelling → IfOk result (λ r. IsFound opens now lsn (founds.Record r))
+  run_found = ok_of result HasSpelling (λ r. IsFound opens now lsn (founds.Record r)) found_in_run
+
+  pub run_fails : (before after vault vault_now : ℕ) → IfErr result FailsToFind → IfErr result (FailsToGive opens before after vault vault_now)
+  run_fails before after vault vault_now = err_of opens result before after vault vault_now untold_run
