@@ -25,6 +25,7 @@ use Rattle.wal_record.specs.declared.record.RunDone.{RunDone}
 use Rattle.wal_record.proofs.Along.{AllAlong_less, by_pushes}
 use Rattle.wal_record.proofs.Pushes.{lawful_front, runs_push}
 use Rattle.chain_laws.proofs.Named.{at_place, item_taken, place_kept}
+use Rattle.log_archive.specs.Answers.{FailsToFind, HasNone}
 use Rattle.log_archive.specs.Items.{chunks_of, from_lsn, numbered, on_page, part}
 use Rattle.log_archive.specs.Run.{run_bytes, run_name}
 use Rattle.log_archive.specs.declared.item.Numbered.{Numbered}
@@ -39,7 +40,7 @@ use Rattle.named_objects.specs.Named.{Names}
 use Rattle.named_objects.specs.declared.naming.Naming.TheVariants as namings
 use Rattle.vault_bases.specs.Faults.{FailsToGive}
 use Rattle.vault_bases.specs.Named.{OfNamed}
-use Rattle.vault_bases.specs.Runs.{FailsToFind, GivesRecord, HasRecord}
+use Rattle.vault_bases.specs.Runs.{FailsToTake, GivesRecord, HasRecord}
 use Rattle.vault_bases.proofs.Keeping.{longer}
 
 -- ---- each run of a list
@@ -109,7 +110,7 @@ all_done = by_pushes (λ (log : List Record). AreLawful log → EachRun (WasDone
 
 -- ---- records
 
-some_is : (x r : Record) → ◌≡◌ {A = Option Record} (Some x) (Some r) → x ≡ r
+pub some_is : (x r : Record) → ◌≡◌ {A = Option Record} (Some x) (Some r) → x ≡ r
 some_is x r e = cc
 
 all_spelled : (log : List Record) → AreLawful log → All HasSpelling log
@@ -251,15 +252,26 @@ module _ (log : List Record) (page lsn : ℕ) (run : Run) (lawful : AreLawful lo
 
 -- ---- what is answered of a run that was read
 
+-- where no items are found there is none of this LSN
+pub lacks : (bad : ObjectName → ℕ → Type 0) (items : List Numbered) (x : Numbered) (behind : List Numbered) (r : Record) (f : Fault) → FailsToFind bad f → HasNone items f → items ≡ x ∷ behind → GivesRecord r (Err f)
+lacks bad items x behind r faults.Memory may none is = tt
+lacks bad items x behind r (faults.VaultBad object byte) may none is = let both : [] ≡ x ∷ behind = sym none ∙ is in absurd (cc both)
+lacks bad items x behind r _ may none is = absurd may
+
+pub fails_so : (bad : ObjectName → ℕ → Type 0) (f : Fault) → FailsToFind bad f → FailsToTake f
+fails_so bad faults.Memory may = tt
+fails_so bad (faults.VaultBad object byte) may = tt
+fails_so bad _ may = absurd may
+
 ok_of : (result : Result Record Fault) (P Q : Record → Type 0) → ((r : Record) → result ≡ Ok r → P r → Q r) → IfOk result P → IfOk result Q
 ok_of (Ok x) P Q f p = f x refl p
 ok_of (Err e) P Q f p = tt
 
-err_of : (opens : List Record → Type 0) (result : Result Record Fault) (before after vault vault_now : ℕ) → ((object : ObjectName) (byte : ℕ) → result ≡ Err (faults.VaultBad object byte) → IsUntold opens) → IfErr result FailsToFind → IfErr result (FailsToGive opens before after vault vault_now)
+err_of : (opens : List Record → Type 0) (result : Result Record Fault) (before after vault vault_now : ℕ) → ((object : ObjectName) (byte : ℕ) → result ≡ Err (faults.VaultBad object byte) → IsUntold opens) → IfErr result FailsToTake → IfErr result (FailsToGive opens before after vault vault_now)
 err_of opens (Ok x) before after vault vault_now untold e = tt
 err_of opens (Err f) before after vault vault_now untold e = by f untold e
   where
-    by : (f : Fault) → ((object : ObjectName) (byte : ℕ) → ◌≡◌ {A = Result Record Fault} (Err f) (Err (faults.VaultBad object byte)) → IsUntold opens) → FailsToFind f → FailsToGive opens before after vault vault_now f
+    by : (f : Fault) → ((object : ObjectName) (byte : ℕ) → ◌≡◌ {A = Result Record Fault} (Err f) (Err (faults.VaultBad object byte)) → IsUntold opens) → FailsToTake f → FailsToGive opens before after vault vault_now f
     by faults.Memory untold e = tt
     by (faults.VaultBad object byte) untold e = untold object byte refl
     by _ untold e = absurd e
@@ -294,5 +306,5 @@ module _ (opens : List Record → Type 0) (h now : List Entry) (page lsn : ℕ) 
   pub run_found : IfOk result HasSpelling → IfOk result (λ r. IsFound opens now lsn (founds.Record r))
   run_found = ok_of result HasSpelling (λ r. IsFound opens now lsn (founds.Record r)) found_in_run
 
-  pub run_fails : (before after vault vault_now : ℕ) → IfErr result FailsToFind → IfErr result (FailsToGive opens before after vault vault_now)
+  pub run_fails : (before after vault vault_now : ℕ) → IfErr result FailsToTake → IfErr result (FailsToGive opens before after vault vault_now)
   run_fails before after vault vault_now = err_of opens result before after vault vault_now untold_run

@@ -23,7 +23,7 @@ GivesRecord r (Err faults.Memory) = Unit {0}
 GivesRecord r (Err fault) = ⊥
 
 -- want of memory, or a bad object
-abbrev pub FailsToFind : Fault → Type 0
-FailsToFind faults.Memory = Unit {0}
-FailsToFind (faults.VaultBad object byte) = Unit {0}
-FailsToFind fault = ⊥
+abbrev pub FailsToTake : Fault → Type 0
+FailsToTake faults.Memory = Unit {0}
+FailsToTake (faults.VaultBad object byte) = Unit {0}
+FailsToTake fault = ⊥

@@ -10,7 +10,7 @@ ghost use Rattle.log_archive.specs.Run.{IsSpelled};
 ghost use Rattle.log_archive.specs.declared.item.Numbered.{Numbered};
 ghost use Rattle.vault_bases.specs.Faults.{FailsToGive};
 ghost use Rattle.vault_bases.specs.Named.{OfNamed};
-ghost use Rattle.vault_bases.specs.Runs.{FailsToFind, GivesRecord, HasRecord};
+ghost use Rattle.vault_bases.specs.Runs.{FailsToTake, GivesRecord, HasRecord};
 
 use crate::bases::VaultBases;
 use crate::reading::read_named;
@@ -82,7 +82,7 @@ pub(crate) fn record_in(
 ) -> Result<Record, Fault>
     ensures found { (r : Record) → HasRecord run page lsn r bytes.now → GivesRecord r result }
     ensures spelled { IfOk result HasSpelling }
-    ensures refused { IfErr result FailsToFind }
+    ensures refused { IfErr result FailsToTake }
 {
     let found = records_in(alloc, run, page, lsn, bytes)?;
     match first_at(found, lsn) {

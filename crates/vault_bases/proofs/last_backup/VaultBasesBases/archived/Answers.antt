@@ -1,7 +1,5 @@
-use Rattle.std.proofs.Common.{◌≡◌, ℕ, List, sym, subst, arith}
+use Rattle.std.proofs.Common.{sym, ◌∙◌}
 use Rattle.std.proofs.lemmas.Result.{err_from_is_err_and}
-use Rattle.vault_bases.specs.Faults.{FailsToGive}
-use Rattle.vault_bases.specs.Runs.{HasRecord, GivesRecord}
 use Rattle.vault_bases.proofs.Failing.{brings, own_cause, result_brings, result_cause}
 use Rattle.vault_bases.proofs.StandingRuns.{run_fails, run_found}
 use Rattle.vault_bases.proofs.last_backup.VaultBasesBases.archived.Goals as goal
@@ -19,19 +17,19 @@ returns-in_err-bytes-clause-cause g c =
 pub returns-clause-found : goal.returns-clause-found
 returns-clause-found g c =
     let u = c.read_whole.ensures.entered in
-    run_found g.N.Life.opens c.args.pass.now.log c.read_whole.new.pass.log c.args.page c.args.lsn c.args.run (u.gained, sym u.is) u.consistent c.requires.run c.requires.named c.run_name.result c.run_name.ensures c.in_ok-bytes.bytes.items c.in_ok-bytes.ensures.bytes
-    c.record_in.result (λ r has. c.record_in.ensures.found r (subst (HasRecord c.args.run.run c.args.page c.args.lsn r) (sym c.deref.ensures.value) has)) c.record_in.ensures.spelled
+    run_found g.N.Life.opens c.args.pass.now.log c.read_whole.new.pass.log c.args.page c.args.lsn c.args.run (u.gained, sym u.is) u.consistent c.requires.run c.requires.named c.run_name.result c.run_name.ensures
+    c.deref.result.now (λ opening bytes stands names. let e = c.in_ok-bytes.ensures.bytes opening bytes stands names in (c.deref.ensures.value ∙ e.0, e.1)) c.record_in.result c.record_in.ensures.found c.record_in.ensures.spelled
 
 pub returns-clause-refused : goal.returns-clause-refused
 returns-clause-refused g c =
     let u = c.read_whole.ensures.entered in
-    result_brings g.N.Life.opens g.N.Life.log_faults g.N.Life.made c.args.self.now.faults c.read_whole.new.bases.faults (g.O.Objects.faults c.args.self.now.objects) (g.O.Objects.faults c.read_whole.new.bases.objects) (g.J.Entering.account c.args.journal.now) (g.J.Entering.account c.read_whole.new.journal) c.read_whole.new.pass.log c.record_in.result c.read_whole.ensures.open
-    (run_fails g.N.Life.opens c.args.pass.now.log c.read_whole.new.pass.log c.args.page c.args.lsn c.args.run (u.gained, sym u.is) u.consistent c.requires.run c.requires.named c.run_name.result c.run_name.ensures c.in_ok-bytes.bytes.items c.in_ok-bytes.ensures.bytes
-    c.record_in.result (λ r has. c.record_in.ensures.found r (subst (HasRecord c.args.run.run c.args.page c.args.lsn r) (sym c.deref.ensures.value) has)) _ _ _ _ c.record_in.ensures.refused)
+    result_brings g.N.Life.opens g.N.Life.log_faults g.N.Life.made _ _ 0 0 _ _ _ c.record_in.result c.read_whole.ensures.open
+    (run_fails g.N.Life.opens c.args.pass.now.log c.read_whole.new.pass.log c.args.page c.args.lsn c.args.run (u.gained, sym u.is) u.consistent c.requires.run c.requires.named c.run_name.result c.run_name.ensures
+    c.deref.result.now (λ opening bytes stands names. let e = c.in_ok-bytes.ensures.bytes opening bytes stands names in (c.deref.ensures.value ∙ e.0, e.1)) c.record_in.result c.record_in.ensures.found _ _ 0 0 c.record_in.ensures.refused)
 
 pub returns-clause-cause : goal.returns-clause-cause
 returns-clause-cause g c =
     let u = c.read_whole.ensures.entered in
-    result_cause g.N.Life.opens c.args.self.now.faults c.read_whole.new.bases.faults (g.O.Objects.faults c.args.self.now.objects) (g.O.Objects.faults c.read_whole.new.bases.objects) c.record_in.result
-    (run_fails g.N.Life.opens c.args.pass.now.log c.read_whole.new.pass.log c.args.page c.args.lsn c.args.run (u.gained, sym u.is) u.consistent c.requires.run c.requires.named c.run_name.result c.run_name.ensures c.in_ok-bytes.bytes.items c.in_ok-bytes.ensures.bytes
-    c.record_in.result (λ r has. c.record_in.ensures.found r (subst (HasRecord c.args.run.run c.args.page c.args.lsn r) (sym c.deref.ensures.value) has)) _ _ _ _ c.record_in.ensures.refused)
+    result_cause g.N.Life.opens 0 0 _ _ c.record_in.result
+    (run_fails g.N.Life.opens c.args.pass.now.log c.read_whole.new.pass.log c.args.page c.args.lsn c.args.run (u.gained, sym u.is) u.consistent c.requires.run c.requires.named c.run_name.result c.run_name.ensures
+    c.deref.result.now (λ opening bytes stands names. let e = c.in_ok-bytes.ensures.bytes opening bytes stands names in (c.deref.ensures.value ∙ e.0, e.1)) c.record_in.result c.record_in.ensures.found 0 0 _ _ c.record_in.ensures.refused)
