@@ -32,3 +32,37 @@ loop-preserved g c =
       faults = let i = c.loop.invariant.faults in let j = c.read_named.ensures.faults in omega (arith, i, j);
       vault = let i = c.loop.invariant.vault in let j = c.read_named.ensures.vault in omega (arith, i, j);
     }
+
+pub returns-in_err-chunk-clause-entered : goal.returns-in_err-chunk-clause-entered
+returns-in_err-chunk-clause-entered g c = upheld_both _ _ _ _ _ _ _ _ _ c.loop.invariant.entered c.read_named.ensures.entered
+
+pub returns-in_err-chunk-clause-open : goal.returns-in_err-chunk-clause-open
+returns-in_err-chunk-clause-open g c = open_then _ _ _ c.loop.invariant.open_still c.read_named.ensures.open
+
+pub returns-in_err-chunk-clause-refused : goal.returns-in_err-chunk-clause-refused
+returns-in_err-chunk-clause-refused g c =
+    let p = err_from_is_err_and c.from_residual.result c.from_residual.ensures.1 in
+    rw (p.1, p.2) (gives_later _ _ _ _ _ _ _ _ c.loop.invariant.faults c.loop.invariant.vault c.in_err-chunk.ensures.refused)
+
+pub returns-in_err-extend_from_slice-clause-entered : goal.returns-in_err-extend_from_slice-clause-entered
+returns-in_err-extend_from_slice-clause-entered g c = upheld_both _ _ _ _ _ _ _ _ _ c.loop.invariant.entered c.read_named.ensures.entered
+
+pub returns-in_err-extend_from_slice-clause-open : goal.returns-in_err-extend_from_slice-clause-open
+returns-in_err-extend_from_slice-clause-open g c = open_then _ _ _ c.loop.invariant.open_still c.read_named.ensures.open
+
+pub returns-then-len-lt-CHUNK-clause-entered : goal.returns-then-len-lt-CHUNK-clause-entered
+returns-then-len-lt-CHUNK-clause-entered g c = upheld_both _ _ _ _ _ _ _ _ _ c.loop.invariant.entered c.read_named.ensures.entered
+
+pub returns-then-len-lt-CHUNK-clause-open : goal.returns-then-len-lt-CHUNK-clause-open
+returns-then-len-lt-CHUNK-clause-open g c = open_then _ _ _ c.loop.invariant.open_still c.read_named.ensures.open
+
+pub returns-then-len-lt-CHUNK-clause-bytes : goal.returns-then-len-lt-CHUNK-clause-bytes
+returns-then-len-lt-CHUNK-clause-bytes g c opening bytes stands named =
+    let u = c.loop.invariant.entered in
+    let v = c.read_named.ensures.entered in
+    let items : List ℕ = c.loop.bytes.items in
+    let place : c.len-from.result ≡ length items = omega arith in
+    let new : c.extend_from_slice.new.self.items ≡ items ++ c.in_ok-chunk.chunk.items = c.in_ok-extend_from_slice.ensures.items ∙ ap (λ (l : List ℕ). items ++ l) c.deref.ensures.value in
+    whole_read bytes items c.in_ok-chunk.chunk.items c.extend_from_slice.new.self.items c.len-from.result c.loop.counter place new (c.loop.invariant.front opening bytes stands named)
+    (c.in_ok-chunk.ensures.bytes opening bytes stands (names_later opening c.args.pass.now.log c.read_named.new.pass.log c.args.name bytes (prefix_trans _ _ _ (u.gained, sym u.is) (v.gained, sym v.is)) named))
+    (omega (arith, c.if-len-lt-CHUNK.true, c.len.ensures)) c.loop-test.true
