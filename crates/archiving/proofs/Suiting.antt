@@ -56,9 +56,9 @@ suits opening h w last fields lawful some next order ends room = record {
 
 -- the bytes of the items that were gathered, at a later moment
 pub tells : (opens : List Record → Type 0) (h now : List Entry) (run first last : ℕ) (g : Gathering) (bytes : List ℕ) → Gathered (IsLifeLog opens h) first (last + 1) g → 1 ≤ first → first ≤ last → ((opening : List Record) → opens opening → last ≤ length (life_log opening h)) → IsPrefix h now
-    → ((items : List Numbered) → HasItems g items → bytes ≡ run_bytes run first last (chunks_of items)) → length bytes < 2 ^ 32 → (opening : List Record) → opens opening → Tells (life_log opening now) (namings.Run (done run first last)) bytes
-tells opens h now run first last g bytes x one order there begins spelled short opening stands =
+    → ((items : List Numbered) → HasItems g items → bytes ≡ run_bytes run first last (chunks_of items)) → (opening : List Record) → opens opening → Tells (life_log opening now) (namings.Run (done run first last)) bytes
+tells opens h now run first last g bytes x one order there begins spelled opening stands =
     let told : x.records ≡ part first (last + 1) (life_log opening h) = x.told (life_log opening h) (opening, stands, refl) in
     let longer : life_log opening now ≡ life_log opening h ++ log_of begins.0 = ap (life_log opening) (sym begins.1) ∙ longer_log opening h begins.0 in
     let same : part first (last + 1) (life_log opening now) ≡ part first (last + 1) (life_log opening h) = ap (part first (last + 1)) longer ∙ part_later (life_log opening h) (log_of begins.0) first last one order (there opening stands) in
-    (spelled (numbered first x.records) x.items ∙ ap (λ (rs : List Record). run_bytes run first last (chunks_of (numbered first rs))) (told ∙ sym same), short)
+    spelled (numbered first x.records) x.items ∙ ap (λ (rs : List Record). run_bytes run first last (chunks_of (numbered first rs))) (told ∙ sym same)

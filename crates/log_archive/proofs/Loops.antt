@@ -1,14 +1,17 @@
 -- The loops that read items, one step on, at a fault, and at their end.
-use Rattle.std.proofs.Common.{◌≡◌, ◌≢◌, ℕ, suc, ◌+◌, ◌-◌, ◌*◌, ◌<◌, ◌≤◌, Bool, false, cond, eqb, List, [], ◌∷◌, ◌++◌, length, get_or, drop, Result, Ok, Err, sym, ap, ◌∙◌, arith}
+use Rattle.std.proofs.Common.{◌≡◌, ◌≢◌, ℕ, suc, ◌+◌, ◌-◌, ◌*◌, ◌<◌, ◌≤◌, Bool, true, false, cond, eqb, List, [], ◌∷◌, ◌++◌, length, get_or, drop, Result, Ok, Err, sym, ap, subst, ◌∙◌, arith}
 use Rattle.std.specs.Prelude.{if◌then◌else◌, nat_le}
+use Rattle.std.specs.List.{All}
 use Rattle.std.proofs.lemmas.Bool.Decides.{nat_tests}
 use Rattle.std.proofs.lemmas.List.{drop_more, drop_all, get_or_default}
+use Rattle.std.proofs.lemmas.List.Elements.{All-push}
 use Rattle.vault_objects.proofs.Numbers.{is_eq}
 use Rattle.wal_record.specs.Reading.{Read, ◌>>=◌}
 use Rattle.state_codec.specs.Gives.{Fails}
 use Rattle.state_codec.specs.declared.fault.FieldFault.{FieldFault}
 use Rattle.state_codec.specs.declared.fault.FieldFault.TheVariants.{Memory, Bad}
 use Rattle.log_archive.specs.Reading.{behind_items, chunk_at, chunks_at, collected, item_at}
+use Rattle.log_archive.specs.Run.{IsSpelled}
 use Rattle.log_archive.specs.declared.directory.Entry.{Entry}
 use Rattle.log_archive.specs.declared.directory.Head.{Head}
 use Rattle.log_archive.specs.declared.item.Numbered.{Numbered}
@@ -63,6 +66,14 @@ module _ (page last count i above : ℕ) (bytes : List ℕ) where
     pub collect_is_done : (total : Result (List Numbered) ℕ) → count ≤ i → collected page last from (count - i) above found bytes ≡ total → total ≡ Ok found
     unfolding collected
     collect_is_done total le so_far = let k : count - i ≡ 0 = omega arith in sym so_far ∙ ap (λ (n : ℕ). collected page last from n above found bytes) k
+
+-- an item more that has a spelling
+pub kept_spelled : (from : ℕ) (old now : List Numbered) (x : Numbered) → now ≡ (if nat_le from x.lsn then old ++ x ∷ [] else old) → IsSpelled x → All IsSpelled old → All IsSpelled now
+kept_spelled from old now x is spelled all = subst (All IsSpelled) (sym is) (by (nat_le from x.lsn))
+  where
+    by : (b : Bool) → All IsSpelled (if b then old ++ x ∷ [] else old)
+    by true = All-push IsSpelled old x all spelled
+    by false = all
 
 -- ---- the items of all pages
 

@@ -1,11 +1,13 @@
 //! The items of a run, read.
-ghost use Rattle.std.specs.Prelude.{◌≡◌, ◌++◌, ◌∷◌, [], nat_le, OnOk, IfErr, if◌then◌else◌};
+ghost use Rattle.std.specs.Prelude.{◌≡◌, ◌++◌, ◌∷◌, [], nat_le, OnOk, IfErr, IfOk, if◌then◌else◌};
 ghost use Rattle.std.specs.Int.{w64};
+ghost use Rattle.std.specs.List.{All};
 ghost use Rattle.wal_record.specs.Chains.{names};
 ghost use Rattle.wal_record.specs.Reading.{number_at, record_at};
 ghost use Rattle.state_codec.specs.Gives.{Gives};
 ghost use Rattle.state_codec.specs.declared.fault.FieldFault.TheVariants as faults;
 ghost use Rattle.log_archive.specs.Reading.{behind_items, collected, is_next_lsn, item_at, judged};
+ghost use Rattle.log_archive.specs.Run.{IsSpelled};
 
 use crate::item::Numbered;
 use record_codec::{RecordFault, decode};
@@ -50,7 +52,8 @@ fn judged(
     left: usize,
     bytes: &[u8],
 ) -> Result<(Numbered, &[u8]), FieldFault>
-    ensures { Gives (λ x. (x.0, x.1.now)) result (judged page lsn size left bytes.now (record_at bytes.now)) }
+    ensures read { Gives (λ x. (x.0, x.1.now)) result (judged page lsn size left bytes.now (record_at bytes.now)) }
+    ensures spelled { IfOk result (λ x. IsSpelled x.0) }
 {
     match decode(alloc, bytes) {
         Ok((rec, length)) => {
@@ -79,7 +82,8 @@ fn item_at(
     above: Lsn,
     bytes: &[u8],
 ) -> Result<(Numbered, &[u8]), FieldFault>
-    ensures { Gives (λ x. (x.0, x.1.now)) result (item_at page last above bytes.now) }
+    ensures read { Gives (λ x. (x.0, x.1.now)) result (item_at page last above bytes.now) }
+    ensures spelled { IfOk result (λ x. IsSpelled x.0) }
 {
     let (lsn, rest) = next_lsn_at(last, above, bytes)?;
     let (size, after) = u32_at(rest)?;
@@ -117,7 +121,8 @@ pub fn collect(
     above: Lsn,
     bytes: &[u8],
 ) -> Result<Vec<Numbered>, FieldFault>
-    ensures { Gives (λ x. x.items) result (collected page last from count above [] bytes.now) }
+    ensures read { Gives (λ x. x.items) result (collected page last from count above [] bytes.now) }
+    ensures spelled { IfOk result (λ found. All IsSpelled found.items) }
 {
     let mut found = Vec::new(alloc);
     let mut rest = bytes;

@@ -8,7 +8,8 @@
 //!
 //! What is promised: [`make_run`] leaves the synced object of exactly the records of its range that name a page. (By its
 //! code it reads each record once, and makes one put and one sync; no clause counts them.) [`records_of`] and
-//! [`items_of`] give of an object in its form the records of a page from an LSN on, and the number of bytes of its items.
+//! [`items_of`] give of an object in its form the records of a page from an LSN on, and the number of bytes of its items;
+//! [`records_in`] reads such records in bytes at hand.
 //! An object that isn't in its form is named with the start of its first faulty field, and one without the records that
 //! are asked for with its number of pages. [`merge_runs`] leaves the synced run of the joined range, page by page.
 //! [`runs_law`] ties them: what is made keeps the form, and has of each page the records that name it; by [`merging_law`]
@@ -37,6 +38,7 @@ pub use laws::{merging_law, runs_law};
 pub use layout::RUN_BYTES;
 pub use making::{make_run, run_bytes};
 pub use merging::merge_runs;
+pub use name::run_name;
 pub use reads::Reads;
-pub use records::{items_of, records_of};
+pub use records::{items_of, records_in, records_of};
 pub use run_items::RunItems;

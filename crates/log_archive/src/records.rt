@@ -1,5 +1,5 @@
 //! The records of a page are read.
-ghost use Rattle.std.specs.Prelude.{◌≡◌, ◌≢◌, ◌≤◌, ℕ, List, Ok, IfOk, IfErr, IsErrAnd, IsTrue, MatchOption, OnErr, OnOk, ◌++◌, ⊤};
+ghost use Rattle.std.specs.Prelude.{◌≡◌, ◌≢◌, ◌≤◌, ◌<◌, ◌^◌, ℕ, List, Ok, IfOk, IfErr, IsErrAnd, IsTrue, MatchOption, OnErr, OnOk, ◌++◌, ⊤};
 ghost use Rattle.std.specs.List.{All};
 ghost use Rattle.media.specs.Counted.{Blames};
 ghost use Rattle.media.specs.Objects.{SameObjects, bytes_of};
@@ -9,7 +9,7 @@ ghost use Rattle.vault_objects.specs.Causes.{FailsAtVault, IsVaultFault};
 ghost use Rattle.log_archive.specs.Answers.{FailsToFind, GivesItems, GivesSize, HasNone, IsBad, IsBadFor, IsEntryOf, IsFirstFault};
 ghost use Rattle.log_archive.specs.Items.{Chunk, from_lsn, items_on};
 ghost use Rattle.log_archive.specs.Reading.{run_at};
-ghost use Rattle.log_archive.specs.Run.{IsRun, run_name};
+ghost use Rattle.log_archive.specs.Run.{IsRun, IsSpelled, run_name};
 ghost use Rattle.log_archive.specs.declared.directory.Entry.{Entry};
 
 use crate::directory::{Entry, Outline};
@@ -45,7 +45,7 @@ pub fn records_of<V: Vault>(
     ensures fuse { Blames V.passes V.refused V.own vault.old vault.new (IsErrAnd result IsVaultFault) }
 {
     let bytes = read_object(alloc, vault, run_name(run))?;
-    match select(alloc, run, page, from, &bytes) {
+    match records_in(alloc, run, page, from, &bytes) {
         Ok(found) => append(out, found),
         Err(fault) => Err(fault),
     }
@@ -86,17 +86,19 @@ fn entry_of(entries: &[Entry], page: PageNo) -> Option<Entry>
     None
 }
 
-/// The items of the page from an LSN on, of which there is at least one.
-fn select(
+/// The records that name the page, from an LSN on and by rising LSN, of the run with these bytes: at least one. Bytes that are
+/// faulty are named with their first faulty field, and a run that has no such record with its number of pages.
+pub fn records_in(
     alloc: Global,
     run: u64,
     page: PageNo,
     from: Lsn,
     bytes: &[u8],
 ) -> Result<Vec<Numbered>, Fault>
-    requires run { IsTrue (is_number run) }
     ensures found { (first last : ℕ) (chunks : List Chunk) → IsRun run first last chunks bytes.now → IfOk result (λ found. found.items ≡ from_lsn from (items_on page chunks)) }
     ensures none { (first last : ℕ) (chunks : List Chunk) → IsRun run first last chunks bytes.now → IfErr result (HasNone (from_lsn from (items_on page chunks))) }
+    // Also of bytes that no run has.
+    ensures spelled { IfOk result (λ found. All IsSpelled found.items) }
     ensures refused { IfErr result (FailsToFind (IsBadFor ⊤ run page from bytes.now)) }
 {
     match outline_of(alloc, run, bytes) {
@@ -114,10 +116,10 @@ fn some_of_page(
     from: Lsn,
     bytes: &[u8],
 ) -> Result<Vec<Numbered>, Fault>
-    requires run { IsTrue (is_number run) }
     requires reads { run_at run bytes.now ≡ Ok outline.now }
     ensures found { (first last : ℕ) (chunks : List Chunk) → IsRun run first last chunks bytes.now → IfOk result (λ found. found.items ≡ from_lsn from (items_on page chunks)) }
     ensures none { (first last : ℕ) (chunks : List Chunk) → IsRun run first last chunks bytes.now → IfErr result (HasNone (from_lsn from (items_on page chunks))) }
+    ensures spelled { IfOk result (λ found. All IsSpelled found.items) }
     ensures refused { IfErr result (FailsToFind (IsBadFor ⊤ run page from bytes.now)) }
 {
     match items_of_page(alloc, outline, page, from, bytes) {
@@ -138,8 +140,9 @@ fn items_of_page(
     from: Lsn,
     bytes: &[u8],
 ) -> Result<Vec<Numbered>, Fault>
-    ensures found { (run first last : ℕ) (chunks : List Chunk) → IsRun run first last chunks bytes.now → IsTrue (is_number run) → run_at run bytes.now ≡ Ok outline.now
+    ensures found { (run first last : ℕ) (chunks : List Chunk) → IsRun run first last chunks bytes.now → run < 2 ^ 64 → run_at run bytes.now ≡ Ok outline.now
         → IfOk result (λ found. found.items ≡ from_lsn from (items_on page chunks)) }
+    ensures spelled { IfOk result (λ found. All IsSpelled found.items) }
     ensures memory { IfErr result (λ fault. fault ≡ faults.Memory) }
 {
     match entry_of(outline.entries.as_slice(), page) {

@@ -62,7 +62,7 @@ backup_one backup segment cs ds xs ys same x y = x.spelled ∙ ap (object_bytes 
 
 pub tells_one : (log : List Record) (n : Naming) (xs ys : List ℕ) → Tells log n xs → Tells log n ys → xs ≡ ys
 tells_one log (namings.Backup b) xs ys t u = backup_one b.backup b.segment t.0 u.0 xs ys (copies_one log b.pages t.0 u.0 t.1 u.1) t.2 u.2
-tells_one log (namings.Run d) xs ys t u = t.0 ∙ sym u.0
+tells_one log (namings.Run d) xs ys t u = t ∙ sym u
 
 -- ---- and so does each longer log
 
@@ -91,7 +91,7 @@ pub tells_later : (log more : List Record) (n : Naming) (bytes : List ℕ) → S
 tells_later log more (namings.Backup b) bytes s t = (t.0, copies_later log more b.pages t.0 s.upkeep.images t.1, t.2)
 tells_later log more (namings.Run d) bytes s t =
     let same = part_later log more d.first d.last (some_number d.first s.fields.first) s.upkeep.covers s.upkeep.ends in
-    (t.0 ∙ ap (λ (rs : List Record). run_bytes d.run d.first d.last (chunks_of (numbered d.first rs))) (sym same), t.1)
+    t ∙ ap (λ (rs : List Record). run_bytes d.run d.first d.last (chunks_of (numbered d.first rs))) (sym same)
 
 pub means_of : (opens : List Record → Type 0) (seen now : List Entry) (n : Naming) (bytes : List ℕ) → IsPrefix seen now → ((opening : List Record) → opens opening → Suits opening seen (record_of n))
     → ((opening : List Record) → opens opening → Tells (life_log opening seen) n bytes) → Means opens now n bytes

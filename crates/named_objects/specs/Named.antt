@@ -1,5 +1,5 @@
 -- The objects of the vault that a log names, and their bytes.
-use Rattle.std.specs.Prelude.{◌≡◌, ℕ, ◌+◌, ◌-◌, ◌^◌, ◌<◌, min, List, [], ◌∷◌, ◌++◌, length, take, drop}
+use Rattle.std.specs.Prelude.{◌≡◌, ℕ, ◌+◌, ◌-◌, min, List, [], ◌∷◌, ◌++◌, length, take, drop}
 use Rattle.media.specs.Objects.{Stored, Synced}
 use Rattle.store_model.specs.declared.object.ObjectName.{ObjectName}
 use Rattle.wal_record.specs.History.{life_log}
@@ -39,7 +39,7 @@ name_of (namings.Run d) = run_name d.run
 -- range that name pages
 abbrev pub Tells : List Record → Naming → List ℕ → Type 0
 Tells log (namings.Backup b) bytes = (copies : List PageCopy) × AreCopiesOf log b.pages copies × IsBackup b.backup b.segment copies bytes
-Tells log (namings.Run d) bytes = (bytes ≡ run_bytes d.run d.first d.last (chunks_of (numbered d.first (part d.first (d.last + 1) log)))) × (length bytes < 2 ^ 32)
+Tells log (namings.Run d) bytes = bytes ≡ run_bytes d.run d.first d.last (chunks_of (numbered d.first (part d.first (d.last + 1) log)))
 
 -- a record of the log says that the object is durable, with the bytes that the log before it determines
 pub record Names (log : List Record) (name : ObjectName) (bytes : List ℕ) : Type 0 where

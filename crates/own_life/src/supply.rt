@@ -19,7 +19,7 @@ use vault_bases::VaultBases;
 use wal_record::Entry;
 
 /// A supply of pages that are rebuilt from the image that is handed in, or from their last backup, or from nothing, and by what
-/// the log keeps. It owns the vault, and counts the vault's faults.
+/// the log and its archive runs keep. It owns the vault, and counts the vault's faults.
 #[derive(Drop)]
 pub struct LifeSupply<'a, V: Vault, N: Life> {
     pub(crate) operators: &'a Operators,
@@ -82,12 +82,14 @@ impl<'a, V: Vault, N: Life, J: Entering<N>> Supply<N, J> for LifeSupply<'a, V, N
         head: Lsn,
         pass: &mut Pass<Entry, N>,
     ) -> Result<Sealed, Fault> {
+        let operators = self.operators;
+        let bases = &mut self.bases;
         if base.is_some() {
-            return rebuild_in_life(rt, alloc, journal, page, base, head, self.operators, pass);
+            return rebuild_in_life(rt, alloc, journal, bases, page, base, head, operators, pass);
         }
-        let base = self.bases.base(rt, alloc, journal, page, head, pass)?;
+        let base = bases.base(rt, alloc, journal, page, head, pass)?;
         let base = sealed_of(base);
-        rebuild_in_life(rt, alloc, journal, page, base, head, self.operators, pass)
+        rebuild_in_life(rt, alloc, journal, bases, page, base, head, operators, pass)
     }
 }
 

@@ -15,8 +15,7 @@ use std::sync::Wait;
 use store_model::{Fault, Lsn, PageNo};
 use wal_record::Entry;
 
-/// A supply of pages that are rebuilt from their bases, or from nothing, and from what the log keeps. Archive runs aren't read
-/// yet.
+/// A supply of pages that are rebuilt from their bases, or from nothing, and from what the log and its archive runs keep.
 #[derive(Drop)]
 pub struct LogSupply<'a, B> {
     pub operators: &'a Operators,
@@ -72,11 +71,13 @@ impl<'a, N: Life, J: Entering<N>, B: Bases<N, J>> Supply<N, J> for LogSupply<'a,
         head: Lsn,
         pass: &mut Pass<Entry, N>,
     ) -> Result<Sealed, Fault> {
+        let operators = self.operators;
+        let bases = &mut self.bases;
         if base.is_some() {
-            return rebuild_in_life(rt, alloc, journal, page, base, head, self.operators, pass);
+            return rebuild_in_life(rt, alloc, journal, bases, page, base, head, operators, pass);
         }
-        let base = self.bases.base(rt, alloc, journal, page, head, pass)?;
+        let base = bases.base(rt, alloc, journal, page, head, pass)?;
         let base = sealed_of(base);
-        rebuild_in_life(rt, alloc, journal, page, base, head, self.operators, pass)
+        rebuild_in_life(rt, alloc, journal, bases, page, base, head, operators, pass)
     }
 }

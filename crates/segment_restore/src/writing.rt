@@ -68,10 +68,11 @@ fn bytes_of(page: PageNo, head: Lsn, image: &Base) -> PageBytes
 
 /// The page's logged image at this head: its base, where no record of the page came since, or else what is rebuilt from that, or
 /// from nothing.
-fn image_at<N: Life, J: Entering<N>, R: Wait>(
+fn image_at<N: Life, J: Entering<N>, B: Bases<N, J>, R: Wait>(
     rt: &R,
     alloc: Global,
     journal: &mut J,
+    bases: &mut B,
     page: PageNo,
     base: Option<Base>,
     head: Lsn,
@@ -82,9 +83,10 @@ fn image_at<N: Life, J: Entering<N>, R: Wait>(
     requires head { IsHead N.opens pass.old.log page head }
     ensures rebuilt { IfOk result (λ image. IsRebuilt N.opens pass.new.log page head image.sealed) }
     ensures bytes { IfOk result (λ image. IfSome image.bytes (λ bytes. bytes ≡ image_bytes page head image.sealed.state)) }
+    ensures faults { B.vault_faults bases.old ≤ B.vault_faults bases.new }
     ensures entered { Upholds N.opens N.entries N.session_entries is_none (known (J.account journal.old) pass.old no_claims) (known (J.account journal.new) pass.new no_claims) }
     ensures open { OnOk result (MeetsNoEnd (J.account journal.old) (J.account journal.new)) }
-    ensures refused { IfErr result (FailsToBring N.opens N.log_faults N.made no_faults no_faults (J.account journal.old) (J.account journal.new) pass.new.log) }
+    ensures refused { IfErr result (FailsToBring N.opens N.log_faults N.made (of_vault (B.vault_faults bases.old)) (of_vault (B.vault_faults bases.new)) (J.account journal.old) (J.account journal.new) pass.new.log) }
 {
     match base {
         Some(base) if base.sealed.lsn == head => {
@@ -93,7 +95,8 @@ fn image_at<N: Life, J: Entering<N>, R: Wait>(
         }
         older => {
             let base = sealed_of(older);
-            let sealed = rebuild_in_life(rt, alloc, journal, page, base, head, operators, pass)?;
+            let sealed =
+                rebuild_in_life(rt, alloc, journal, bases, page, base, head, operators, pass)?;
             Ok(Base {
                 sealed,
                 bytes: None,
@@ -124,6 +127,6 @@ pub(crate) fn restore_page<N: Life, J: Entering<N>, I: Images<N>, B: Bases<N, J>
     ensures refused { IfErr result (FailsToBring N.opens N.log_faults N.made (of_vault (B.vault_faults bases.old)) (of_vault (B.vault_faults bases.new)) (J.account journal.old) (J.account journal.new) pass.new.log) }
 {
     let base = bases.base(rt, alloc, journal, page, head, pass)?;
-    let image = image_at(rt, alloc, journal, page, base, head, operators, pass)?;
+    let image = image_at(rt, alloc, journal, bases, page, base, head, operators, pass)?;
     write_image(rt, journal, images, page, head, &image, pass)
 }

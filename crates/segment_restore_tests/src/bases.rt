@@ -1,8 +1,8 @@
-//! Images as a backup would have them.
+//! Images as a backup would have them, and records as runs would.
 ghost use Rattle.std.specs.Prelude.{◌≡◌, IfSome};
 ghost use Rattle.wal_record.specs.State.{KeepsState};
 
-use crate::log::{FIRST, MADE, state_of};
+use crate::log::{FIRST, MADE, record_of, state_of};
 use crate::telling::Telling;
 use front::Pass;
 use page_image::Sealed;
@@ -11,12 +11,13 @@ use segment_restore::{Base, Bases};
 use std::alloc::Global;
 use std::sync::Wait;
 use store_model::{Fault, Lsn, PageNo};
-use wal_record::Entry;
+use wal_record::{Entry, Record, Run};
 
-/// The images of both pages behind the Split, if a backup has them.
+/// The images of both pages behind the Split, if a backup has them, and the log's records, if runs have them.
 #[derive(Drop)]
 pub(crate) struct BehindSplit {
     pub(crate) has_both: bool,
+    pub(crate) has_runs: bool,
 }
 
 /// The page behind the Split.
@@ -54,6 +55,26 @@ impl<'a, N: Life> Bases<N, Telling<'a, N>> for BehindSplit {
                 sealed,
                 bytes: None,
             })),
+            None => Err(Fault::Memory),
+        }
+    }
+    #[tactic(auto, using(page_ops::proofs::Gaining::upheld))]
+    fn archived<R: Wait>(
+        &mut self,
+        _rt: &R,
+        alloc: Global,
+        journal: &mut Telling<'a, N>,
+        _run: Run,
+        _page: PageNo,
+        lsn: Lsn,
+        pass: &mut Pass<Entry, N>,
+    ) -> Result<Record, Fault> {
+        journal.history.watch(pass, &mut journal.counts);
+        if !self.has_runs {
+            return Err(Fault::Memory);
+        }
+        match record_of(alloc, lsn) {
+            Some(record) => Ok(record),
             None => Err(Fault::Memory),
         }
     }

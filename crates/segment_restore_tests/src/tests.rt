@@ -38,6 +38,8 @@ struct Case {
     tells: Tells,
     /// Whether a backup has both pages.
     has_backup: bool,
+    /// Whether a run has what the log has forgotten.
+    has_runs: bool,
 }
 
 /// What a step answers.
@@ -162,6 +164,7 @@ fn life<N: Life, R: Wait>(
 {
     let bases = BehindSplit {
         has_both: case.has_backup,
+        has_runs: case.has_runs,
     };
     let (ground, tokens) = unnamed.split::<N>();
     let begun = begin(&ground, tokens, device, case.tells);
@@ -235,6 +238,7 @@ const READY: Case = Case {
         refuse_at: 0,
     },
     has_backup: false,
+    has_runs: false,
 };
 
 fn forgetting(forgotten: Lsn) -> Tells {
@@ -284,6 +288,31 @@ fn a_lost_segment_comes_back_page_by_page(rt: HostRuntime) -> Result<(), Fail> {
                 ..READY
             },
             Seen { reads: 1, ..BACK },
+        ),
+        // Runs have it: the first records, or all.
+        (
+            Case {
+                tells: forgetting(2),
+                has_runs: true,
+                ..READY
+            },
+            BACK,
+        ),
+        (
+            Case {
+                tells: forgetting(5),
+                has_runs: true,
+                ..READY
+            },
+            BACK,
+        ),
+        (
+            Case {
+                tells: forgetting(4),
+                has_runs: true,
+                ..rebuild
+            },
+            REBUILT,
         ),
         (rebuild, REBUILT),
         (

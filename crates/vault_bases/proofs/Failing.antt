@@ -30,11 +30,20 @@ brings opens log_faults made before now vault vault_now a b h faults.VaultFault 
 brings opens log_faults made before now vault vault_now a b h (faults.VaultBad object byte) none e = (none, e)
 brings opens log_faults made before now vault vault_now a b h _ none e = absurd e
 
+pub result_brings : {T : Type 0} (opens : List Record → Type 0) (log_faults made : LedgerName) (before now vault vault_now : ℕ) (a b : Account) (h : List Entry) (r : Result T Fault) → MeetsNoEnd a b → IfErr r (FailsToGive opens before now vault vault_now)
+    → IfErr r (FailsToBring opens log_faults made (of_vault before) (of_vault now) a b h)
+result_brings opens log_faults made before now vault vault_now a b h (Ok x) none e = tt
+result_brings opens log_faults made before now vault vault_now a b h (Err f) none e = brings opens log_faults made before now vault vault_now a b h f none e
+
 pub own_cause : (opens : List Record → Type 0) (before now vault vault_now : ℕ) (f : Fault) → FailsToGive opens before now vault vault_now f → IsOfVault vault vault_now f
 own_cause opens before now vault vault_now faults.Memory e = tt
 own_cause opens before now vault vault_now faults.VaultFault e = e.1
 own_cause opens before now vault vault_now (faults.VaultBad object byte) e = tt
 own_cause opens before now vault vault_now _ e = absurd e
+
+pub result_cause : {T : Type 0} (opens : List Record → Type 0) (before now vault vault_now : ℕ) (r : Result T Fault) → IfErr r (FailsToGive opens before now vault vault_now) → IfErr r (IsOfVault vault vault_now)
+result_cause opens before now vault vault_now (Ok x) e = tt
+result_cause opens before now vault vault_now (Err f) e = own_cause opens before now vault vault_now f e
 
 -- the journal tells no fault of the vault
 pub no_cause : (vault vault_now : ℕ) (f : Fault) → FailsToEnter NoOther f → IsOfVault vault vault_now f

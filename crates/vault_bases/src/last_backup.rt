@@ -1,8 +1,10 @@
-//! A page's image from its last backup.
+//! A page's image from its last backup, and its record from an archive run.
 ghost use Rattle.std.specs.Prelude.{◌≤◌, List, IfErr, IfNone, IfOk, IfSome, OnOk};
 ghost use Rattle.page_ops.specs.Causes.{FailsToBring, MeetsNoEnd};
 ghost use Rattle.page_ops.specs.Claims.{no_claims};
 ghost use Rattle.page_ops.specs.Seeing.{Upholds, is_none, known};
+ghost use Rattle.page_ops.specs.Outcomes.{IsFound};
+ghost use Rattle.page_ops.specs.declared.outcome.Found.TheVariants as founds;
 ghost use Rattle.segment_restore.specs.Based.{IsBased};
 ghost use Rattle.segment_restore.specs.Faults.{of_vault};
 ghost use Rattle.wal_record.specs.History.{life_log};
@@ -12,8 +14,10 @@ ghost use Rattle.vault_bases.specs.Last.{HasNone, WasLast};
 
 use crate::bases::VaultBases;
 use crate::copies::find_copy;
+use crate::runs::{read_whole, record_in};
 use backup_set::object_of;
 use front::Pass;
+use log_archive::run_name;
 use named_objects::Objects;
 use page_ops::{Entering, Life};
 use segment_restore::{Base, Bases};
@@ -21,7 +25,7 @@ use std::alloc::Global;
 use std::sync::Wait;
 use std::sync::ledger::Ledger;
 use store_model::{Fault, Lsn, PageNo};
-use wal_record::Entry;
+use wal_record::{Entry, Record, Run};
 
 impl<N: Life, J: Entering<N>, O: Objects<N>, L: Ledger> Bases<N, J> for VaultBases<O, L> {
     ghost vault_faults = { λ b. b.faults };
@@ -68,5 +72,27 @@ impl<N: Life, J: Entering<N>, O: Objects<N>, L: Ledger> Bases<N, J> for VaultBas
             });
         }
         Ok(Some(copy))
+    }
+    /// The record that the run's object has. It reads the whole object. In a life whose opening log is known the run has it.
+    fn archived<R: Wait>(
+        &mut self,
+        rt: &R,
+        alloc: Global,
+        journal: &mut J,
+        run: Run,
+        page: PageNo,
+        lsn: Lsn,
+        pass: &mut Pass<Entry, N>,
+    ) -> Result<Record, Fault>
+        ensures found { IfOk result (λ r. IsFound N.opens pass.new.log lsn (founds.Record r)) }
+        ensures faults { self.old.faults ≤ self.new.faults }
+        ensures vault { O.faults self.old.objects ≤ O.faults self.new.objects }
+        ensures cause { IfErr result (IsOfVault (O.faults self.old.objects) (O.faults self.new.objects)) }
+        ensures entered { Upholds N.opens N.entries N.session_entries is_none (known (J.account journal.old) pass.old no_claims) (known (J.account journal.new) pass.new no_claims) }
+        ensures open { MeetsNoEnd (J.account journal.old) (J.account journal.new) }
+        ensures refused { IfErr result (FailsToBring N.opens N.log_faults N.made (of_vault self.old.faults) (of_vault self.new.faults) (J.account journal.old) (J.account journal.new) pass.new.log) }
+    {
+        let bytes = read_whole(rt, alloc, journal, self, run_name(run.run), pass)?;
+        record_in(alloc, run.run, page, lsn, &bytes)
     }
 }

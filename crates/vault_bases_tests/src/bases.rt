@@ -70,7 +70,7 @@ fn asked<N: Life, R: Wait>(
         mut journal,
         mut bases,
         mut pass,
-    } = begin(ground, tokens, vault, case.backup, case.lsn);
+    } = begin(ground, tokens, vault, case.backup, case.lsn, 0);
     let found = bases.base(rt, alloc, &mut journal, case.page, case.head, &mut pass);
     let faults = Bases::<N, Telling<N>>::vault_faults(&bases);
     (answer_of(found), faults)
@@ -109,7 +109,7 @@ fn given<R: Wait>(
     calls: Option<u64>,
     case: Case,
 ) -> Result<(Answer, u64), Fail> {
-    match vault_with(alloc, bytes, calls) {
+    match vault_with(alloc, name(), bytes, calls) {
         Some(vault) => Ok(told(rt, alloc, vault, case)?),
         None => Err(Fail::new("no vault")),
     }

@@ -22,13 +22,14 @@ pub(crate) struct Begun<'a, N: Life> {
     pub(crate) pass: Pass<Entry, N>,
 }
 
-/// A life whose journal tells of each page that this backup has it, at this LSN.
+/// A life whose journal tells of each page that this backup has it, at this LSN, and that a run has the records up to another one.
 pub(crate) fn begin<'a, N: Life>(
     ground: &'a Ground<N>,
     tokens: Tokens<N>,
     vault: Fuse<MemVault>,
     backup: u64,
     lsn: Lsn,
+    archived: Lsn,
 ) -> Begun<'a, N>
     requires untold { (opening : List Record) → N.opens opening → ⊥ }
     requires parts { (N.entries.parts ≡ 2) × (N.session_entries.parts ≡ 2) × (N.log_faults.parts ≡ 2) × (N.vault_faults.parts ≡ 2) × (N.made.parts ≡ 2) }
@@ -84,6 +85,7 @@ pub(crate) fn begin<'a, N: Life>(
             counts,
             backup,
             lsn,
+            archived,
         },
         bases: VaultBases { objects, faults },
         pass,

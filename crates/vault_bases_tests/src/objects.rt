@@ -1,4 +1,4 @@
-//! Objects of backups, and vaults that hold one.
+//! Objects of backups, and vaults that hold an object.
 ghost use Rattle.std.specs.Prelude.{IfSome};
 ghost use Rattle.wal_record.specs.State.{KeepsState};
 
@@ -12,6 +12,9 @@ use wal_record::{PageState, Rows};
 
 /// The number of the backup.
 pub(crate) const BACKUP: u64 = 7;
+
+/// The number of the run.
+pub(crate) const RUN: u64 = 5;
 
 /// The letters, the number of the backup, and the segment 0.
 const FRONT: &[u8] = b"BAK1\0\0\0\0\0\0\0\x07\0\0\0\0";
@@ -64,11 +67,12 @@ pub(crate) fn object(alloc: Global, has: u32, lsn: Lsn) -> Option<Vec<u8>> {
 /// A vault with the object, which passes so many calls more, or all.
 pub(crate) fn vault_with(
     alloc: Global,
+    name: ObjectName,
     bytes: &[u8],
     calls: Option<u64>,
 ) -> Option<Fuse<MemVault>> {
     let mut vault = Fuse::new(MemVault::new(alloc));
-    vault.put(name(), bytes).ok()?;
+    vault.put(name, bytes).ok()?;
     if let Some(calls) = calls {
         vault.arm(calls);
     }

@@ -1,5 +1,6 @@
-//! A journal that tells what last backup each page has.
+//! A journal that tells what last backup each page has, and which records a run has.
 
+use crate::objects::RUN;
 use books::PageRight;
 use front::Pass;
 use life_history::{Counts, History};
@@ -8,16 +9,18 @@ use std::alloc::Global;
 use std::marker::Model;
 use std::sync::Wait;
 use store_model::{Fault, Lsn, PageNo, Pos};
-use wal_record::{Entry, PageHead};
+use wal_record::{Entry, PageHead, Run};
 
 /// A journal without records, of a life of which no opening log is known. It tells of each page that this backup has it, at this
-/// LSN, and for all that it would have to enter it says that it wants memory.
+/// LSN, and of each record up to an LSN that a run has it. For all that it would have to enter it says that it wants memory.
 #[derive(Drop)]
 pub(crate) struct Telling<'a, N: Life> {
     pub(crate) history: History<'a, N>,
     pub(crate) counts: Counts<N>,
     pub(crate) backup: u64,
     pub(crate) lsn: Lsn,
+    /// The last LSN that the run has, 0 for none.
+    pub(crate) archived: Lsn,
 }
 
 impl<'a, N: Life> Model for Telling<'a, N> {
@@ -87,11 +90,18 @@ impl<'a, N: Life> Entering<N> for Telling<'a, N> {
         &mut self,
         _rt: &R,
         _alloc: Global,
-        _lsn: Lsn,
+        lsn: Lsn,
         pass: &mut Pass<Entry, N>,
     ) -> Result<Found, Fault> {
         self.history.look(pass, &mut self.counts);
-        Err(Fault::Memory)
+        if lsn > self.archived {
+            return Err(Fault::Memory);
+        }
+        Ok(Found::Run(Run {
+            run: RUN,
+            first: 1,
+            last: self.archived,
+        }))
     }
 
     fn listed<R: Wait>(

@@ -1,4 +1,4 @@
-use Rattle.std.proofs.Common.{◌≡◌, ◌^◌, ◌<◌, ◌≤◌, ℕ, List, length, refl, sym, subst, ◌∙◌, arith}
+use Rattle.std.proofs.Common.{◌≡◌, ◌^◌, ◌<◌, ◌≤◌, refl, sym, ◌∙◌, arith}
 use Rattle.std.proofs.lemmas.Bool.Decides.{nat_tests}
 use Rattle.std.proofs.lemmas.Result.{err_from_is_err_and}
 use Rattle.front.proofs.Keeping.{prefix_trans}
@@ -52,7 +52,7 @@ name_object-requires-clause-tells g c =
     let within = c.in_ok-items.ensures.range.1 in
     let value = c.deref.ensures.value in
     tells g.N.Life.opens c.args.pass.now.log c.last_named.new.pass.log c.args.waiting.now.run c.args.waiting.now.first c.in_ok-items.last c.in_ok-items.items c.deref.result.now c.in_ok-items.ensures.gathered c.requires.numbers.0 c.in_ok-items.ensures.range.0
-    (λ opening stands. let there = c.requires.there opening stands in omega (arith, within, there)) begins (λ items has. value ∙ c.in_ok-bytes.ensures.spelled items has) (subst (λ (l : List ℕ). length l < 2 ^ 32) (sym value) c.in_ok-bytes.ensures.short)
+    (λ opening stands. let there = c.requires.there opening stands in omega (arith, within, there)) begins (λ items has. value ∙ c.in_ok-bytes.ensures.spelled items has)
 
 pub returns-in_err-lsn-clause-entered : goal.returns-in_err-lsn-clause-entered
 returns-in_err-lsn-clause-entered g c =

@@ -1,4 +1,4 @@
-use Rattle.std.proofs.Common.{◌≡◌, ◌≢◌, ◌++◌, List, reverse}
+use Rattle.std.proofs.Common.{◌≡◌, ◌≢◌, ◌≤◌, ◌++◌, List, reverse}
 use mathlib.Core.List.{IsPrefix}
 use Rattle.wal_record.specs.History.{life_log}
 use Rattle.wal_record.specs.declared.record.Record.{Record}
@@ -18,6 +18,7 @@ invariant-loop-lsn g l = record {
   begins : IsPrefix l.fn.pass.log l.pass.log;
   entered : Upholds g.N.Life.opens g.N.Life.entries g.N.Life.session_entries is_none (known (g.J.Entering.account l.fn.journal) l.fn.pass no_claims) (known (g.J.Entering.account l.journal) l.pass no_claims);
   open_still : MeetsNoEnd (g.J.Entering.account l.fn.journal) (g.J.Entering.account l.journal);
+  faults : g.B.Bases.vault_faults l.fn.bases ≤ g.B.Bases.vault_faults l.bases;
 }
 
 abbrev pub decreases-loop-lsn : goal.decreases-loop-lsn

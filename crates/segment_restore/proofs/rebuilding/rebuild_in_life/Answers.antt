@@ -1,6 +1,7 @@
-use Rattle.std.proofs.Common.{sym}
+use Rattle.std.proofs.Common.{sym, arith}
 use Rattle.std.proofs.lemmas.Result.{err_from_is_err_and}
-use Rattle.segment_restore.proofs.Chains.{base_keeps, base_later, fails_then, head_later, looks, made, open_then, rebuilt_later, untold_if_none, untold_if_not, upheld_both}
+use Rattle.segment_restore.proofs.Chains.{base_keeps, base_later, head_later, looks, made, open_then, rebuilt_later, untold_if_none, untold_if_not, upheld_both}
+use Rattle.segment_restore.proofs.Owned.{fails_after}
 use Rattle.segment_restore.proofs.rebuilding.rebuild_in_life.Goals as goal
 
 pub follow-requires : goal.follow-requires
@@ -47,7 +48,7 @@ returns-in_err-records-clause-entered g c = upheld_both _ _ _ _ _ _ _ _ _ (looks
 pub returns-in_err-records-clause-refused : goal.returns-in_err-records-clause-refused
 returns-in_err-records-clause-refused g c =
     let p = err_from_is_err_and c.from_residual.result c.from_residual.ensures.1 in
-    rw (p.1, p.2) (fails_then _ _ _ _ _ _ _ _ _ c.see.ensures.calm.end c.see.ensures.seen.keeps c.in_err-records.ensures.refused)
+    rw (p.1, p.2) (fails_after g.N.Life.opens g.N.Life.log_faults g.N.Life.made _ _ _ _ _ _ c.see.ensures.calm.end c.see.ensures.seen.keeps _ _ (omega arith) c.in_err-records.ensures.refused)
 
 pub returns-in_err-replay-clause-entered : goal.returns-in_err-replay-clause-entered
 returns-in_err-replay-clause-entered g c = upheld_both _ _ _ _ _ _ _ _ _ (looks _ _ _ _ _ _ _ _ _ c.see.ensures.seen) c.follow.ensures.entered

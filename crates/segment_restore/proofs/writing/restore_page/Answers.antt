@@ -3,7 +3,7 @@ use Rattle.std.proofs.lemmas.Result.{err_from_is_err_and}
 use Rattle.front.proofs.Keeping.{prefix_trans}
 use Rattle.page_ops.proofs.Gaining.{keeps_then}
 use Rattle.segment_restore.proofs.Chains.{head_later, open_then, upheld_both}
-use Rattle.segment_restore.proofs.Owned.{fails_behind_own, result_behind_own}
+use Rattle.segment_restore.proofs.Owned.{fails_after, result_behind_own}
 use Rattle.segment_restore.proofs.Segments.{open_behind}
 use Rattle.segment_restore.proofs.Written.{head_image}
 use Rattle.segment_restore.specs.Faults.{no_faults}
@@ -26,7 +26,7 @@ returns-in_err-image-clause-entered g c = upheld_both _ _ _ _ _ _ _ _ _ c.base.e
 pub returns-in_err-image-clause-refused : goal.returns-in_err-image-clause-refused
 returns-in_err-image-clause-refused g c =
     let p = err_from_is_err_and c.from_residual-in_err-image.result c.from_residual-in_err-image.ensures.1 in
-    rw (p.1, p.2) (fails_behind_own g.N.Life.opens g.N.Life.log_faults g.N.Life.made _ _ _ _ _ _ c.in_ok-base.ensures.open c.base.ensures.entered.keeps _ c.in_err-image.ensures.refused)
+    rw (p.1, p.2) (fails_after g.N.Life.opens g.N.Life.log_faults g.N.Life.made _ _ _ _ _ _ c.in_ok-base.ensures.open c.base.ensures.entered.keeps _ _ c.base.ensures.faults c.in_err-image.ensures.refused)
 
 pub returns-clause-entered : goal.returns-clause-entered
 returns-clause-entered g c = upheld_both _ _ _ _ _ _ _ _ _ (upheld_both _ _ _ _ _ _ _ _ _ c.base.ensures.entered c.image_at.ensures.entered) c.write_image.ensures.entered

@@ -1,6 +1,6 @@
 use Rattle.std.proofs.Common.{sym}
 use Rattle.segment_restore.proofs.Chains.{based, head_later, upheld_both}
-use Rattle.segment_restore.proofs.Owned.{result_behind_own}
+use Rattle.segment_restore.proofs.Owned.{result_after}
 use Rattle.own_life.proofs.supply.LifeSupplySupply.rebuilt.Goals as goal
 
 pub rebuild_in_life-requires-2-clause-head : goal.rebuild_in_life-requires-2-clause-head
@@ -16,5 +16,5 @@ returns-clause-entered g c = upheld_both _ _ _ _ _ _ _ _ _ c.base.ensures.entere
 
 pub returns-clause-refused : goal.returns-clause-refused
 returns-clause-refused g c =
-    result_behind_own g.N.Life.opens g.N.Life.log_faults g.N.Life.made c.args.self.now.bases.faults c.base.new.self.faults (g.J.Entering.account c.args.journal.now) (g.J.Entering.account c.base.new.journal) (g.J.Entering.account c.rebuild_in_life-2.new.journal)
-    c.rebuild_in_life-2.new.pass.log c.in_ok-base.ensures.open c.base.ensures.entered.keeps c.rebuild_in_life-2.result c.rebuild_in_life-2.ensures.refused
+    result_after g.N.Life.opens g.N.Life.log_faults g.N.Life.made c.args.self.now.bases.faults c.base.new.self.faults (g.J.Entering.account c.args.journal.now) (g.J.Entering.account c.base.new.journal) (g.J.Entering.account c.rebuild_in_life-2.new.journal)
+    c.rebuild_in_life-2.new.pass.log c.in_ok-base.ensures.open c.base.ensures.entered.keeps _ c.rebuild_in_life-2.result c.base.ensures.faults c.rebuild_in_life-2.ensures.refused
