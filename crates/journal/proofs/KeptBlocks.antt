@@ -1,6 +1,6 @@
 -- The durable blocks of the log: with which LSN they begin, what joins them, and what goes.
-use Rattle.std.proofs.Common.{◌≡◌, ℕ, ◌<◌, ◌≤◌, List, [], ◌∷◌, ◌++◌, get_or, drop, refl, sym, ap, ◌∙◌, subst, arith, append-nil, append_assoc}
-use Rattle.std.specs.Prelude.{map}
+use Rattle.std.proofs.Common.{◌≡◌, ℕ, ◌<◌, ◌≤◌, List, [], ◌∷◌, ◌++◌, length, get_or, drop, refl, sym, ap, ◌∙◌, subst, arith, append-nil}
+use Rattle.std.specs.Prelude.{Result, Ok, Err, OnOk, OnErr, map, min}
 use mathlib.Core.List.{IsPrefix}
 use Rattle.log_blocks.specs.Log.{Block}
 use Rattle.log_blocks.specs.LogState.{LogState, durable_lsn}
@@ -8,7 +8,11 @@ use Rattle.log_blocks.specs.declared.header.Place.{Place}
 use Rattle.log_manager.specs.Managed.{before_lsn, first_kept}
 use Rattle.page_ops.specs.declared.outcome.Found.{Found}
 use Rattle.page_ops.specs.declared.outcome.Found.TheVariants as founds
+use Rattle.store_model.specs.declared.fault.Fault.{Fault}
+use Rattle.wal_record.specs.Checkpoints.{recycle_point}
+use Rattle.wal_record.specs.History.{life_log}
 use Rattle.wal_record.specs.declared.analysis.Run.{Run}
+use Rattle.wal_record.specs.declared.entry.Entry.{Entry}
 use Rattle.wal_record.specs.declared.record.Record.{Record}
 use Rattle.journal.specs.Lookups.{IsFoundBehind}
 use Rattle.journal.specs.State.{BeginsWith, KeepsBlocks, Recycles}
@@ -51,10 +55,42 @@ keeps_flushed opens old mid new is begins rises = subst (λ (ps : List Place). K
 
 -- ---- those that go
 
--- behind a flush of all records
-pub recycles : (point : ℕ) (old mid new : List Place) → IsPrefix old mid → durable_lsn old ≤ durable_lsn mid → new ≡ drop (before_lsn point mid) mid → durable_lsn mid ≤ durable_lsn new → Recycles point old new
-recycles point old mid new begins rises left later = record {
-  more = begins.0;
-  left = left ∙ ap (λ (ps : List Place). drop (before_lsn point ps) ps) (sym begins.1);
-  rises = omega (arith, rises, later);
-}
+module _ {A : Type 0} (opens : List Record → Type 0) (r : Result A Fault) where
+  -- what is told of the log's own records and blocks, told of those that the pass has seen and of the journal's
+  pub forgot : (h seen : List Entry) (was old new : List Place) → seen ≡ h → was ≡ old → (opening : List Record) → (length (life_log opening h) ≤ durable_lsn was → OnOk r (new ≡ drop (before_lsn (recycle_point (life_log opening h)) was) was))
+      → length (life_log opening seen) ≤ durable_lsn old → OnOk r (new ≡ drop (before_lsn (recycle_point (life_log opening seen)) old) old)
+  forgot h seen was old new same is opening left = subst (λ (z : List Entry × List Place). length (life_log opening z.0) ≤ durable_lsn z.1 → OnOk r (new ≡ drop (before_lsn (recycle_point (life_log opening z.0)) z.1) z.1)) (λ i. (sym same i, is i)) left
+
+  -- behind a flush of all records
+  module _ (old mid new : List Place) (keeps : KeepsBlocks opens old mid) where
+    pub recycled : (h seen later : List Entry) → seen ≡ h → later ≡ h → (last : ℕ) → ((opening : List Record) → opens opening → last ≡ length (life_log opening h))
+        → ((opening : List Record) → opens opening → min last (length (life_log opening seen)) ≤ durable_lsn mid)
+        → ((opening : List Record) → opens opening → length (life_log opening later) ≤ durable_lsn mid → OnOk r (new ≡ drop (before_lsn (recycle_point (life_log opening later)) mid) mid))
+        → ((opening : List Record) → opens opening → durable_lsn mid ≤ durable_lsn new) → OnOk r ((opening : List Record) → opens opening → Recycles (recycle_point (life_log opening later)) old new)
+    recycled h seen later same still last is stable left rises = by r left
+      where
+        all : (opening : List Record) → opens opening → length (life_log opening later) ≤ durable_lsn mid
+        all opening stands =
+            let one = is opening stands in
+            let two = stable opening stands in
+            let three = ap (λ (l : List Entry). length (life_log opening l)) same in
+            let four = ap (λ (l : List Entry). length (life_log opening l)) still in
+            omega (arith, one, two, three, four)
+
+        by : (x : Result A Fault) → ((opening : List Record) → opens opening → length (life_log opening later) ≤ durable_lsn mid → OnOk x (new ≡ drop (before_lsn (recycle_point (life_log opening later)) mid) mid)) → OnOk x ((opening : List Record) → opens opening → Recycles (recycle_point (life_log opening later)) old new)
+        by (Err fault) left = tt
+        by (Ok y) left = λ opening stands.
+            let lower = keeps.rises opening stands in
+            let higher = rises opening stands in
+            record {
+              more = keeps.begins.0;
+              left = left opening stands (all opening stands) ∙ ap (λ (ps : List Place). drop (before_lsn (recycle_point (life_log opening later)) ps) ps) (sym keeps.begins.1);
+              rises = omega (arith, lower, higher);
+            }
+
+    pub kept_refused : OnErr r (new ≡ mid) → OnErr r (KeepsBlocks opens old new)
+    kept_refused = by r
+      where
+        by : (x : Result A Fault) → OnErr x (new ≡ mid) → OnErr x (KeepsBlocks opens old new)
+        by (Ok y) same = tt
+        by (Err fault) same = subst (KeepsBlocks opens old) (sym same) keeps

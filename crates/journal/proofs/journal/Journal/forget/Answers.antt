@@ -1,3 +1,13 @@
+use Rattle.std.proofs.Common.{◌≡◌, ◌≤◌, ℕ, List, length, drop, sym, ap, ◌∙◌, subst}
+use Rattle.log_blocks.specs.LogState.{durable_lsn}
+use Rattle.log_blocks.specs.declared.header.Place.{Place}
+use Rattle.log_manager.specs.Managed.{before_lsn}
+use Rattle.std.specs.Prelude.{OnOk}
+use Rattle.wal_record.specs.Checkpoints.{recycle_point}
+use Rattle.wal_record.specs.History.{life_log}
+use Rattle.wal_record.specs.declared.entry.Entry.{Entry}
+use Rattle.journal.proofs.Calls.{blocks_is}
+use Rattle.journal.proofs.KeptBlocks.{forgot}
 use Rattle.journal.proofs.Ending.{told_stops, stopped_ends}
 use Rattle.journal.proofs.Living.{kept_call}
 use Rattle.journal.proofs.Losing.{losers_same}
