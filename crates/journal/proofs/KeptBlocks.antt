@@ -55,6 +55,12 @@ keeps_flushed opens old mid new is begins rises = subst (λ (ps : List Place). K
 
 -- ---- those that go
 
+pub on_done : {A P : Type 0} (r : Result A Fault) (x : A) → r ≡ Ok x → P → OnOk r P
+on_done {A} {P} r x is p = subst (λ (y : Result A Fault). OnOk y P) (sym is) p
+
+pub on_failed : {A P : Type 0} (r : Result A Fault) (fault : Fault) → r ≡ Err fault → OnOk r P
+on_failed {A} {P} r fault is = subst (λ (y : Result A Fault). OnOk y P) (sym is) tt
+
 module _ {A : Type 0} (opens : List Record → Type 0) (r : Result A Fault) where
   -- what is told of the log's own records and blocks, told of those that the pass has seen and of the journal's
   pub forgot : (h seen : List Entry) (was old new : List Place) → seen ≡ h → was ≡ old → (opening : List Record) → (length (life_log opening h) ≤ durable_lsn was → OnOk r (new ≡ drop (before_lsn (recycle_point (life_log opening h)) was) was))

@@ -21,4 +21,4 @@ pub returns-in-Some-clause-kind : goal.returns-in-Some-clause-kind
 returns-in-Some-clause-kind g c = run_behind c.args.log.now.log.log c.args.lsn c.in-Some.run' (omega (arith, c.first_kept.ensures, c.if-lsn-first_kept.true))
 
 pub returns-in-Ok-clause-kind : goal.returns-in-Ok-clause-kind
-returns-in-Ok-clause-kind g c = record_behind c.args.log.now.log.log c.args.lsn c.in-Ok.found' (omega (arith, c.first_kept.ensures, c.if-lsn-first_kept.false))
+returns-in-Ok-clause-kind g c = record_behind c.args.log.now.log.log c.args.lsn c.in-Ok.found (omega (arith, c.first_kept.ensures, c.if-lsn-first_kept.false))

@@ -88,4 +88,4 @@ returns-clause-stable g c opening stands =
     let fine = sym c.is_err.ensures.value ∙ c.if-is_err.false in
     let least = on_ok c.flush_to.result fine c.flush_to.ensures.durable in
     let last = c.last.ensures.length _ (life_log opening c.self.inside.history) (c.self.invariant.1.life.records opening stands) in
-    omega (arith, least, last, c.min.ensures, ap (λ (h : List Entry). length (life_log opening h)) (c.tell_durable.ensures.log ∙ c.look.ensures.pass))
+    omega (arith, least, last, c.min-upto.ensures, ap (λ (h : List Entry). length (life_log opening h)) (c.tell_durable.ensures.log ∙ c.look.ensures.pass))
