@@ -1,6 +1,7 @@
 -- The durable blocks of the log: with which LSN they begin, what joins them, and what goes.
-use Rattle.std.proofs.Common.{◌≡◌, ℕ, ◌<◌, ◌≤◌, List, [], ◌∷◌, ◌++◌, length, get_or, drop, refl, sym, ap, ◌∙◌, subst, arith, append-nil}
+use Rattle.std.proofs.Common.{◌≡◌, ℕ, cond, Bool, true, false, ◌<◌, ◌≤◌, List, [], ◌∷◌, ◌++◌, length, get_or, drop, refl, sym, ap, ◌∙◌, subst, arith, append-nil}
 use Rattle.std.specs.Prelude.{Result, Ok, Err, OnOk, OnErr, map, min}
+use Rattle.std.proofs.Math.Nat.{min-le_left, min-le_right}
 use mathlib.Core.List.{IsPrefix}
 use Rattle.log_blocks.specs.Log.{Block}
 use Rattle.log_blocks.specs.LogState.{LogState, durable_lsn}
@@ -53,13 +54,23 @@ keeps_same opens old new is = subst (KeepsBlocks opens old) (sym is) (record { b
 pub keeps_flushed : (opens : List Record → Type 0) (old mid new : List Place) → mid ≡ old → IsPrefix mid new → ((opening : List Record) → opens opening → durable_lsn mid ≤ durable_lsn new) → KeepsBlocks opens old new
 keeps_flushed opens old mid new is begins rises = subst (λ (ps : List Place). KeepsBlocks opens ps new) is (record { begins = begins; rises = rises })
 
+least : (is_last : Bool) (lsn last : ℕ) → min lsn last ≤ cond is_last last lsn
+least true lsn last = min-le_right lsn last
+least false lsn last = min-le_left lsn last
+
+pub reaches : (opening : List Record) (h seen : List Entry) → seen ≡ h → (lsn last upto durable : ℕ) (is_last : Bool) → upto ≡ cond is_last last lsn → last ≡ length (life_log opening h) → upto ≤ durable → min lsn (length (life_log opening seen)) ≤ durable
+reaches opening h seen same lsn last upto durable is_last is all low =
+    let one = least is_last lsn last in
+    let whole = ap (λ (l : List Entry). length (life_log opening l)) same in
+    omega (arith, one, is, all, low, whole)
+
 -- ---- those that go
 
 pub on_done : {A P : Type 0} (r : Result A Fault) (x : A) → r ≡ Ok x → P → OnOk r P
 on_done {A} {P} r x is p = subst (λ (y : Result A Fault). OnOk y P) (sym is) p
 
-pub on_failed : {A P : Type 0} (r : Result A Fault) (fault : Fault) → r ≡ Err fault → OnOk r P
-on_failed {A} {P} r fault is = subst (λ (y : Result A Fault). OnOk y P) (sym is) tt
+pub on_failed : {A : Type 0} (P : Type 0) (r : Result A Fault) (fault : Fault) → r ≡ Err fault → OnOk r P
+on_failed {A} P r fault is = subst (λ (y : Result A Fault). OnOk y P) (sym is) tt
 
 module _ {A : Type 0} (opens : List Record → Type 0) (r : Result A Fault) where
   -- what is told of the log's own records and blocks, told of those that the pass has seen and of the journal's

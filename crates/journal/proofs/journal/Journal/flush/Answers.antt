@@ -1,12 +1,11 @@
-use Rattle.std.proofs.Common.{List, length, refl, sym, ap, ◌∙◌, arith, inl}
+use Rattle.std.proofs.Common.{refl, sym, ◌∙◌, inl}
 use Rattle.std.proofs.lemmas.Result.{err_from_is_err_and}
 use Rattle.log_blocks.specs.LogState.{durable_lsn}
 use Rattle.journal.proofs.Commits.{flush_ended, on_ok}
 use Rattle.journal.proofs.Ending.{told_stops, stopped_ends}
 use Rattle.journal.proofs.Flushing.{ends_flushed, kept_flush}
 use Rattle.wal_record.specs.History.{life_log}
-use Rattle.wal_record.specs.declared.entry.Entry.{Entry}
-use Rattle.journal.proofs.KeptBlocks.{keeps_flushed}
+use Rattle.journal.proofs.KeptBlocks.{keeps_flushed, reaches}
 use Rattle.journal.proofs.Living.{ends_failed}
 use Rattle.journal.proofs.Losing.{losers_same}
 use Rattle.journal.proofs.Restoring.{restored_same}
@@ -88,4 +87,4 @@ returns-clause-stable g c opening stands =
     let fine = sym c.is_err.ensures.value ∙ c.if-is_err.false in
     let least = on_ok c.flush_to.result fine c.flush_to.ensures.durable in
     let last = c.last.ensures.length _ (life_log opening c.self.inside.history) (c.self.invariant.1.life.records opening stands) in
-    omega (arith, least, last, c.min-upto.ensures, ap (λ (h : List Entry). length (life_log opening h)) (c.tell_durable.ensures.log ∙ c.look.ensures.pass))
+    reaches opening c.self.inside.history _ (c.tell_durable.ensures.log ∙ c.look.ensures.pass) c.args.lsn c.last.result c.min-upto.result _ _ c.min-upto.ensures last least

@@ -34,7 +34,7 @@ returns-after-recycle_log-clause-forgets g c opening stands =
     forgot g.N.Life.opens c.match-recycle_log.result c.self.inside.history c.look.new.pass.log c.self.inside.log.log.log.places c.args.self.now.blocks c.recycle_log.new.log.log.log.places c.look.ensures.pass (blocks_is _ _ c.self.view_is) opening
     (λ all. elim c.match-recycle_log.branch [
       | in-Ok-recycle_log w ↦ on_done _ _ w.result-is (w.in-Ok-recycle_log.ensures.forgets _ (life_log opening c.self.inside.history) (c.self.invariant.1.life.records opening stands) all)
-      | in-Err-recycle_log w ↦ on_failed _ _ w.result-is
+      | in-Err-recycle_log w ↦ on_failed _ _ _ w.result-is
     ])
 
 pub returns-after-recycle_log-clause-rises : goal.returns-after-recycle_log-clause-rises
