@@ -29,6 +29,9 @@ ended_is a b e = ap (λ (j : JournalState). j.ended) e
 pub calls_is : (a b : JournalState) → a ≡ b → a.calls ≡ b.calls
 calls_is a b e = ap (λ (j : JournalState). j.calls) e
 
+pub blocks_is : (a b : JournalState) → a ≡ b → a.blocks ≡ b.blocks
+blocks_is a b e = ap (λ (j : JournalState). j.blocks) e
+
 -- ---- calls
 
 module _ {D : Type 0} (passes : D → Option ℕ) (refused own : D → ℕ) (old new : D) (c : Calls) (is : calls_of passes refused own old ≡ c) where

@@ -22,7 +22,7 @@ use Rattle.wal_record.specs.declared.record.Record.{Record}
 use Rattle.wal_record.specs.declared.record.Record.TheVariants as kinds
 use Rattle.wal_record.specs.declared.entry.Entry.{Entry}
 use Rattle.wal_record.specs.declared.entry.Entry.TheVariants as entries
-use Rattle.wal_record.proofs.Pushes.{log_more, phase_push}
+use Rattle.wal_record.proofs.Pushes.{log_more, log_same, phase_push}
 use Rattle.log_laws.proofs.Central.{eqb_self}
 use Rattle.claim_laws.proofs.Filling.{last_in}
 use Rattle.page_ops.specs.Causes.{IsOpen}
@@ -116,6 +116,19 @@ module _ {D : Type 0} (opens : List Record → Type 0) (tells : Type 0) (told : 
             life = life_entry opens tells told may_leave h1 h2 m2 m2 s2 s2 t1 mark' life t1 (entries.Acked session x.tx) acked refl (held_still h1 t1 life.locks (entries.Acked session x.tx) (λ u ls. refl)) still;
             ends = ends_acknowledged m.log.ended h0 h1 h2 faults faults' lsn session x.tx prev ends first acked counted m2.log.ended (goes ∙ sym runs);
           }
+
+      -- ---- the durable blocks
+
+      pub rises_since : (opening : List Record) → opens opening → durable_lsn m1.log.places ≤ durable_lsn m2.log.places
+      rises_since opening stands = rises (may_go_on opening) (life_log opening h1) (committed.records opening stands) (k.telling opening stands) (ended ∙ runs)
+
+      -- the Commit was the last record
+      pub all_stable : (session : ℕ) → lsn ≤ durable_lsn m2.log.places → (h2 : List Entry) → h2 ≡ h1 ++ entries.Acked session x.tx ∷ [] → (opening : List Record) → opens opening → length (life_log opening h2) ≤ durable_lsn m2.log.places
+      all_stable session durable h2 acked opening stands =
+          let at = place_is opening stands in
+          let one : length (life_log opening h1) ≡ length (life_log opening h) + 1 = ap (λ (y : List Entry). length (life_log opening y)) now ∙ ap (λ (rs : List Record). length rs) (log_more opening h lsn (commit_of x.tx prev)) ∙ length-append (life_log opening h) (commit_of x.tx prev ∷ []) in
+          let two : length (life_log opening h2) ≡ length (life_log opening h1) = ap (λ (y : List Entry). length (life_log opening y)) acked ∙ ap (λ (rs : List Record). length rs) (log_same opening h1 (entries.Acked session x.tx) refl) in
+          omega (arith, at, one, two, durable)
 
       -- ---- what of the log is safe
 

@@ -7,6 +7,7 @@ pub mod Entering
 pub mod Living
 pub mod Locking
 pub mod Lookup
+pub mod KeptBlocks
 pub mod Starting
 pub mod GoingOn
 pub mod Grouping

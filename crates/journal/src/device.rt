@@ -16,7 +16,7 @@ use wal_record::Entry;
 impl<'a, L: Disk, N: Life> Journal<'a, L, N> {
     /// Arms the log disk's fuse, which lets n more calls pass, or renews it.
     pub fn fuse(&mut self, n: Option<u64>)
-        ensures same { (self.new.history ≡ self.old.history) × (self.new.ended ≡ self.old.ended) }
+        ensures same { (self.new.history ≡ self.old.history) × (self.new.ended ≡ self.old.ended) × (self.new.blocks ≡ self.old.blocks) }
         ensures calls { ArmsDisk L.fuses n self.old.calls self.new.calls }
     {
         self.log.fuse(n);

@@ -1,11 +1,11 @@
 //! How a life ends: by a fault of its log disk. And what a call does before it enters anything.
-ghost use Rattle.std.specs.Prelude.{◌≡◌, ◌⊎◌, ◌<◌, ◌≤◌, ◌+◌, ◌-◌, ◌^◌, ℕ, List, Bool, Some, None, is_some, true, IfOk, IfErr, IsErrAnd, OnErr, OnOk};
+ghost use Rattle.std.specs.Prelude.{◌≡◌, ◌⊎◌, ◌<◌, ◌≤◌, ◌+◌, ◌-◌, ◌^◌, ℕ, List, Bool, drop, length, Some, None, is_some, true, IfOk, IfErr, IsErrAnd, OnErr, OnOk};
 ghost use Rattle.journal.specs.Ends.{EndsCall, IsFailed, IsStopped, IsToldEnd, IsUnread};
-ghost use Rattle.journal.specs.Lookups.{HasSpelledRecord, IsFoundIn};
+ghost use Rattle.journal.specs.Lookups.{HasSpelledRecord, IsFoundBehind, IsFoundIn};
 ghost use Rattle.listed_log.specs.Listed.{IsLogWith};
 ghost use Rattle.log_blocks.specs.LogState.{durable_lsn};
 ghost use Rattle.log_blocks.specs.Opening.{IsLogFault};
-ghost use Rattle.log_manager.specs.Managed.{IsNoBadLog, first_kept};
+ghost use Rattle.log_manager.specs.Managed.{IsNoBadLog, before_lsn, first_kept};
 ghost use Rattle.journal.specs.State.{HasOneMore, LearnsEnd};
 ghost use Rattle.journal.specs.Stops.{EndsDurably};
 ghost use Rattle.media.specs.Counted.{Blames};
@@ -129,6 +129,7 @@ pub(crate) fn find<L: Disk, N: Life>(
 ) -> Result<Found, Fault>
     requires runs { log.old.log.log.ended ≡ None }
     ensures found { (goes : ℕ → Bool) (rs : List Record) → IsLogWith L.tells L.told L.may_leave goes rs log.old.log log.old.listing → L.tells → IfOk result (IsFoundIn rs lsn) × IfErr result IsNoBadLog }
+    ensures kind { IfOk result (IsFoundBehind log.old.log.log.places lsn) }
     ensures spelling { IfOk result HasSpelledRecord }
     ensures same { (goes : ℕ → Bool) (rs : List Record) → IsLogWith L.tells L.told L.may_leave goes rs log.old.log log.old.listing → IsLogWith L.tells L.told L.may_leave goes rs log.new.log log.new.listing }
     ensures left { (goes : ℕ → Bool) (rs : List Record) → IsLogWith L.tells L.told L.may_leave goes rs log.old.log log.old.listing → L.tells → log.old.log.log.ended ≡ None → WaitsInGroups log.old.log.log rs
@@ -168,6 +169,9 @@ pub(crate) fn recycle_log<L: Disk, N: Life>(
 ) -> Result<Lsn, Fault>
     requires runs { log.old.log.log.ended ≡ None }
     ensures needed { (goes : ℕ → Bool) (rs : List Record) → IsLogWith L.tells L.told L.may_leave goes rs log.old.log log.old.listing → IfOk result (λ lsn. (lsn ≡ first_kept log.old.log.log) ⊎ (lsn ≤ recycle_point rs)) }
+    ensures forgets { (goes : ℕ → Bool) (rs : List Record) → IsLogWith L.tells L.told L.may_leave goes rs log.old.log log.old.listing → length rs ≤ durable_lsn log.old.log.log.places
+        → OnOk result (log.new.log.log.places ≡ drop (before_lsn (recycle_point rs) log.old.log.log.places) log.old.log.log.places) }
+    ensures none { OnErr result (log.new.log.log.places ≡ log.old.log.log.places) }
     ensures same { (goes : ℕ → Bool) (rs : List Record) → IsLogWith L.tells L.told L.may_leave goes rs log.old.log log.old.listing → IsLogWith L.tells L.told L.may_leave goes rs log.new.log log.new.listing }
     ensures rises { (goes : ℕ → Bool) (rs : List Record) → IsLogWith L.tells L.told L.may_leave goes rs log.old.log log.old.listing
         → L.tells → log.old.log.log.ended ≡ None → durable_lsn log.old.log.log.places ≤ durable_lsn log.new.log.log.places }

@@ -24,7 +24,7 @@ ghost use Rattle.wal_record.specs.declared.entry.Entry.{Entry};
 ghost use Rattle.wal_record.specs.declared.record.Record.{Record};
 ghost use Rattle.wal_record.specs.declared.record.Record.TheVariants as kinds;
 ghost use Rattle.journal.specs.Kept.{IsTold};
-ghost use Rattle.journal.specs.State.{BlamesDisk, IsUntouched, KeepsEnd, KeepsRoom, LearnsEnd, calls_of};
+ghost use Rattle.journal.specs.State.{BlamesDisk, IsUntouched, KeepsBlocks, KeepsEnd, KeepsRoom, LearnsEnd, calls_of};
 ghost use Rattle.journal.specs.Stops.{AreSafe};
 ghost use Rattle.journal.specs.Groups.{EndsSession, GroupFollows, IsNext};
 
@@ -79,7 +79,7 @@ impl<'a, L: Disk, N: Life> Model for Journal<'a, L, N> {
 
     ghost Value = { JournalState };
 
-    ghost view = { λ j. record { history = j.history; ended = j.log.log.log.ended; calls = calls_of L.passes L.refused L.own j.log.log.log.device; room = j.log.log.spare } };
+    ghost view = { λ j. record { history = j.history; ended = j.log.log.log.ended; calls = calls_of L.passes L.refused L.own j.log.log.log.device; blocks = j.log.log.log.places; room = j.log.log.spare } };
 
     ghost invariant = { λ j. (j.mark ≡ j.marked) × IsKept N.opens L.tells L.told L.may_leave j.history j.log.log j.log.listing j.locks j.marked j.faults.total × AreRestored j.history j.restored × HasLosers N.opens j.history j.losers × AreSafe N.opens L.told L.may_leave j.history j.log.log.log × EndsDurably j.log.log.log };
 }
@@ -108,6 +108,7 @@ impl<'a, L: Disk, N: Life> Journal<'a, L, N> {
         ensures begins { result.history ≡ [] }
         ensures goes { result.ended ≡ None }
         ensures calls { result.calls ≡ calls_of L.passes L.refused L.own log.log.log.device }
+        ensures blocks { result.blocks ≡ log.log.log.places }
         ensures durable { (opening : List Record) → N.opens opening → length opening ≤ pass.new.durable }
         ensures log { pass.new.log ≡ pass.old.log }
         ensures before { pass.old.durable ≤ pass.new.durable }
@@ -289,6 +290,8 @@ impl<'a, L: Disk, N: Life> Journal<'a, L, N> {
         ensures end { KeepsEnd self.old self.new }
         ensures learns { LearnsEnd counts.old counts.new self.new.ended }
         ensures calls { BlamesDisk self.old.calls self.new.calls (IsErrAnd result IsLogFault) }
+        ensures blocks { KeepsBlocks N.opens self.old.blocks self.new.blocks }
+        ensures stable { OnOk result ((opening : List Record) → N.opens opening → length (life_log opening pass.new.log) ≤ durable_lsn self.new.blocks) }
     {
         self.history.watch_session(s, pass, counts);
         check_open(&self.log, &mut self.faults, counts)?;
@@ -333,6 +336,8 @@ impl<'a, L: Disk, N: Life> Journal<'a, L, N> {
         ensures end { KeepsEnd self.old self.new }
         ensures learns { LearnsEnd counts.old counts.new self.new.ended }
         ensures calls { BlamesDisk self.old.calls self.new.calls (IsErrAnd result IsLogFault) }
+        ensures blocks { KeepsBlocks N.opens self.old.blocks self.new.blocks }
+        ensures stable { OnOk result ((opening : List Record) → N.opens opening → min lsn (length (life_log opening pass.new.log)) ≤ durable_lsn self.new.blocks) }
     {
         self.history.look(pass, counts);
         check_open(&self.log, &mut self.faults, counts)?;

@@ -10,8 +10,8 @@
 //! - The table of losers (`losers`) has of each loser of the opening log where its last Undo or End stands, and whether it
 //!   has its End.
 //!
-//! Contracts see a journal as its history, its end and what its log disk tells of its calls (`specs/State`). What holds whenever the
-//! lock is free is `IsKept` (`specs/Kept`): for each log with which the
+//! Contracts see a journal as its history, its end, what its log disk tells of its calls, and the durable blocks of its log
+//! (`specs/State`). What holds whenever the lock is free is `IsKept` (`specs/Kept`): for each log with which the
 //! life may have begun, the log and its listing are those of the life; the table holds exactly the locks that were taken
 //! and not released; the table of losers is that of the history; there is room for the commit of each live transaction; what passes were told to be durable is; and as
 //! long as the log hasn't ended, no commit waits for its acknowledgement and no fault was counted. What each of the three
@@ -35,8 +35,8 @@
 //! 5. [`Journal::refuse`] enters that a request is declined, since its operator gives no value.
 //! 6. [`Journal::read`] gives the record of an LSN, or the standing archive run that has it where the log has forgotten it.
 //!    [`Journal::listing`] is what is known of the life's log. [`Journal::repaired`] enters the repair of a page of which an
-//!    image was written since the last loss. [`Journal::recycle`] makes the log durable and forgets the blocks of it that
-//!    nothing needs.
+//!    image was written since the last loss. [`Journal::recycle`] makes the log durable and forgets all blocks of it that
+//!    nothing needs, but never the last one (`Recycles`).
 //! 7. A fault of the log disk ends the life. From then on each call that enters or flushes tells that, and enters
 //!    nothing; through one account it is always the same LSN.
 //!
@@ -52,7 +52,8 @@
 //!
 //! 10. [`Journal::fuse`] and [`Journal::refused`] are the disk's. Each call says what became of the disk's calls: it made none
 //!    (`IsUntouched`), or it made some, and where it answers `LogFault` the disk failed by itself or an armed fuse refused a call
-//!    (`BlamesDisk`). An end stays (`KeepsEnd`), and counts learn of no other (`LearnsEnd`). [`Journal::end`] tells it: the opening
+//!    (`BlamesDisk`). Where it made none the same blocks are durable, and else those and maybe more (`KeepsBlocks`); only a recycling
+//!    lets some go. An end stays (`KeepsEnd`), and counts learn of no other (`LearnsEnd`). [`Journal::end`] tells it: the opening
 //!    log and each acknowledged commit stand up to that LSN, and it is no LSN behind the last record (`IsDurableUpto`).
 //!
 //! A group that isn't built yet is refused as one that wants memory, which the traits allow.

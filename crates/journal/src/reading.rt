@@ -1,7 +1,9 @@
 //! What is asked of the journal: what is known of its log, records, repairs, and what it may forget.
-ghost use Rattle.std.specs.Prelude.{◌≡◌, ◌+◌, ◌<◌, ◌≤◌, List, [], length, filter, Some, None, IfOk, IfErr, IfSome, IfNone, IsErrAnd, OnOk};
+ghost use Rattle.std.specs.Prelude.{◌≡◌, ◌+◌, ◌<◌, ◌≤◌, List, [], drop, length, filter, Some, None, IfOk, IfErr, IfSome, IfNone, IsErrAnd, OnOk, OnErr};
+ghost use Rattle.log_blocks.specs.LogState.{durable_lsn};
 ghost use Rattle.log_blocks.specs.Opening.{IsLogFault};
 ghost use Rattle.log_index.specs.Listing.{IsListingOf};
+ghost use Rattle.log_manager.specs.Managed.{before_lsn};
 ghost use Rattle.page_ops.specs.Causes.{Ends, FailsToEnter, FailsToFlush, FailsToRead, IsEnd, NoOther, with_one};
 ghost use Rattle.page_ops.specs.Claims.{no_claims};
 ghost use Rattle.page_ops.specs.Outcomes.{IsFound, first_of, is_repaired, is_undo, losers_left, repairs};
@@ -11,7 +13,8 @@ ghost use Rattle.wal_record.specs.History.{life_log, log_of};
 ghost use Rattle.wal_record.specs.Sound.{AreLawful};
 ghost use Rattle.wal_record.specs.Upkeep.{written_lsn};
 ghost use Rattle.wal_record.specs.declared.record.Record.{Record};
-ghost use Rattle.journal.specs.State.{BlamesDisk, IsUntouched, KeepsEnd, LearnsEnd};
+ghost use Rattle.journal.specs.Lookups.{IsFoundBehind};
+ghost use Rattle.journal.specs.State.{BeginsWith, BlamesDisk, IsUntouched, KeepsBlocks, KeepsEnd, LearnsEnd, Recycles};
 
 use crate::ends::{check_open, find, recycle_log, tell_durable};
 use crate::journal::{Journal, MOST};
@@ -95,8 +98,10 @@ impl<'a, L: Disk, N: Life> Journal<'a, L, N> {
         self.log.last()
     }
 
-    /// The LSN of the first record that the log keeps; of the next one, where it keeps none.
-    pub fn first_kept(&self) -> Lsn {
+    /// The LSN of the first record that the log keeps; of the next one, where it keeps none. With it the first durable block begins.
+    pub fn first_kept(&self) -> Lsn
+        ensures { BeginsWith self.now.blocks result }
+    {
         self.log.first_kept()
     }
 
@@ -106,6 +111,7 @@ impl<'a, L: Disk, N: Life> Journal<'a, L, N> {
         ensures same { self.new ≡ self.old }
         ensures log { pass.new.log ≡ pass.old.log }
         ensures number { result ≡ pass.new.durable }
+        ensures durable { durable_lsn self.old.blocks ≤ pass.new.durable }
         ensures before { pass.old.durable ≤ pass.new.durable }
     {
         let board = &self.history.ground().board;
@@ -126,6 +132,8 @@ impl<'a, L: Disk, N: Life> Journal<'a, L, N> {
         ensures pass { pass.new.log ≡ self.old.history }
         ensures seen { Looks N.opens N.entries N.session_entries counts.old pass.old counts.new pass.new }
         ensures found { IfOk result (IsFound N.opens pass.new.log lsn) }
+        ensures kind { IfOk result (IsFoundBehind self.old.blocks lsn) }
+        ensures blocks { self.new.blocks ≡ self.old.blocks }
         ensures refused { IfErr result (FailsToRead N.opens) }
         ensures ends { Ends N.opens N.log_faults N.made counts.old counts.new pass.new.log result }
         ensures end { KeepsEnd self.old self.new }
@@ -184,6 +192,8 @@ impl<'a, L: Disk, N: Life> Journal<'a, L, N> {
         ensures seen { Looks N.opens N.entries N.session_entries counts.old pass.old counts.new pass.new }
         ensures kept { IfOk result (λ lsn. (opening : List Record) → N.opens opening → lsn ≤ recycle_point (life_log opening pass.new.log)) }
         ensures durable { OnOk result ((opening : List Record) → N.opens opening → length (life_log opening pass.new.log) ≤ pass.new.durable) }
+        ensures forgets { OnOk result ((opening : List Record) → N.opens opening → Recycles (recycle_point (life_log opening pass.new.log)) self.old.blocks self.new.blocks) }
+        ensures blocks { OnErr result (KeepsBlocks N.opens self.old.blocks self.new.blocks) }
         ensures refused { IfErr result FailsToFlush }
         ensures ends { Ends N.opens N.log_faults N.made counts.old counts.new pass.new.log result }
         ensures end { KeepsEnd self.old self.new }
@@ -202,6 +212,10 @@ impl<'a, L: Disk, N: Life> Journal<'a, L, N> {
         ensures same { self.new.history ≡ self.old.history }
         ensures seen { Looks N.opens N.entries N.session_entries counts.old pass.old counts.new pass.new }
         ensures pass { pass.new.log ≡ self.old.history }
+        ensures forgets { (opening : List Record) → N.opens opening → length (life_log opening pass.new.log) ≤ durable_lsn self.old.blocks
+            → OnOk result (self.new.blocks ≡ drop (before_lsn (recycle_point (life_log opening pass.new.log)) self.old.blocks) self.old.blocks) }
+        ensures none { OnErr result (self.new.blocks ≡ self.old.blocks) }
+        ensures rises { (opening : List Record) → N.opens opening → durable_lsn self.old.blocks ≤ durable_lsn self.new.blocks }
         ensures kept { IfOk result (λ lsn. (opening : List Record) → N.opens opening → lsn ≤ recycle_point (life_log opening pass.new.log)) }
         ensures refused { IfErr result FailsToFlush }
         ensures ends { Ends N.opens N.log_faults N.made counts.old counts.new pass.new.log result }

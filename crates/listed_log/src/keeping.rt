@@ -1,8 +1,8 @@
 //! What the log keeps of its records: read, and forgotten.
-ghost use Rattle.std.specs.Prelude.{◌≡◌, ◌⊎◌, ◌-◌, ◌^◌, ◌<◌, ◌≤◌, ℕ, List, Bool, None, Some, OnOk, IfOk, IfErr, IsErrAnd, length, min};
+ghost use Rattle.std.specs.Prelude.{◌≡◌, ◌⊎◌, ◌-◌, ◌^◌, ◌<◌, ◌≤◌, ℕ, List, Bool, None, Some, OnOk, OnErr, IfOk, IfErr, IsErrAnd, drop, length, min};
 ghost use Rattle.log_blocks.specs.LogState.{Refused, durable_lsn};
 ghost use Rattle.log_blocks.specs.Opening.{IsLogFault};
-ghost use Rattle.log_manager.specs.Managed.{IsNoBadLog, ReadRefused, first_kept};
+ghost use Rattle.log_manager.specs.Managed.{IsNoBadLog, ReadRefused, before_lsn, first_kept};
 ghost use Rattle.stop_laws.specs.Stops.{GoesOnOrEnds, KeepsFirst, WaitsInGroups};
 ghost use Rattle.media.specs.Counted.{Armed, Blames};
 ghost use Rattle.wal_record.specs.Chains.{record_with};
@@ -48,6 +48,10 @@ impl<L: Disk> ListedLog<L> {
         ensures first { IfOk result (λ lsn. lsn ≡ first_kept self.new.log.log) }
         // Nothing is forgotten that is needed.
         ensures needed { (goes : ℕ → Bool) (rs : List Record) → IsLogWith L.tells L.told L.may_leave goes rs self.old.log self.old.listing → IfOk result (λ lsn. (lsn ≡ first_kept self.old.log.log) ⊎ (lsn ≤ recycle_point rs)) }
+        // All goes that isn't needed, where no records wait.
+        ensures forgets { (goes : ℕ → Bool) (rs : List Record) → IsLogWith L.tells L.told L.may_leave goes rs self.old.log self.old.listing → length rs ≤ durable_lsn self.old.log.log.places
+            → OnOk result (self.new.log.log.places ≡ drop (before_lsn (recycle_point rs) self.old.log.log.places) self.old.log.log.places) }
+        ensures none { OnErr result (self.new.log.log.places ≡ self.old.log.log.places) }
         ensures same { (goes : ℕ → Bool) (rs : List Record) → IsLogWith L.tells L.told L.may_leave goes rs self.old.log self.old.listing → IsLogWith L.tells L.told L.may_leave goes rs self.new.log self.new.listing }
         // What is stable stays so.
         ensures rises { (goes : ℕ → Bool) (rs : List Record) → IsLogWith L.tells L.told L.may_leave goes rs self.old.log self.old.listing
@@ -72,7 +76,8 @@ impl<L: Disk> ListedLog<L> {
 
     /// The LSN before which nothing is needed: 0 while records wait.
     fn unneeded(&self) -> Lsn
-        ensures { (goes : ℕ → Bool) (rs : List Record) → IsLogWith L.tells L.told L.may_leave goes rs self.now.log self.now.listing → (result ≡ 0) ⊎ ((result ≡ recycle_point rs) × (length rs ≤ durable_lsn self.now.log.log.places)) }
+        ensures low { (goes : ℕ → Bool) (rs : List Record) → IsLogWith L.tells L.told L.may_leave goes rs self.now.log self.now.listing → (result ≡ 0) ⊎ ((result ≡ recycle_point rs) × (length rs ≤ durable_lsn self.now.log.log.places)) }
+        ensures all { (goes : ℕ → Bool) (rs : List Record) → IsLogWith L.tells L.told L.may_leave goes rs self.now.log self.now.listing → length rs ≤ durable_lsn self.now.log.log.places → result ≡ recycle_point rs }
     {
         if self.log.durable() < self.log.last() {
             0

@@ -1,6 +1,7 @@
 //! The log and its listing.
 ghost use Rattle.std.specs.Prelude.{◌≡◌, ◌+◌, ◌-◌, ◌<◌, ◌≤◌, ◌^◌, ◌++◌, ◌∷◌, [], ℕ, List, length, None, Bool, true, false, OnOk, OnErr, IfOk, IfErr, IsErrAnd};
 ghost use Rattle.std.specs.List.{All, list_any};
+ghost use mathlib.Core.List.{IsPrefix};
 ghost use Rattle.log_blocks.specs.LogState.{Refused, durable_lsn};
 ghost use Rattle.log_blocks.specs.Opening.{IsLogFault};
 ghost use Rattle.log_index.specs.GoingOn.{KnowsLast};
@@ -144,6 +145,8 @@ impl<L: Disk> ListedLog<L> {
         requires { lsn < self.old.log.log.next }
         ensures same { (goes : ℕ → Bool) (rs : List Record) → IsLogWith L.tells L.told L.may_leave goes rs self.old.log self.old.listing → IsLogWith L.tells L.told L.may_leave goes rs self.new.log self.new.listing }
         ensures durable { OnOk result (lsn ≤ durable_lsn self.new.log.log.places) }
+        // No block goes.
+        ensures begins { IsPrefix self.old.log.log.places self.new.log.log.places }
         // What is stable stays so.
         ensures rises { (goes : ℕ → Bool) (rs : List Record) → IsLogWith L.tells L.told L.may_leave goes rs self.old.log self.old.listing
             → L.tells → self.old.log.log.ended ≡ None → durable_lsn self.old.log.log.places ≤ durable_lsn self.new.log.log.places }

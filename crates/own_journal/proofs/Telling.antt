@@ -78,7 +78,7 @@ module _ (opens : List Record → Type 0) (log_faults made : LedgerName) (a b : 
 -- ---- calls that leave the counts and the log disk as they were
 
 pub untouched_same : (j k : JournalState) → k ≡ j → IsUntouched j k
-untouched_same j k e = record { ended = ap (λ (s : JournalState). s.ended) e; calls = ap (λ (s : JournalState). s.calls) e }
+untouched_same j k e = record { ended = ap (λ (s : JournalState). s.ended) e; calls = ap (λ (s : JournalState). s.calls) e; blocks = ap (λ (s : JournalState). s.blocks) e }
 
 same_calls : (a b : Account) (j k : JournalState) → b ≡ a → IsUntouched j k → CallsGoOn (Some j.calls) (Some k.calls) a.log_faults.amount b.log_faults.amount
 same_calls a b j k same still = subst (λ (c : Calls). CallsGoOn (Some j.calls) (Some c) a.log_faults.amount b.log_faults.amount) (sym still.calls)

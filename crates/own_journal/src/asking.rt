@@ -1,6 +1,7 @@
 //! Questions that the listing answers.
-ghost use Rattle.std.specs.Prelude.{◌≡◌, List, IfOk, IfErr, IfSome, IsErrAnd};
-ghost use Rattle.journal.specs.State.{BlamesDisk, KeepsEnd, LearnsEnd};
+ghost use Rattle.std.specs.Prelude.{◌≡◌, ◌≤◌, List, IfOk, IfErr, IfSome, IsErrAnd};
+ghost use Rattle.journal.specs.State.{BeginsWith, BlamesDisk, KeepsEnd, LearnsEnd};
+ghost use Rattle.log_blocks.specs.LogState.{durable_lsn};
 ghost use Rattle.log_blocks.specs.Opening.{IsLogFault};
 ghost use Rattle.page_ops.specs.Causes.{Ends, FailsToEnter, FailsToRead, NoOther};
 ghost use Rattle.page_ops.specs.Outcomes.{IsListed, IsSurvey, IsWork};
@@ -87,6 +88,8 @@ pub(crate) fn survey<L: Disk, N: Life>(
 ) -> Result<Survey, Fault>
     ensures seen { Looks N.opens N.entries N.session_entries counts.old pass.old counts.new pass.new }
     ensures survey { IfOk result (IsSurvey N.opens pass.new) }
+    ensures first { IfOk result (λ s. BeginsWith journal.old.blocks s.first_kept) }
+    ensures durable { IfOk result (λ s. durable_lsn journal.old.blocks ≤ s.durable) }
     ensures refused { IfErr result (FailsToEnter NoOther) }
     ensures ends { Ends N.opens N.log_faults N.made counts.old counts.new pass.new.log result }
     ensures same { journal.new ≡ journal.old }
@@ -125,6 +128,7 @@ pub(crate) fn work<L: Disk, N: Life>(
 ) -> Result<Work, Fault>
     ensures seen { Looks N.opens N.entries N.session_entries counts.old pass.old counts.new pass.new }
     ensures work { IfOk result (IsWork N.opens pass.new) }
+    ensures durable { IfOk result (λ w. durable_lsn journal.old.blocks ≤ w.durable) }
     ensures refused { IfErr result (FailsToEnter NoOther) }
     ensures ends { Ends N.opens N.log_faults N.made counts.old counts.new pass.new.log result }
     ensures same { journal.new ≡ journal.old }

@@ -31,7 +31,7 @@ pub struct OwnJournal<'a, L: Disk, N: Life> {
 impl<'a, L: Disk, N: Life> OwnJournal<'a, L, N> {
     /// Arms the log disk's fuse, which lets n more calls pass, or renews it.
     pub fn fuse(&mut self, n: Option<u64>)
-        ensures same { (self.new.journal.history ≡ self.old.journal.history) × (self.new.journal.ended ≡ self.old.journal.ended) × (self.new.counts ≡ self.old.counts) }
+        ensures same { (self.new.journal.history ≡ self.old.journal.history) × (self.new.journal.ended ≡ self.old.journal.ended) × (self.new.journal.blocks ≡ self.old.journal.blocks) × (self.new.counts ≡ self.old.counts) }
         ensures calls { ArmsDisk L.fuses n self.old.journal.calls self.new.journal.calls }
     {
         self.journal.fuse(n);

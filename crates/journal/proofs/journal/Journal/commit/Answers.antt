@@ -8,13 +8,14 @@ use Rattle.page_ops.specs.Seeing.{Account, IsConsistent}
 use Rattle.wal_record.specs.History.{live_count}
 use Rattle.wal_record.specs.declared.entry.Entry.{Entry}
 use Rattle.wal_record.specs.declared.entry.Entry.TheVariants as entries
-use Rattle.journal.proofs.Commits.{acknowledged_safe, failed_safe, flush_ended, on_ok, consistent_then, kept_failed, kept_acknowledged, number_is, waits, may_commit, commits_then}
+use Rattle.journal.proofs.Commits.{acknowledged_safe, failed_safe, flush_ended, on_ok, consistent_then, kept_failed, kept_acknowledged, number_is, waits, may_commit, commits_then, all_stable, rises_since}
 use Rattle.journal.proofs.Committing.{one_live}
+use Rattle.journal.proofs.KeptBlocks.{keeps_flushed}
 use Rattle.journal.proofs.Ending.{told_stops, stopped_ends}
 use Rattle.journal.proofs.Entering.{looked}
 use Rattle.journal.proofs.Losing.{losers_commit, losers_entry}
 use Rattle.journal.proofs.Restoring.{restored_entry}
-use Rattle.journal.proofs.Calls.{blames_since, calls_is, durable_flush, end_fresh, ended_is, fault_blames, fine_blames, no_calls, told_quiet}
+use Rattle.journal.proofs.Calls.{blames_since, blocks_is, calls_is, durable_flush, end_fresh, ended_is, fault_blames, fine_blames, no_calls, told_quiet}
 use Rattle.journal.proofs.journal.Journal.commit.Goals as goal
 
 pub returns-in_err-check_open-clause-ends : goal.returns-in_err-check_open-clause-ends
@@ -152,3 +153,36 @@ pub returns-clause-calls : goal.returns-clause-calls
 returns-clause-calls g c =
     let fine = fine_blames g.L.Disk.passes g.L.Disk.refused g.L.Disk.own g.L.Disk.faults c.commit-lsn.new.self.log.log c.flush_to.new.self.log.log c.flush_to.result (sym c.is_err.ensures.value ∙ c.if-is_err.false) c.flush_to.ensures.fuse in
     blames_since g.L.Disk.passes g.L.Disk.refused g.L.Disk.own _ _ _ (ap (calls_of g.L.Disk.passes g.L.Disk.refused g.L.Disk.own) c.commit-lsn.ensures.disk.0 ∙ calls_is _ _ c.self.view_is) _ fine
+
+-- ---- the durable blocks
+
+pub returns-then-is_err-clause-blocks : goal.returns-then-is_err-clause-blocks
+returns-then-is_err-clause-blocks g c =
+    let watch = c.watch_session.ensures in
+    let k = c.self.invariant.1 in
+    let h = c.watch_session.new.self in
+    let runs = c.in_ok-check_open.ensures.open.0 in
+    let l = looked _ _ _ _ _ _ _ _ _ _ h watch.seen watch.pass watch.same (k.ends.acknowledged runs) watch.right c.requires.active in
+    keeps_flushed g.N.Life.opens _ _ _ (c.commit-lsn.ensures.disk.1 ∙ blocks_is _ _ c.self.view_is) c.flush_to.ensures.begins
+    (rises_since g.N.Life.opens g.L.Disk.tells g.L.Disk.told g.L.Disk.may_leave c.self.inside.history h c.self.inside.log.log c.commit-lsn.new.self.log c.flush_to.new.self.log c.self.inside.log.listing c.commit-lsn.new.self.listing c.flush_to.new.self.listing c.self.inside.locks c.self.inside.marked k.life watch.same c.watch_session.new.s l c.tx-tx.result c.in_range-prev.result c.commit-lsn.result c.last_of.result c.tx-tx.ensures (subst (λ (n : ℕ). n ≤ 2 ^ 62) (sym (ap (λ x. x.tx) watch.right)) (watch.number c.requires.active)) c.in_range-prev.ensures.low c.last_of.ensures c.in_range-prev.ensures.same c.commit-lsn.ensures.lsn c.commit-lsn.ensures.more c.commit-lsn.ensures.spare c.commit-lsn.ensures.disk.1 c.commit-lsn.ensures.disk.2 c.release_all.new.self c.release_all.ensures.released c.enter_commit.new.self c.enter_commit.ensures.history c.enter_commit.ensures.live runs c.flush_to.ensures.same c.flush_to.ensures.spare c.flush_to.ensures.rises)
+
+pub returns-clause-blocks : goal.returns-clause-blocks
+returns-clause-blocks g c =
+    let watch = c.watch_session.ensures in
+    let k = c.self.invariant.1 in
+    let h = c.watch_session.new.self in
+    let runs = c.in_ok-check_open.ensures.open.0 in
+    let l = looked _ _ _ _ _ _ _ _ _ _ h watch.seen watch.pass watch.same (k.ends.acknowledged runs) watch.right c.requires.active in
+    keeps_flushed g.N.Life.opens _ _ _ (c.commit-lsn.ensures.disk.1 ∙ blocks_is _ _ c.self.view_is) c.flush_to.ensures.begins
+    (rises_since g.N.Life.opens g.L.Disk.tells g.L.Disk.told g.L.Disk.may_leave c.self.inside.history h c.self.inside.log.log c.commit-lsn.new.self.log c.flush_to.new.self.log c.self.inside.log.listing c.commit-lsn.new.self.listing c.flush_to.new.self.listing c.self.inside.locks c.self.inside.marked k.life watch.same c.watch_session.new.s l c.tx-tx.result c.in_range-prev.result c.commit-lsn.result c.last_of.result c.tx-tx.ensures (subst (λ (n : ℕ). n ≤ 2 ^ 62) (sym (ap (λ x. x.tx) watch.right)) (watch.number c.requires.active)) c.in_range-prev.ensures.low c.last_of.ensures c.in_range-prev.ensures.same c.commit-lsn.ensures.lsn c.commit-lsn.ensures.more c.commit-lsn.ensures.spare c.commit-lsn.ensures.disk.1 c.commit-lsn.ensures.disk.2 c.release_all.new.self c.release_all.ensures.released c.enter_commit.new.self c.enter_commit.ensures.history c.enter_commit.ensures.live runs c.flush_to.ensures.same c.flush_to.ensures.spare c.flush_to.ensures.rises)
+
+pub returns-clause-stable : goal.returns-clause-stable
+returns-clause-stable g c =
+    let watch = c.watch_session.ensures in
+    let k = c.self.invariant.1 in
+    let h = c.watch_session.new.self in
+    let runs = c.in_ok-check_open.ensures.open.0 in
+    let l = looked _ _ _ _ _ _ _ _ _ _ h watch.seen watch.pass watch.same (k.ends.acknowledged runs) watch.right c.requires.active in
+    let fine = sym c.is_err.ensures.value ∙ c.if-is_err.false in
+    let acked = c.tell_durable.ensures.log ∙ c.look-2.ensures.pass ∙ c.acknowledge.ensures.history ∙ (λ i. c.enter_commit.new.self ++ entries.Acked (c.enter_commit.ensures.right i).session (c.enter_commit.ensures.right i).tx ∷ []) in
+    all_stable g.N.Life.opens g.L.Disk.tells g.L.Disk.told g.L.Disk.may_leave c.self.inside.history h c.self.inside.log.log c.commit-lsn.new.self.log c.flush_to.new.self.log c.self.inside.log.listing c.commit-lsn.new.self.listing c.flush_to.new.self.listing c.self.inside.locks c.self.inside.marked k.life watch.same c.watch_session.new.s l c.tx-tx.result c.in_range-prev.result c.commit-lsn.result c.last_of.result c.tx-tx.ensures (subst (λ (n : ℕ). n ≤ 2 ^ 62) (sym (ap (λ x. x.tx) watch.right)) (watch.number c.requires.active)) c.in_range-prev.ensures.low c.last_of.ensures c.in_range-prev.ensures.same c.commit-lsn.ensures.lsn c.commit-lsn.ensures.more c.commit-lsn.ensures.spare c.commit-lsn.ensures.disk.1 c.commit-lsn.ensures.disk.2 c.release_all.new.self c.release_all.ensures.released c.enter_commit.new.self c.enter_commit.ensures.history c.enter_commit.ensures.live runs c.flush_to.ensures.same c.flush_to.ensures.spare c.flush_to.ensures.rises c.watch_session.new.s.session (on_ok c.flush_to.result fine c.flush_to.ensures.durable) c.tell_durable.new.pass.log acked

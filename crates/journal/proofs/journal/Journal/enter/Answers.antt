@@ -12,7 +12,7 @@ use Rattle.journal.specs.Kept.{IsKept}
 use Rattle.journal.proofs.Losing.{losers_same}
 use Rattle.journal.proofs.Restoring.{restored_same}
 use Rattle.journal.proofs.Stopping.{still_safe}
-use Rattle.journal.proofs.Calls.{calls_is, ended_is, history_is}
+use Rattle.journal.proofs.Calls.{blocks_is, calls_is, ended_is, history_is}
 use Rattle.journal.proofs.journal.Journal.enter.Goals as goal
 
 pub returns-in_err-check_open-clause-ends : goal.returns-in_err-check_open-clause-ends
@@ -84,6 +84,7 @@ returns-then-not-has_room-clause-disk g c =
     record {
       ended = ended_is _ _ c.self-then-not-has_room.view_is ∙ done.ended ∙ ended_is _ _ c.self.view_is;
       calls = calls_is _ _ c.self-then-not-has_room.view_is ∙ done.calls ∙ calls_is _ _ c.self.view_is;
+      blocks = blocks_is _ _ c.self-then-not-has_room.view_is ∙ done.blocks ∙ blocks_is _ _ c.self.view_is;
     }
 
 pub returns-then-not-has_room-clause-learns : goal.returns-then-not-has_room-clause-learns
@@ -97,6 +98,7 @@ returns-in-Ok-clause-disk g c =
     record {
       ended = ended_is _ _ c.self-2.view_is ∙ done.ended ∙ ended_is _ _ c.self.view_is;
       calls = calls_is _ _ c.self-2.view_is ∙ done.calls ∙ calls_is _ _ c.self.view_is;
+      blocks = blocks_is _ _ c.self-2.view_is ∙ done.blocks ∙ blocks_is _ _ c.self.view_is;
     }
 
 pub returns-in-Ok-clause-learns : goal.returns-in-Ok-clause-learns

@@ -4,11 +4,13 @@ use Rattle.log_blocks.specs.LogState.{durable_lsn}
 use Rattle.journal.proofs.Commits.{flush_ended, on_ok}
 use Rattle.journal.proofs.Ending.{told_stops, stopped_ends}
 use Rattle.journal.proofs.Flushing.{ends_flushed, kept_flush}
+use Rattle.wal_record.specs.History.{life_log}
+use Rattle.journal.proofs.KeptBlocks.{keeps_flushed, reaches}
 use Rattle.journal.proofs.Living.{ends_failed}
 use Rattle.journal.proofs.Losing.{losers_same}
 use Rattle.journal.proofs.Restoring.{restored_same}
 use Rattle.journal.proofs.Stopping.{call_safe}
-use Rattle.journal.proofs.Calls.{blames_since, calls_is, durable_flush, end_fresh, ended_is, fault_blames, fine_blames, no_calls, told_quiet}
+use Rattle.journal.proofs.Calls.{blames_since, blocks_is, calls_is, durable_flush, end_fresh, ended_is, fault_blames, fine_blames, no_calls, told_quiet}
 use Rattle.journal.proofs.journal.Journal.flush.Goals as goal
 
 pub returns-in_err-check_open-clause-ends : goal.returns-in_err-check_open-clause-ends
@@ -67,3 +69,22 @@ pub returns-clause-calls : goal.returns-clause-calls
 returns-clause-calls g c =
     let fine = fine_blames g.L.Disk.passes g.L.Disk.refused g.L.Disk.own g.L.Disk.faults c.self.inside.log.log.log c.flush_to.new.self.log.log c.flush_to.result (sym c.is_err.ensures.value ∙ c.if-is_err.false) c.flush_to.ensures.fuse in
     blames_since g.L.Disk.passes g.L.Disk.refused g.L.Disk.own _ _ _ (calls_is _ _ c.self.view_is) _ fine
+
+-- ---- the durable blocks
+
+pub returns-then-is_err-clause-blocks : goal.returns-then-is_err-clause-blocks
+returns-then-is_err-clause-blocks g c =
+    let k = c.self.invariant.1.life in
+    keeps_flushed g.N.Life.opens _ _ _ (blocks_is _ _ c.self.view_is) c.flush_to.ensures.begins (λ opening stands. c.flush_to.ensures.rises _ (life_log opening c.self.inside.history) (k.records opening stands) (k.telling opening stands) c.in_ok-check_open.ensures.open.0)
+
+pub returns-clause-blocks : goal.returns-clause-blocks
+returns-clause-blocks g c =
+    let k = c.self.invariant.1.life in
+    keeps_flushed g.N.Life.opens _ _ _ (blocks_is _ _ c.self.view_is) c.flush_to.ensures.begins (λ opening stands. c.flush_to.ensures.rises _ (life_log opening c.self.inside.history) (k.records opening stands) (k.telling opening stands) c.in_ok-check_open.ensures.open.0)
+
+pub returns-clause-stable : goal.returns-clause-stable
+returns-clause-stable g c opening stands =
+    let fine = sym c.is_err.ensures.value ∙ c.if-is_err.false in
+    let least = on_ok c.flush_to.result fine c.flush_to.ensures.durable in
+    let last = c.last.ensures.length _ (life_log opening c.self.inside.history) (c.self.invariant.1.life.records opening stands) in
+    reaches opening c.self.inside.history _ (c.tell_durable.ensures.log ∙ c.look.ensures.pass) c.args.lsn c.last.result c.min-upto.result _ _ c.min-upto.ensures last least

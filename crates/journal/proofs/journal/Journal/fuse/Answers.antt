@@ -1,7 +1,7 @@
 use Rattle.std.proofs.Common.{ap, ◌∙◌}
 use Rattle.journal.proofs.Living.{kept_fused}
 use Rattle.journal.proofs.Stopping.{fused_safe}
-use Rattle.journal.proofs.Calls.{arms_since, calls_is, durable_same, ended_is, history_is}
+use Rattle.journal.proofs.Calls.{arms_since, blocks_is, calls_is, durable_same, ended_is, history_is}
 use Rattle.journal.proofs.journal.Journal.fuse.Goals as goal
 
 pub invariant_of-self : goal.invariant_of-self
@@ -17,7 +17,7 @@ invariant_of-self g c =
     )
 
 pub returns-clause-same : goal.returns-clause-same
-returns-clause-same g c = (history_is _ _ c.self.view_is, ap (λ x. x.log.log.ended) c.fuse.ensures.rest ∙ ended_is _ _ c.self.view_is)
+returns-clause-same g c = (history_is _ _ c.self.view_is, ap (λ x. x.log.log.ended) c.fuse.ensures.rest ∙ ended_is _ _ c.self.view_is, ap (λ x. x.log.log.places) c.fuse.ensures.rest ∙ blocks_is _ _ c.self.view_is)
 
 pub returns-clause-calls : goal.returns-clause-calls
 returns-clause-calls g c = arms_since g.L.Disk.passes g.L.Disk.refused g.L.Disk.own _ _ _ (calls_is _ _ c.self.view_is) _ _ c.fuse.ensures.fuse

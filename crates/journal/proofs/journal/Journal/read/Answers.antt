@@ -1,10 +1,13 @@
-use Rattle.std.proofs.Common.{◌≤◌, [], sym, ◌∙◌, arith, subst}
+use Rattle.std.proofs.Common.{◌≤◌, List, [], sym, ◌∙◌, arith, subst}
+use Rattle.std.specs.Prelude.{IfOk}
 use Rattle.log_blocks.specs.LogState.{durable_lsn}
+use Rattle.log_blocks.specs.declared.header.Place.{Place}
 use Rattle.page_ops.specs.Causes.{IsOpen}
 use Rattle.page_ops.specs.Claims.{no_claims}
 use Rattle.page_ops.specs.Seeing.{Account, Enters, known}
 use Rattle.wal_record.specs.History.{life_log}
-use Rattle.journal.proofs.Calls.{blames_since, calls_is, end_fresh, ended_is, no_calls, told_quiet}
+use Rattle.journal.specs.Lookups.{IsFoundBehind}
+use Rattle.journal.proofs.Calls.{blames_since, blocks_is, calls_is, end_fresh, ended_is, no_calls, told_quiet}
 use Rattle.journal.proofs.Ending.{called, called_ends, told_stops, stopped_ends}
 use Rattle.journal.proofs.Living.{kept_call}
 use Rattle.journal.proofs.Lookup.{found_told, unread_told}
@@ -61,3 +64,11 @@ returns-in-Ok-clause-calls g c = blames_since g.L.Disk.passes g.L.Disk.refused g
 
 pub returns-in-Err-clause-calls : goal.returns-in-Err-clause-calls
 returns-in-Err-clause-calls g c = no_calls _ _ _ (sym (calls_is _ _ c.self.view_is)) (told_quiet g.N.Life.log_faults _ _ _ c.in-Err.ensures.ended)
+
+-- ---- the durable blocks
+
+pub returns-in-Ok-clause-kind : goal.returns-in-Ok-clause-kind
+returns-in-Ok-clause-kind g c = subst (λ (ps : List Place). IfOk c.find.result (IsFoundBehind ps c.args.lsn)) (blocks_is _ _ c.self.view_is) c.find.ensures.kind
+
+pub returns-in-Ok-clause-blocks : goal.returns-in-Ok-clause-blocks
+returns-in-Ok-clause-blocks g c = c.find.ensures.places.1 ∙ blocks_is _ _ c.self.view_is

@@ -9,6 +9,7 @@ use Rattle.wal_record.specs.History.{life_log}
 use Rattle.wal_record.specs.declared.entry.Entry.{Entry}
 use Rattle.wal_record.specs.declared.record.Record.{Record}
 use Rattle.journal.proofs.Lookup.{all_durable}
+use Rattle.journal.proofs.KeptBlocks.{kept_refused, recycled}
 use Rattle.journal.proofs.Calls.{calls_then, history_is, keeps_then, learnt}
 use Rattle.journal.proofs.journal.Journal.recycle.Goals as goal
 
@@ -47,3 +48,13 @@ returns-in-Ok-clause-learns g c = let runs = c.in-Ok.ensures.ends in learnt c.ar
 
 pub returns-in-Ok-clause-calls : goal.returns-in-Ok-clause-calls
 returns-in-Ok-clause-calls g c = calls_then _ _ _ _ _ c.in-Ok.ensures.calls (λ never. never) c.forget.ensures.calls
+
+pub returns-in-Ok-clause-forgets : goal.returns-in-Ok-clause-forgets
+returns-in-Ok-clause-forgets g c =
+    let flush = c.flush.ensures in
+    let forget = c.forget.ensures in
+    recycled g.N.Life.opens c.forget.result c.args.self.now.blocks c.flush.new.self.blocks c.forget.new.self.blocks flush.blocks c.args.self.now.history c.flush.new.pass.log c.forget.new.pass.log flush.pass (forget.pass ∙ flush.same) c.last-last.result
+    (λ opening stands. c.last-last.ensures.length _ (life_log opening c.self.inside.history) (c.self.invariant.1.life.records opening stands) ∙ ap (λ (h : List Entry). length (life_log opening h)) (history_is _ _ c.self.view_is)) c.in-Ok.ensures.stable forget.forgets forget.rises
+
+pub returns-in-Ok-clause-blocks : goal.returns-in-Ok-clause-blocks
+returns-in-Ok-clause-blocks g c = kept_refused g.N.Life.opens c.forget.result c.args.self.now.blocks c.flush.new.self.blocks c.forget.new.self.blocks c.flush.ensures.blocks c.forget.ensures.none
