@@ -5,6 +5,7 @@ ghost use Rattle.page_ops.specs.Claims.{no_claims};
 ghost use Rattle.page_ops.specs.Seeing.{Upholds, is_none, known};
 ghost use Rattle.page_ops.specs.Outcomes.{IsFound};
 ghost use Rattle.page_ops.specs.declared.outcome.Found.TheVariants as founds;
+ghost use Rattle.page_repair.specs.Supplies.{IsHead};
 ghost use Rattle.segment_restore.specs.Based.{IsBased};
 ghost use Rattle.segment_restore.specs.Faults.{of_vault};
 ghost use Rattle.wal_record.specs.History.{life_log};
@@ -84,6 +85,8 @@ impl<N: Life, J: Entering<N>, O: Objects<N>, L: Ledger> Bases<N, J> for VaultBas
         lsn: Lsn,
         pass: &mut Pass<Entry, N>,
     ) -> Result<Record, Fault>
+        requires run { IsFound N.opens pass.old.log lsn (founds.Run run) }
+        requires named { IsHead N.opens pass.old.log page lsn }
         ensures found { IfOk result (λ r. IsFound N.opens pass.new.log lsn (founds.Record r)) }
         ensures faults { self.old.faults ≤ self.new.faults }
         ensures vault { O.faults self.old.objects ≤ O.faults self.new.objects }

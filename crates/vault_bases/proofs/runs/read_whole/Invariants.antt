@@ -1,4 +1,4 @@
-use Rattle.std.proofs.Common.{◌≡◌, ◌≤◌}
+use Rattle.std.proofs.Common.{◌≤◌}
 use Rattle.page_ops.specs.Causes.{MeetsNoEnd}
 use Rattle.page_ops.specs.Claims.{no_claims}
 use Rattle.page_ops.specs.Seeing.{Upholds, is_none, known}

@@ -1,4 +1,4 @@
-use Rattle.std.proofs.Common.{sym, ◌∙◌}
+use Rattle.std.proofs.Common.{◌∙◌}
 use Rattle.std.proofs.lemmas.Result.{err_from_is_err_and}
 use Rattle.vault_bases.proofs.StandingRuns.{fails_so, lacks, some_is}
 use Rattle.vault_bases.proofs.runs.record_in.Goals as goal
