@@ -114,7 +114,7 @@ fn scan_locked<N: Life, J: Journaling<N>, P: Pages<N, J>, R: Wait>(
 fn again(alloc: Global, pairs: &[Pair]) -> Result<Reply, Memory>
     ensures { IfOk result (λ r. r ≡ replies.Pairs pairs.now) }
 {
-    let mut copies = Vec::new(alloc);
+    let mut copies = Vec::with_capacity(alloc, pairs.len())?;
     for pair in pairs {
         copies.push(Pair {
             key: pair.key.copied(),

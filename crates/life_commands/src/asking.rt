@@ -54,10 +54,16 @@ pub fn ask_open<'a, N: Life, L: Disk, D: PageDevice, V: Vault, R: Wait>(
     }
 }
 
+/// The same request again. The keys and values of most are copied as blocks.
 fn copy_of(request: &Request) -> Result<Request, AllocError>
     ensures { IfOk result (λ copy. copy ≡ request.now) }
 {
-    request.clone()
+    match request {
+        Request::Get(key) => Ok(Request::Get(key.copied())),
+        Request::Put(key, value) => Ok(Request::Put(key.copied(), value.copied())),
+        Request::Del(key) => Ok(Request::Del(key.copied())),
+        _ => request.clone(),
+    }
 }
 
 /// A request that was refused: its line says why, or the run ends. `failed` is the line of one at which the fuse refused a call,

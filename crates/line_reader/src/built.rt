@@ -22,7 +22,7 @@ pub fn is_built(line: &[u8]) -> bool
 fn is_built_word(word: &[u8]) -> bool
     ensures { result ≡ is_built_word word.now }
 {
-    is_store_word(word) || is_device_word(word) || is_upkeep_word(word) || is_transaction_word(word)
+    is_transaction_word(word) || is_store_word(word) || is_device_word(word) || is_upkeep_word(word)
 }
 
 /// Whether it asks for something of the store.

@@ -1,5 +1,5 @@
 -- Options that are there.
-use Rattle.std.proofs.Common.{◌≡◌, ℕ, List, Some, None, refl, ap}
+use Rattle.std.proofs.Common.{◌≡◌, ℕ, List, Some, None, ap}
 use Rattle.std.specs.Prelude.{Option, IsSome, IfSome}
 use Rattle.store_model.specs.Range.{Interval}
 

@@ -3,7 +3,7 @@ ghost use Rattle.std.specs.Prelude.{◌≡◌, ◌≤◌, IfOk, IfSome};
 ghost use Rattle.script.specs.Line.{key_of, value_of, argument_of, key_text, at_most, bound_text, high_text, low_of, high_of, range_of, interval_of, number_from, operator_of, device_of};
 
 use crate::command::Device;
-use crate::token::decode;
+use crate::token::{decode, is_itself};
 use std::alloc::{AllocError, Global};
 use store_model::{Bound, Key, KeyRange, OpValue, Value, number_in};
 
@@ -65,6 +65,9 @@ fn high_text(text: &[u8]) -> Option<Bound>
 pub fn key(alloc: Global, token: &[u8]) -> Result<Option<Key>, AllocError>
     ensures { IfOk result (λ r. r ≡ key_of token.now) }
 {
+    if is_itself(token) {
+        return Ok(key_text(token));
+    }
     match decode(alloc, token)? {
         None => Ok(None),
         Some(text) => Ok(key_text(&text)),
@@ -76,6 +79,9 @@ pub fn key(alloc: Global, token: &[u8]) -> Result<Option<Key>, AllocError>
 pub fn value(alloc: Global, token: &[u8]) -> Result<Option<Value>, AllocError>
     ensures { IfOk result (λ r. r ≡ value_of token.now) }
 {
+    if is_itself(token) {
+        return Ok(value_text(token));
+    }
     match decode(alloc, token)? {
         None => Ok(None),
         Some(text) => Ok(value_text(&text)),
@@ -87,6 +93,9 @@ pub fn value(alloc: Global, token: &[u8]) -> Result<Option<Value>, AllocError>
 pub fn argument(alloc: Global, token: &[u8]) -> Result<Option<OpValue>, AllocError>
     ensures { IfOk result (λ r. r ≡ argument_of token.now) }
 {
+    if is_itself(token) {
+        return Ok(argument_text(token));
+    }
     match decode(alloc, token)? {
         None => Ok(None),
         Some(text) => Ok(argument_text(&text)),
@@ -97,6 +106,9 @@ pub fn argument(alloc: Global, token: &[u8]) -> Result<Option<OpValue>, AllocErr
 fn low(alloc: Global, token: &[u8]) -> Result<Option<Bound>, AllocError>
     ensures { IfOk result (λ r. r ≡ low_of token.now) }
 {
+    if is_itself(token) {
+        return Ok(bound_text(token));
+    }
     match decode(alloc, token)? {
         None => Ok(None),
         Some(text) => Ok(bound_text(&text)),
@@ -107,6 +119,9 @@ fn low(alloc: Global, token: &[u8]) -> Result<Option<Bound>, AllocError>
 fn high(alloc: Global, token: &[u8]) -> Result<Option<Bound>, AllocError>
     ensures { IfOk result (λ r. r ≡ high_of token.now) }
 {
+    if is_itself(token) {
+        return Ok(high_text(token));
+    }
     match decode(alloc, token)? {
         None => Ok(None),
         Some(text) => Ok(high_text(&text)),

@@ -19,5 +19,5 @@ mod word;
 pub use command::{Command, Device};
 pub use line::command_of;
 pub use name::Name;
-pub use token::is_plain;
+pub use token::{all_plain, is_plain};
 pub use word::{cut, first_word};

@@ -1,5 +1,6 @@
 //! Tokens: words that stand for bytes.
-ghost use Rattle.std.specs.Prelude.{◌≡◌, IfOk, fold};
+ghost use Rattle.std.specs.Prelude.{◌≡◌, IfOk, IsTrue, Some, fold};
+ghost use Rattle.std.specs.List.{list_all};
 ghost use Rattle.std.specs.Option.{option_map};
 ghost use Rattle.script.specs.Token.{hex, is_plain, decoded, start, decode_step, Decoding};
 
@@ -33,6 +34,28 @@ pub fn is_plain(byte: u8) -> bool
     ensures { result ≡ is_plain byte }
 {
     32 < byte && byte < 127 && byte != b'%'
+}
+
+/// Whether each byte of a text stands for itself.
+pub fn all_plain(text: &[u8]) -> bool
+    ensures { result ≡ list_all is_plain text.now }
+{
+    let mut plain = true;
+    for byte in text {
+        plain = plain & is_plain(*byte);
+    }
+    plain
+}
+
+/// Whether a token stands for its own bytes.
+#[tactic(auto, using(crate::proofs::Plain::itself))]
+pub fn is_itself(token: &[u8]) -> bool
+    ensures { IsTrue result → decoded token.now ≡ Some token.now }
+{
+    match token {
+        [] => false,
+        _ => all_plain(token),
+    }
 }
 
 /// The bytes that a token stands for, if it is one.

@@ -5,12 +5,12 @@ ghost use Rattle.std.specs.List.{flat_map};
 ghost use Rattle.transcript.specs.Printing.{escaped, escaped_byte, digit, shown};
 
 use itoa::Buffer;
-use script::{Name, is_plain};
+use script::{Name, all_plain, is_plain};
 use std::alloc::{AllocError, Global};
 use store_model::{Key, Value};
 
 /// Room for the bytes of a line whose texts are short.
-const ROOM: usize = 64;
+pub(crate) const ROOM: usize = 64;
 
 /// A line without bytes yet. It has the room of most lines, so that they are never moved.
 fn empty(alloc: Global) -> Result<Vec<u8>, AllocError>
@@ -48,9 +48,13 @@ fn add_byte(out: &mut Vec<u8>, byte: u8) -> Result<(), AllocError>
     }
 }
 
+#[tactic(auto, using(crate::proofs::Plain::as_they_are))]
 fn add_bytes(out: &mut Vec<u8>, text: &[u8]) -> Result<(), AllocError>
     ensures { OnOk result (out.new.items ≡ out.old.items ++ flat_map escaped_byte text.now) }
 {
+    if all_plain(text) {
+        return add(out, text);
+    }
     for byte in text {
         add_byte(out, *byte)?;
     }

@@ -6,7 +6,7 @@ ghost use Rattle.transcript.specs.Lines.{conflict_line, full_line, refused_line,
 ghost use Rattle.transcript.specs.Printing.{escaped};
 
 use crate::endings::{conflict_line, ended_line, failed_line, full_line, refused_line};
-use crate::pieces::{add, add_escaped, add_number, add_shown, keyed, named};
+use crate::pieces::{ROOM, add, add_escaped, add_number, add_shown, keyed, named};
 use script::{Device, Name};
 use std::alloc::{AllocError, Global};
 use store_model::{Key, KeyRange, Lsn, Pair, Reply, Request};
@@ -88,6 +88,7 @@ fn add_row(out: &mut Vec<u8>, name: &Name, pair: &Pair) -> Result<(), AllocError
 fn add_pairs(out: &mut Vec<u8>, name: &Name, pairs: &[Pair]) -> Result<(), AllocError>
     ensures { OnOk result (out.new.items ≡ out.old.items ++ flat_map (row name.now) pairs.now) }
 {
+    out.reserve(pairs.len().saturating_mul(ROOM))?;
     for pair in pairs {
         add_row(out, name, pair)?;
     }
