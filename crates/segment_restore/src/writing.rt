@@ -95,8 +95,9 @@ fn image_at<N: Life, J: Entering<N>, B: Bases<N, J>, R: Wait>(
         }
         older => {
             let base = sealed_of(older);
-            let sealed =
-                rebuild_in_life(rt, alloc, journal, bases, page, base, head, operators, pass)?;
+            let sealed = rebuild_in_life(
+                rt, alloc, journal, bases, page, base, head, operators, pass,
+            )?;
             Ok(Base {
                 sealed,
                 bytes: None,

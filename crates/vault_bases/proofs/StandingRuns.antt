@@ -294,10 +294,13 @@ module _ (opens : List Record → Type 0) (h now : List Entry) (page lsn : ℕ) 
 
   -- the record is the log's
   found_in_run : (r : Record) → result ≡ Ok r → HasSpelling r → IsFound opens now lsn (founds.Record r)
-  found_in_run r is spelled = (spelled, λ opening stands.
-      let x = stands_there opening stands in
-      let same : r ≡ x.rec = subst (GivesRecord x.rec) is (gives opening stands) in
-      subst (λ (l : List Record). record_with l lsn ≡ Some r) (sym (longer opening h now begins)) (place_kept (life_log opening h) (log_of begins.0) lsn r (x.at ∙ ap Some (sym same))))
+  found_in_run r is spelled = (
+    spelled,
+    λ opening stands.
+        let x = stands_there opening stands in
+        let same : r ≡ x.rec = subst (GivesRecord x.rec) is (gives opening stands) in
+        subst (λ (l : List Record). record_with l lsn ≡ Some r) (sym (longer opening h now begins)) (place_kept (life_log opening h) (log_of begins.0) lsn r (x.at ∙ ap Some (sym same))),
+  )
 
   -- a run that lacks it is in a life of which nothing is known
   untold_run : (object : ObjectName) (byte : ℕ) → result ≡ Err (faults.VaultBad object byte) → IsUntold opens

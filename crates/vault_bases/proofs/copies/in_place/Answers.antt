@@ -43,8 +43,8 @@ returns-clause-copy g c =
     let u = c.read_named.ensures.entered in
     let v = c.read_named-2.ensures.entered in
     let found = copy_in_place g.N.Life.opens c.args.pass.now.log c.read_named.new.pass.log c.read_named-2.new.pass.log (u.gained, sym u.is) (v.gained, sym v.is) c.args.page c.args.backup c.ranges.page.fits c.ranges.backup.fits c.object_of-name.result c.object_of-name.ensures c.image_place-place.result c.image_place-place.ensures
-            c.deref.result.now c.deref-2.result.now (λ opening bytes stands n. c.deref.ensures.value ∙ c.in_ok-head.ensures.bytes opening bytes stands n) (λ opening bytes stands n. c.deref-2.ensures.value ∙ c.in_ok-image.ensures.bytes opening bytes stands n)
-            c.in_ok-found.found c.in_ok-found.ensures.held c.in_ok-found.ensures.rules in
+    c.deref.result.now c.deref-2.result.now (λ opening bytes stands n. c.deref.ensures.value ∙ c.in_ok-head.ensures.bytes opening bytes stands n) (λ opening bytes stands n. c.deref-2.ensures.value ∙ c.in_ok-image.ensures.bytes opening bytes stands n)
+    c.in_ok-found.found c.in_ok-found.ensures.held c.in_ok-found.ensures.rules in
     record {
       copy = subst (λ (o : Option Sealed). IfSome o (IsCopyIn g.N.Life.opens c.args.pass.now.log c.args.page c.args.backup)) c.in-Some.is found;
       bytes = first_bytes c.first_image.result c.deref-3.result.now _ _ c.first_image.ensures (c.deref-3.ensures.value ∙ sym c.deref-2.ensures.value)
