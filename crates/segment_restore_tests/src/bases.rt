@@ -58,6 +58,7 @@ impl<'a, N: Life> Bases<N, Telling<'a, N>> for BehindSplit {
             None => Err(Fault::Memory),
         }
     }
+
     #[tactic(auto, using(page_ops::proofs::Gaining::upheld))]
     fn archived<R: Wait>(
         &mut self,

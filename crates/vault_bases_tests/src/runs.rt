@@ -170,7 +170,9 @@ fn asked<N: Life, R: Wait>(
                 &operators,
                 &mut pass,
             ) {
-                Ok(Sealed { state, lsn }) => if lsn == head && is_behind_split(alloc, page, &state) {
+                Ok(Sealed { state, lsn }) => if lsn == head
+                    && is_behind_split(alloc, page, &state)
+                {
                     Answer::Rebuilt
                 } else {
                     Answer::Other
@@ -289,7 +291,11 @@ fn a_page_is_rebuilt_from_a_run(rt: HostRuntime) -> Result<(), Fail> {
     for (page, calls) in [(1, 4), (2, 1)] {
         for passed in 0..calls {
             let (answer, faults) = given(&rt, alloc, &bytes, Some(passed), Step::Rebuild(page, 4))?;
-            assert_eq!(rt; (answer, faults), (Answer::VaultFault, 1), "{page} {passed}");
+            assert_eq!(rt;
+                (answer, faults),
+                (Answer::VaultFault, 1),
+                "{page} {passed}"
+            );
         }
         let (answer, faults) = given(&rt, alloc, &bytes, Some(calls), Step::Rebuild(page, 4))?;
         assert_eq!(rt; (answer, faults), (Answer::Rebuilt, 0), "{page}");
