@@ -52,13 +52,13 @@ returns-in_err-copy-clause-cause g c =
     let p = err_from_is_err_and c.from_residual-in_err-copy.result c.from_residual-in_err-copy.ensures.1 in
     rw (p.1, p.2) (own_cause _ _ _ _ _ _ c.in_err-copy.ensures.refused)
 
-pub returns-then-copy-sealed-lsn-clause-entered : goal.returns-then-copy-sealed-lsn-clause-entered
-returns-then-copy-sealed-lsn-clause-entered g c = upheld_both _ _ _ _ _ _ _ _ _ (looks _ _ _ _ _ _ _ _ _ c.listed.ensures.seen) c.find_copy.ensures.entered
+pub returns-then-copy-lsn-clause-entered : goal.returns-then-copy-lsn-clause-entered
+returns-then-copy-lsn-clause-entered g c = upheld_both _ _ _ _ _ _ _ _ _ (looks _ _ _ _ _ _ _ _ _ c.listed.ensures.seen) c.find_copy.ensures.entered
 
-pub returns-then-copy-sealed-lsn-clause-refused : goal.returns-then-copy-sealed-lsn-clause-refused
-returns-then-copy-sealed-lsn-clause-refused g c = (
+pub returns-then-copy-lsn-clause-refused : goal.returns-then-copy-lsn-clause-refused
+returns-then-copy-lsn-clause-refused g c = (
   open_then _ _ _ (open_met (g.J.Entering.account c.args.journal.now) (g.J.Entering.account c.listed.new.self) c.in_ok-listed.ensures.ends) c.find_copy.ensures.open,
-  untold_lsn g.N.Life.opens c.listed.new.pass.log c.args.page c.in_ok-listed.listed c.in_ok-listed.ensures.listed c.listed.ensures.seen.now.consistent c.if-backup-eq0.false c.in_ok-copy.copy.sealed c.in_ok-copy.ensures.copy.copy c.if-copy-sealed-lsn.true,
+  untold_lsn g.N.Life.opens c.listed.new.pass.log c.args.page c.in_ok-listed.listed c.in_ok-listed.ensures.listed c.listed.ensures.seen.now.consistent c.if-backup-eq0.false c.in_ok-copy.copy.sealed c.in_ok-copy.ensures.copy.copy c.if-copy-lsn.true,
 )
 
 pub returns-clause-entered : goal.returns-clause-entered
@@ -72,7 +72,7 @@ returns-clause-base g c =
     let v = c.find_copy.ensures.entered in
     record {
       image = is_base g.N.Life.opens c.listed.new.pass.log c.args.page c.in_ok-listed.listed c.in_ok-listed.ensures.listed c.listed.ensures.seen.now.consistent c.if-backup-eq0.false c.in_ok-copy.copy.sealed c.in_ok-copy.ensures.copy.copy c.find_copy.new.pass.log c.args.head (v.gained, sym v.is)
-          c.if-copy-sealed-lsn.false c.if-head-lsn.false;
+          c.if-copy-lsn.false c.if-head-lsn.false;
       bytes = c.in_ok-copy.ensures.copy.bytes;
     }
 
