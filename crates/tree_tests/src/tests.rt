@@ -382,12 +382,7 @@ fn a_page_that_does_not_fit_its_foster_parent_is_renewed(rt: HostRuntime) -> Res
         places: 9,
         steps: &[short(0, 145)],
         behind: 3,
-        ways: &[
-            Way::BeginsEarly,
-            Way::EndsEarly,
-            Way::Another,
-            Way::NoLeaf,
-        ],
+        ways: &[Way::BeginsEarly, Way::EndsEarly, Way::Another, Way::NoLeaf],
     };
     let told = told_of(&rt, rt.alloc(), tree)?;
     let wanted = "0 ..- k072>2 72 0 1440 k000 k071\n0 k072..- 73 0 1460 k072 k144\nletters 80\n";
