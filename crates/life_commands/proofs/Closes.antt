@@ -11,7 +11,7 @@ use Rattle.log_laws.specs.Right.{IsRight}
 use Rattle.journal.specs.State.{calls_of}
 use Rattle.page_ops.specs.Seeing.{Calls}
 use Rattle.command_laws.specs.Names.{Active}
-use Rattle.own_life.specs.Pages.{IsWrittenEntry, WritesPages}
+use Rattle.store_pages.specs.Pages.{IsWrittenEntry, WritesPages}
 use Rattle.own_life.specs.State.{BreaksOff, GoesOn, LifeState}
 use Rattle.script.specs.declared.command.Command.TheVariants as commands
 use Rattle.script.specs.declared.command.Device.TheVariants.{Log}

@@ -31,7 +31,7 @@ use Rattle.engine.specs.Beside.{IsInWay}
 use Rattle.engine.specs.Requests.{lock_of}
 use Rattle.store_life.specs.Steps.{IsStep}
 use Rattle.store_life.specs.Turns.{IsOfAbort, WasInWay}
-use Rattle.own_life.specs.Backed.{AddsBackup, AddsRuns, IsArchived, IsWhole}
+use Rattle.store_pages.specs.Backed.{AddsBackup, AddsRuns, IsArchived, IsWhole}
 use Rattle.own_life.specs.Helps.{AddsSteps, Helps, takes_back}
 use Rattle.own_life.specs.State.{BreaksOff, CallsGoOn, GoesOn, LifeState}
 use Rattle.script.specs.declared.command.Command.{Command}

@@ -29,7 +29,7 @@ use Rattle.command_laws.specs.Commands.{Among, Amid, IsUpkeep, commit_record}
 use Rattle.command_laws.specs.Names.{Active, active_of, is_active, without}
 use Rattle.maintenance.specs.Steps.{AreAllOver}
 use Rattle.rollback.specs.Owners.{IsLoserOf}
-use Rattle.own_life.specs.Backed.{AddsBackup, AddsRuns, IsArchived, IsWhole as HasEachPage}
+use Rattle.store_pages.specs.Backed.{AddsBackup, AddsRuns, IsArchived, IsWhole as HasEachPage}
 use Rattle.own_life.specs.Helps.{AddsSteps, Helps}
 use Rattle.store_life.specs.Turns.{EndsBy, HasMark, IsCheckpointed, IsLost}
 use Rattle.own_life.specs.State.{BeginsAs, BreaksOff, FailsOver, FailsToFlush, GoesOn, IsCommitted, LifeState}

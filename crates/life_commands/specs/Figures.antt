@@ -8,7 +8,7 @@ use Rattle.wal_record.specs.OpenWrites.{losers}
 use Rattle.wal_record.specs.Upkeep.{lost_pages, segments, unrestored}
 use Rattle.wal_record.specs.declared.entry.Entry.{Entry}
 use Rattle.wal_record.specs.declared.record.Record.{Record}
-use Rattle.own_life.specs.Backed.{IsArchived, IsWhole}
+use Rattle.store_pages.specs.Backed.{IsArchived, IsWhole}
 use Rattle.own_life.specs.Helps.{takes_back}
 use Rattle.script.specs.declared.command.Command.{Command}
 use Rattle.script.specs.declared.command.Command.TheVariants as commands

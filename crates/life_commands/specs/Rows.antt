@@ -19,9 +19,9 @@ use Rattle.command_laws.specs.Names.{Active, active_of, is_active}
 use Rattle.engine.specs.Answers.{HadRoom}
 use Rattle.engine.specs.Beside.{IsInWay}
 use Rattle.engine.specs.Requests.{lock_of}
-use Rattle.own_life.specs.Backed.{IsOfBackup, IsRunEntry}
+use Rattle.store_pages.specs.Backed.{IsOfBackup, IsRunEntry}
 use Rattle.own_life.specs.Helps.{AreOfHelp}
-use Rattle.own_life.specs.Pages.{IsWrittenEntry}
+use Rattle.store_pages.specs.Pages.{IsWrittenEntry}
 use Rattle.script.specs.declared.command.Device.{Device}
 use Rattle.script.specs.declared.command.Device.TheVariants.{Log, Vault}
 use Rattle.script.specs.declared.command.Command.{Command}

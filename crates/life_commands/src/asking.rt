@@ -5,17 +5,18 @@ ghost use Rattle.script.specs.declared.command.Command.TheVariants as commands;
 ghost use Rattle.life_commands.specs.Causes.{LifeCause};
 ghost use Rattle.life_commands.specs.Faults.{FailsAs, IsRefusedLine};
 ghost use Rattle.life_commands.specs.Promises.{DidArmed, Refused};
-ghost use Rattle.own_life.specs.Pages.{IsIdle};
+ghost use Rattle.store_pages.specs.Pages.{IsIdle};
 
 use crate::failing::{MOST, fail, is_refused};
 use crate::status::Status;
 use media::{Disk, PageDevice, Vault};
-use own_life::{OwnLife, StorePages};
+use own_life::OwnLife;
 use page_ops::Life;
 use script::{Device, Name};
 use std::alloc::{AllocError, Global};
 use std::sync::Wait;
 use store_model::{Fault, Request};
+use store_pages::StorePages;
 
 /// A request of an active transaction.
 pub fn ask_open<'a, N: Life, L: Disk, D: PageDevice, V: Vault, R: Wait>(

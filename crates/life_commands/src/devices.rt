@@ -9,15 +9,16 @@ ghost use Rattle.script.specs.declared.command.Device.TheVariants as devices;
 ghost use Rattle.life_commands.specs.Causes.{LifeCause};
 ghost use Rattle.life_commands.specs.Promises.{Did, Refused};
 ghost use Rattle.life_commands.specs.declared.status.Status.TheVariants as statuses;
-ghost use Rattle.own_life.specs.Pages.{IsIdle};
+ghost use Rattle.store_pages.specs.Pages.{IsIdle};
 
 use crate::status::Status;
 use media::{Disk, PageDevice, Vault};
-use own_life::{OwnLife, StorePages};
+use own_life::OwnLife;
 use page_ops::Life;
 use script::Device;
 use std::alloc::Global;
 use store_model::PageNo;
+use store_pages::StorePages;
 
 /// Reads of the page from the data device fail verification until its next write. That the device fails to be spoiled is told
 /// nowhere.

@@ -7,7 +7,7 @@ ghost use Rattle.life_commands.specs.Causes.{LifeCause};
 ghost use Rattle.life_commands.specs.Promises.{Did, DidArmed, Refused};
 ghost use Rattle.life_commands.specs.Rows.{IsNoClose, IsNoStop};
 ghost use Rattle.life_commands.specs.declared.status.Status.TheVariants as statuses;
-ghost use Rattle.own_life.specs.Pages.{IsIdle};
+ghost use Rattle.store_pages.specs.Pages.{IsIdle};
 
 use crate::asking::ask_open;
 use crate::devices::{damage, fuse, renew};
@@ -16,12 +16,13 @@ use crate::status::Status;
 use crate::storing::{archive_open, backup_open};
 use crate::upkeep::{checkpoint_open, help_open, lose_open, stat_open};
 use media::{Disk, PageDevice, Vault};
-use own_life::{OwnLife, StorePages};
+use own_life::OwnLife;
 use page_ops::Life;
 use script::{Command, Name};
 use std::alloc::Global;
 use std::sync::Wait;
 use store_model::{Fault, Request};
+use store_pages::StorePages;
 use transcript::Upkeep;
 
 /// Carries a command out, and gives the lines that answer it; the vault's fuse is armed, or not.

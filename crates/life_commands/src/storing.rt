@@ -3,16 +3,17 @@ ghost use Rattle.std.specs.Prelude.{◌≡◌, ◌≤◌, ℕ, None, IfErr, IfOk
 ghost use Rattle.script.specs.declared.command.Command.TheVariants as commands;
 ghost use Rattle.life_commands.specs.Causes.{LifeCause};
 ghost use Rattle.life_commands.specs.Promises.{DidArmed, Refused};
-ghost use Rattle.own_life.specs.Pages.{IsIdle};
+ghost use Rattle.store_pages.specs.Pages.{IsIdle};
 
 use crate::failing::{MOST, fail, is_refused};
 use crate::status::Status;
 use media::{Disk, PageDevice, Vault};
-use own_life::{OwnLife, StorePages};
+use own_life::OwnLife;
 use page_ops::Life;
 use script::Device;
 use std::alloc::Global;
 use std::sync::Wait;
+use store_pages::StorePages;
 use transcript::Upkeep;
 
 /// A backup of all pages is made.

@@ -17,9 +17,9 @@ use Rattle.maintenance.proofs.Steps.{least_loses}
 use Rattle.rollback.specs.Owners.{IsLoserOf}
 use Rattle.store_life.specs.Steps.{AddsStep, AddsUpkeep, IsStep}
 use Rattle.store_life.proofs.Stepped.{over_later}
-use Rattle.own_life.specs.Backed.{AreArchived, ArchivesNext, IsRunEntry, MakesUpto}
+use Rattle.store_pages.specs.Backed.{AreArchived, ArchivesNext, IsRunEntry, MakesUpto}
 use Rattle.own_life.specs.Helps.{AddsSteps, Helps, Undoes, UndoesSome, takes_back}
-use Rattle.own_life.specs.Pages.{IsWrittenEntry, WritesUpto}
+use Rattle.store_pages.specs.Pages.{IsWrittenEntry, WritesUpto}
 
 -- ---- own entries among others, one list behind the other
 

@@ -1,4 +1,3 @@
-pub mod Backed
 pub mod Called
 pub mod Sequences
 pub mod Committed
@@ -6,8 +5,5 @@ pub mod Going
 pub mod Named
 pub mod Numbered
 pub mod Surveyed
-pub mod Written
 mod Begun
 mod Helped
-mod Redone
-mod Restored

@@ -11,7 +11,7 @@ use Rattle.wal_record.specs.declared.record.Record.{Record}
 use Rattle.page_ops.specs.Seeing.{Calls}
 use Rattle.log_laws.proofs.Central.{eqb_self}
 use Rattle.store_model.proofs.Bools.{or_left, or_right}
-use Rattle.own_life.specs.Pages.{AllBut, IsNextRedone, IsNextWritten, OneLess, OthersStay}
+use Rattle.store_pages.specs.Pages.{AllBut, IsNextRedone, IsNextWritten, OneLess, OthersStay}
 use Rattle.own_life.specs.State.{BreaksOff, CallsGoOn, Fails, FailsOver, FailsToFlush, GoesOn, LifeState}
 
 -- ---- how they leave the life

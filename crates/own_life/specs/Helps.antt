@@ -6,8 +6,8 @@ use Rattle.wal_record.specs.declared.entry.Entry.{Entry}
 use Rattle.wal_record.specs.declared.entry.Entry.TheVariants.{Rec}
 use Rattle.command_laws.specs.Commands.{Among, IsUpkeep}
 use Rattle.store_life.specs.Steps.{IsStep}
-use Rattle.own_life.specs.Backed.{IsRunEntry}
-use Rattle.own_life.specs.Pages.{IsWrittenEntry}
+use Rattle.store_pages.specs.Backed.{IsRunEntry}
+use Rattle.store_pages.specs.Pages.{IsWrittenEntry}
 
 -- A help's own entries: the Undos and Ends of losers, what pages that are brought enter, that pages were written, and that
 -- archive runs are done; of all but the second together so many at most.

@@ -1,5 +1,3 @@
-pub mod Backed
 pub mod Helps
 pub mod Kept
-pub mod Pages
 pub mod State

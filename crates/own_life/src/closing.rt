@@ -2,17 +2,17 @@
 ghost use Rattle.std.specs.Prelude.{◌≡◌, ◌<◌, ◌≤◌, ℕ, List, None, IfErr, IfNone, IfOk, OnOk, length};
 ghost use Rattle.wal_record.specs.History.{life_log};
 ghost use Rattle.wal_record.specs.declared.record.Record.{Record};
-ghost use Rattle.own_life.specs.Pages.{AwaitsRedo, IsIdle, IsNextWritten, Lacks, OneLess, WritesPages, WritesUpto};
+ghost use Rattle.store_pages.specs.Pages.{AwaitsRedo, IsIdle, IsNextWritten, Lacks, OneLess, WritesPages, WritesUpto};
 ghost use Rattle.own_life.specs.State.{Fails, FailsToFlush, GoesOn};
 
 use crate::life::OwnLife;
 use crate::seeing::see_whole;
-use crate::store_pages::StorePages;
 use media::{Disk, PageDevice, Vault};
 use page_ops::{Entering, Life};
 use std::alloc::Global;
 use std::sync::Wait;
 use store_model::{Fault, PageNo};
+use store_pages::StorePages;
 
 impl<'a, L: Disk, N: Life> OwnLife<'a, L, N> {
     /// Writes the least dirty page above this one, and gives its number; none where no page above it is dirty.

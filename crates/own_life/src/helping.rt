@@ -3,19 +3,19 @@ ghost use Rattle.std.specs.Prelude.{◌≡◌, ◌⊎◌, ◌<◌, ◌≤◌, �
 ghost use Rattle.maintenance.specs.Steps.{AreAllOver};
 ghost use Rattle.rollback.specs.Owners.{IsLoserOf};
 ghost use Rattle.store_life.specs.Steps.{AddsUpkeep, StepsBack};
-ghost use Rattle.own_life.specs.Backed.{AreArchived, ArchivesNext, MakesUpto};
+ghost use Rattle.store_pages.specs.Backed.{AreArchived, ArchivesNext, MakesUpto};
 ghost use Rattle.own_life.specs.Helps.{AddsSteps, Helps, Undoes, UndoesSome};
-ghost use Rattle.own_life.specs.Pages.{AllBut, AreRestored, AwaitsRedo, IsIdle, Lacks, WritesUpto};
+ghost use Rattle.store_pages.specs.Pages.{AllBut, AreRestored, AwaitsRedo, IsIdle, Lacks, WritesUpto};
 ghost use Rattle.own_life.specs.State.{Fails, FailsOver, GoesOn};
 
 use crate::life::OwnLife;
 use crate::seeing::see_whole;
-use crate::store_pages::StorePages;
 use media::{Disk, PageDevice, Vault};
 use page_ops::Life;
 use std::alloc::Global;
 use std::sync::Wait;
 use store_model::{Fault, PageNo};
+use store_pages::StorePages;
 
 impl<'a, L: Disk, N: Life> OwnLife<'a, L, N> {
     /// Takes so many steps, or fewer where no step has work, and tells how many. A step is the first of these that has work: a

@@ -1,10 +1,8 @@
 //! A life that one thread owns: from its opening to its stop.
 //!
 //! [`open_life`] makes of a log that was read, of a data device, a vault and what names a life, an [`OwnLife`] and its pages
-//! ([`StorePages`]): the journal and the pool of a store (`plain_store`), and its named transactions (`store_life`). Pages come from
-//! the data device, and by repair from their last backup in the vault and from the log where this lacks them, or gives them damaged
-//! or too old; behind a loss of the device a segment is so restored whole before the first of its pages is given. They are lent to
-//! each call that wants them. Each command of the life is a call: [`OwnLife::begin`], [`OwnLife::ask`], [`OwnLife::commit`],
+//! (`store_pages`): the journal and the pool of a store (`plain_store`), and its named transactions (`store_life`). The pages are
+//! lent to each call that wants them. Each command of the life is a call: [`OwnLife::begin`], [`OwnLife::ask`], [`OwnLife::commit`],
 //! [`OwnLife::abort`], [`OwnLife::checkpoint`], [`OwnLife::backup`], [`OwnLife::archive`], [`OwnLife::lose`], [`OwnLife::help`],
 //! [`OwnLife::survey`] and [`OwnLife::close`]. They are for a life that goes on; whether it has ended, and with which LSN,
 //! [`OwnLife::ended`] tells at any moment. [`OwnLife::into_devices`] stops it.
@@ -35,12 +33,7 @@ mod leaving;
 mod life;
 mod opened;
 mod seeing;
-mod store_pages;
 mod storing;
-mod supply;
-mod vault_fuse;
 
 pub use life::OwnLife;
 pub use opened::{LifeRefused, open_life};
-pub use store_pages::StorePages;
-pub use supply::LifeSupply;

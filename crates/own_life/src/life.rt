@@ -17,12 +17,11 @@ ghost use Rattle.wal_record.specs.declared.record.Record.{Record};
 ghost use Rattle.store_life.specs.SoFar.{left_by};
 ghost use Rattle.store_life.specs.Turns.{Asks, EndsBy, IsCheckpointed, IsLost, IsTold};
 ghost use Rattle.own_life.specs.Kept.{without_crowd};
-ghost use Rattle.own_life.specs.Pages.{HasNone, IsIdle, Lacks};
+ghost use Rattle.store_pages.specs.Pages.{HasNone, IsIdle, Lacks};
 ghost use Rattle.own_life.specs.State.{AreLeft, BeginsAs, FailsToAnswer, FailsToBegin, FailsToCommit, FailsToFlush, FailsOver, FailsToLook, GoesOn, IsCommitted, name_by};
 
 use crate::leaving::leave_vault;
 use crate::seeing::see_whole;
-use crate::store_pages::StorePages;
 use engine::Answered;
 use media::{Disk, PageDevice, Vault};
 use own_journal::OwnJournal;
@@ -33,6 +32,7 @@ use std::marker::Model;
 use std::sync::Wait;
 use store_life::StoreLife;
 use store_model::{Fault, Lsn, MOST_ACTIVE, Pos, Request, TxId};
+use store_pages::StorePages;
 
 /// A life with its journal and its named transactions. Contracts see it as its history, how much of the log is known to be durable,
 /// its active names, its end, and what the log disk tells of its calls. Its pages are lent to each call that wants them.

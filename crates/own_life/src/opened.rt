@@ -6,11 +6,9 @@ ghost use Rattle.named_objects.specs.Named.{AreNamed};
 ghost use Rattle.plain_store.specs.Opens.{AreEarlier};
 ghost use Rattle.wal_record.specs.declared.record.Record.{Record};
 ghost use Rattle.own_life.specs.State.{HasJustBegun};
-ghost use Rattle.own_life.specs.Pages.{IsIdle};
+ghost use Rattle.store_pages.specs.Pages.{IsIdle};
 
 use crate::life::OwnLife;
-use crate::store_pages::StorePages;
-use crate::supply::LifeSupply;
 use listed_log::ListedLog;
 use media::{Disk, PageDevice, Vault};
 use named_objects::OwnObjects;
@@ -21,6 +19,7 @@ use plain_store::{PlainStore, StoreRefused, open_store};
 use std::alloc::Global;
 use std::sync::ledger::Share;
 use store_life::StoreLife;
+use store_pages::StorePages;
 use vault_bases::{Tally, VaultBases};
 
 /// There was no memory for a life. Here are its devices.
@@ -69,11 +68,11 @@ pub fn open_life<'a, L: Disk, D: PageDevice, V: Vault, N: Life>(
             let objects = OwnObjects::new(vault, maint, pass.copy(&ground.board));
             let faults = Tally::new(vault_faults, share);
             let bases = VaultBases { objects, faults };
-            let (pool, ()) = pages.resupplied(LifeSupply { operators, bases });
+            let pages = StorePages::new(pages, operators, bases);
             let _ = journal.end_seen(&mut pass);
             let named = Vec::new(alloc);
             let life = StoreLife { pass, named };
-            Ok((OwnLife { journal, life }, StorePages { pool }))
+            Ok((OwnLife { journal, life }, pages))
         }
         Err(refused) => {
             let StoreRefused { log, device, .. } = refused;

@@ -1,17 +1,17 @@
 //! What a life stores in its vault: backups of its pages, and runs of its log.
 ghost use Rattle.std.specs.Prelude.{◌≡◌, ◌≤◌, None, IfErr, OnOk};
-ghost use Rattle.own_life.specs.Backed.{Archives, BacksUp};
+ghost use Rattle.store_pages.specs.Backed.{Archives, BacksUp};
 ghost use Rattle.own_life.specs.State.{FailsOver, GoesOn};
-ghost use Rattle.own_life.specs.Pages.{IsIdle};
+ghost use Rattle.store_pages.specs.Pages.{IsIdle};
 
 use crate::life::OwnLife;
 use crate::seeing::see_whole;
-use crate::store_pages::StorePages;
 use media::{Disk, PageDevice, Vault};
 use page_ops::Life;
 use std::alloc::Global;
 use std::sync::Wait;
 use store_model::Fault;
+use store_pages::StorePages;
 
 impl<'a, L: Disk, N: Life> OwnLife<'a, L, N> {
     /// Makes a backup of all pages, segment by segment, and gives its number; as `backups::backup`. After a refusal the segments

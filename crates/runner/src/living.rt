@@ -12,7 +12,7 @@ ghost use Rattle.runner.specs.Devices.{Stored};
 ghost use Rattle.runner.specs.Machine.{Begun, IsAt, OpensOn};
 ghost use Rattle.runner.specs.Causes.{LivedCause, disk_at};
 ghost use Rattle.runner.specs.Vault.{WithVault};
-ghost use Rattle.own_life.specs.Pages.{IsIdle};
+ghost use Rattle.store_pages.specs.Pages.{IsIdle};
 
 use crate::at::At;
 use crate::stop::{cycle_vault, cycled};
@@ -21,12 +21,13 @@ use life_commands::Status;
 use line_reader::Input;
 use media::{Disk, PageDevice, Sink, Source, Vault, write_all};
 use operators::Operators;
-use own_life::{LifeRefused, OwnLife, StorePages, open_life};
+use own_life::{LifeRefused, OwnLife, open_life};
 use page_ops::{Ground, Life, Tokens, Unnamed};
 use std::alloc::Global;
 use std::marker::Brand;
 use std::sync::Wait;
 use store_log::Opened;
+use store_pages::StorePages;
 
 /// How a life ended: by a stop or a close, or with the run. Here are its devices.
 #[derive(Drop)]

@@ -11,7 +11,7 @@ ghost use Rattle.runner.specs.Devices.{AreDevicesOf, Stored};
 ghost use Rattle.runner.specs.Machine.{Begun};
 ghost use Rattle.runner.specs.Vault.{Arms, Cycles, WithVault, armed_after, armed_by};
 ghost use Rattle.runner.specs.Causes.{LineCause, PassedCause, TurnedCause};
-ghost use Rattle.own_life.specs.Pages.{IsIdle};
+ghost use Rattle.store_pages.specs.Pages.{IsIdle};
 
 use crate::at::{At, Stepped, disk_opened};
 use crate::outside;
@@ -19,12 +19,13 @@ use crate::stop::cycle_vault;
 use life_commands::Status;
 use line_reader::{Input, Next, NotRead, is_built};
 use media::{Disk, PageDevice, Sink, Source, Vault, write_all};
-use own_life::{OwnLife, StorePages};
+use own_life::OwnLife;
 use page_ops::Life;
 use script::{Command, Device, command_of};
 use std::alloc::Global;
 use std::sync::Wait;
 use store_log::Opened;
+use store_pages::StorePages;
 
 /// What a line did: where the run is then, or how it ended.
 #[derive(Drop)]

@@ -5,7 +5,7 @@ use Rattle.life_commands.specs.Turns.{Start, Turn}
 use Rattle.life_commands.specs.Living.{Within}
 use Rattle.runner.specs.Clause.{Between}
 use Rattle.runner.specs.Vault.{WithVault}
-use Rattle.own_life.specs.Pages.{IsIdle}
+use Rattle.store_pages.specs.Pages.{IsIdle}
 use Rattle.runner.proofs.living.run_life.Given as goal
 
 abbrev pub invariant-loop : goal.invariant-loop

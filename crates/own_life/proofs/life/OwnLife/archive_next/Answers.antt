@@ -1,9 +1,9 @@
 use Rattle.std.proofs.Common.{List, ap, subst, sym, ◌∙◌}
 use Rattle.wal_record.specs.declared.entry.Entry.{Entry}
 use Rattle.store_life.specs.SoFar.{actives}
-use Rattle.own_life.specs.Backed.{ArchivesNext}
+use Rattle.store_pages.specs.Backed.{ArchivesNext}
 use Rattle.own_life.specs.State.{LifeState}
-use Rattle.own_life.proofs.Backed.{next_later}
+use Rattle.store_pages.proofs.Backed.{next_later}
 use Rattle.own_life.proofs.Called.{bring_refused, brings, meets_done}
 use Rattle.own_life.proofs.Going.{called_by, kept_by, names_left}
 use Rattle.own_life.proofs.life.OwnLife.archive_next.Goals as goal

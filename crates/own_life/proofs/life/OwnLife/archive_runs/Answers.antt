@@ -1,6 +1,6 @@
 use Rattle.std.proofs.Common.{◌+◌, Bool, refl, subst, ◌∙◌, arith}
 use Rattle.std.specs.Prelude.{Ok}
-use Rattle.own_life.specs.Backed.{ArchivesNext}
+use Rattle.store_pages.specs.Backed.{ArchivesNext}
 use Rattle.own_life.proofs.Helped.{archived_since, made_more, made_none, made_within}
 use Rattle.own_life.proofs.Sequences.{goes_self, goes_then}
 use Rattle.own_life.proofs.life.OwnLife.archive_runs.Goals as goal

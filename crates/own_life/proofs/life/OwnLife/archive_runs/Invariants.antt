@@ -1,6 +1,6 @@
 use Rattle.std.proofs.Common.{◌≡◌, ◌≤◌}
-use Rattle.own_life.specs.Backed.{MakesUpto}
-use Rattle.own_life.specs.Pages.{IsIdle}
+use Rattle.store_pages.specs.Backed.{MakesUpto}
+use Rattle.store_pages.specs.Pages.{IsIdle}
 use Rattle.own_life.specs.State.{GoesOn}
 use Rattle.own_life.proofs.life.OwnLife.archive_runs.Given as goal
 

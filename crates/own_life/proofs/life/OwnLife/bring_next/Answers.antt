@@ -3,7 +3,7 @@ use Rattle.std.specs.Prelude.{IfNone, IfOk}
 use Rattle.wal_record.specs.declared.entry.Entry.{Entry}
 use Rattle.store_life.specs.SoFar.{actives}
 use Rattle.store_life.specs.Steps.{AddsUpkeep}
-use Rattle.own_life.specs.Pages.{AreRestored}
+use Rattle.store_pages.specs.Pages.{AreRestored}
 use Rattle.own_life.specs.State.{LifeState}
 use Rattle.own_life.proofs.Called.{bring_refused, brings, meets_done}
 use Rattle.own_life.proofs.Going.{called_by, kept_by, names_left}

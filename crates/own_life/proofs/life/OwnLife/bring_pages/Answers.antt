@@ -1,8 +1,8 @@
 use Rattle.std.proofs.Common.{arith, ℕ, ap, refl, ◌∙◌}
 use Rattle.std.specs.Prelude.{not}
-use Rattle.own_life.specs.Pages.{AreRestored, AwaitsRedo}
+use Rattle.store_pages.specs.Pages.{AreRestored, AwaitsRedo}
 use Rattle.own_life.proofs.Helped.{upkeep_none, upkeep_then}
-use Rattle.own_life.proofs.Restored.{when_none}
+use Rattle.store_pages.proofs.Restored.{when_none}
 use Rattle.own_life.proofs.Sequences.{goes_self, goes_then}
 use Rattle.own_life.proofs.life.OwnLife.bring_pages.Goals as goal
 

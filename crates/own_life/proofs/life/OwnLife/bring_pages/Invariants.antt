@@ -1,7 +1,7 @@
 use Rattle.std.proofs.Common.{◌≡◌, ◌≤◌}
 use Rattle.store_life.specs.Steps.{AddsUpkeep}
 use Rattle.own_life.specs.State.{GoesOn}
-use Rattle.own_life.specs.Pages.{IsIdle}
+use Rattle.store_pages.specs.Pages.{IsIdle}
 use Rattle.own_life.proofs.life.OwnLife.bring_pages.Given as goal
 
 abbrev pub invariant-loop-taken : goal.invariant-loop-taken

@@ -1,9 +1,9 @@
 use Rattle.std.proofs.Common.{ℕ, List, Option, arith, refl, sym, subst, ◌∙◌}
 use Rattle.std.proofs.lemmas.Result.{err_from_is_err_and}
 use Rattle.wal_record.specs.declared.entry.Entry.{Entry}
-use Rattle.own_life.specs.Pages.{IsNextWritten, Lacks, WritesPages}
+use Rattle.store_pages.specs.Pages.{IsNextWritten, Lacks, WritesPages}
 use Rattle.own_life.proofs.Sequences.{all_clean, done_then, fails_then, flush_then, goes_self, goes_then, more_clean, no_more, on_ok}
-use Rattle.own_life.proofs.Written.{upto_pages, writes_none, writes_then}
+use Rattle.store_pages.proofs.Written.{upto_pages, writes_none, writes_then}
 use Rattle.own_life.proofs.life.OwnLife.close.Goals as goal
 
 pub loop-page-init : goal.loop-page-init

@@ -1,5 +1,5 @@
 use Rattle.std.proofs.Common.{◌≡◌, ◌-◌, ◌^◌}
-use Rattle.own_life.specs.Pages.{IsIdle, Lacks, WritesPages}
+use Rattle.store_pages.specs.Pages.{IsIdle, Lacks, WritesPages}
 use Rattle.own_life.specs.State.{GoesOn}
 use Rattle.own_life.proofs.Sequences.{CleanUpto}
 use Rattle.own_life.proofs.life.OwnLife.close.Given as goal

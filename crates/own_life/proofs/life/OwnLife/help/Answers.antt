@@ -1,9 +1,9 @@
 use Rattle.std.proofs.Common.{◌-◌, ◌+◌, subst, List, Bool, arith}
 use Rattle.rollback.specs.Owners.{IsLoserOf}
 use Rattle.buffer_pool.specs.Tables.{Table}
-use Rattle.own_life.specs.Pages.{AwaitsRedo, Lacks}
+use Rattle.store_pages.specs.Pages.{AwaitsRedo, Lacks}
 use Rattle.own_life.proofs.Helped.{archived_since, helped, helped_some, losers_done, made_none, written_none}
-use Rattle.own_life.proofs.Restored.{restored_made, restored_written}
+use Rattle.store_pages.proofs.Restored.{restored_made, restored_written}
 use Rattle.own_life.proofs.life.OwnLife.help.Goals as goal
 
 pub returns-in_err-undone-clause-helps : goal.returns-in_err-undone-clause-helps

@@ -2,7 +2,7 @@ use Rattle.std.proofs.Common.{◌≡◌, ◌≤◌}
 use Rattle.rollback.specs.Owners.{IsLoserOf}
 use Rattle.own_life.specs.Helps.{Undoes}
 use Rattle.own_life.specs.State.{GoesOn}
-use Rattle.own_life.specs.Pages.{IsIdle}
+use Rattle.store_pages.specs.Pages.{IsIdle}
 use Rattle.own_life.proofs.life.OwnLife.undo_losers.Given as goal
 
 abbrev pub invariant-loop-taken : goal.invariant-loop-taken

@@ -1,10 +1,10 @@
 use Rattle.std.proofs.Common.{◌+◌, ap, refl, ◌∙◌, arith}
 use Rattle.std.specs.Prelude.{not}
 use Rattle.own_life.proofs.Helped.{written_none, written_same, written_then, written_within}
-use Rattle.own_life.proofs.Restored.{when_none}
+use Rattle.store_pages.proofs.Restored.{when_none}
 use Rattle.own_life.proofs.Sequences.{all_but_none, goes_self, goes_then, written_all, written_more}
 use Rattle.own_life.proofs.life.OwnLife.write_pages.Goals as goal
-use Rattle.own_life.specs.Pages.{Lacks}
+use Rattle.store_pages.specs.Pages.{Lacks}
 
 pub loop-taken-init : goal.loop-taken-init
 loop-taken-init g c = record {

@@ -1,5 +1,5 @@
 use Rattle.std.proofs.Common.{◌≡◌, ℕ}
-use Rattle.own_life.specs.Pages.{AllBut, AwaitsRedo, IsIdle, Lacks, WritesUpto}
+use Rattle.store_pages.specs.Pages.{AllBut, AwaitsRedo, IsIdle, Lacks, WritesUpto}
 use Rattle.own_life.specs.State.{GoesOn}
 use Rattle.own_life.proofs.life.OwnLife.write_pages.Given as goal
 

@@ -1,6 +1,6 @@
 use Rattle.store_life.specs.SoFar.{actives}
-use Rattle.own_life.proofs.Backed.{archive_alone, archive_durable, archive_keeps, archived, archive_named}
-use Rattle.own_life.proofs.store_pages.StorePages.archive.Goals as goal
+use Rattle.store_pages.proofs.Backed.{archive_alone, archive_durable, archive_keeps, archived, archive_named}
+use Rattle.store_pages.proofs.store_pages.StorePages.archive.Goals as goal
 
 pub returns-clause-runs : goal.returns-clause-runs
 returns-clause-runs g c = record {

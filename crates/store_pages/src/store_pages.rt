@@ -17,8 +17,8 @@ ghost use Rattle.segment_restore.specs.Faults.{no_faults, of_vault};
 ghost use Rattle.store_life.specs.SoFar.{HasNames, Runs, actives, left_by};
 ghost use Rattle.store_life.specs.Steps.{AddsUpkeep, StepsBack};
 ghost use Rattle.store_life.specs.Turns.{Asks, EndsBy, IsTold};
-ghost use Rattle.own_life.specs.Backed.{Archives, ArchivesNext, BacksUp};
-ghost use Rattle.own_life.specs.Pages.{AreRestored, AwaitsRedo, HasNone, IsIdle, IsKnownRestored, IsNextRedone, IsNextWritten, Lacks, OneLess, WritesUpto};
+ghost use Rattle.store_pages.specs.Backed.{Archives, ArchivesNext, BacksUp};
+ghost use Rattle.store_pages.specs.Pages.{AreRestored, AwaitsRedo, HasNone, IsIdle, IsKnownRestored, IsNextRedone, IsNextWritten, Lacks, OneLess, WritesUpto};
 
 use crate::supply::LifeSupply;
 use archiving::{archive, archive_next};
@@ -28,7 +28,8 @@ use engine::Answered;
 use front::Pass;
 use media::{PageDevice, Vault};
 use named_objects::OwnObjects;
-use page_ops::{Entering, Journaling, Life, Pages};
+use operators::Operators;
+use page_ops::{Entering, Journaling, Life, Pages, VaultFaults};
 use page_repair::OwnImages;
 use script::Name;
 use std::alloc::Global;
@@ -47,6 +48,21 @@ pub struct StorePages<'a, D: PageDevice, V: Vault, N: Life> {
 }
 
 impl<'a, D: PageDevice, V: Vault, N: Life> StorePages<'a, D, V, N> {
+    /// The pages of a pool, over a supply that owns the vault.
+    pub fn new(
+        pages: PlainPool<OwnImages<'a, D, N>, (), N>,
+        operators: &'a Operators,
+        bases: VaultBases<OwnObjects<V, N>, VaultFaults<N>>,
+    ) -> StorePages<'a, D, V, N>
+        requires idle { IsIdle pages.out pages.reserves }
+        ensures idle { IsIdle result.pool.out result.pool.reserves }
+        ensures pages { (result.pool.frames ≡ pages.frames) × (result.pool.plan ≡ pages.plan) × (result.pool.images ≡ pages.images) }
+        ensures bases { result.pool.supply.bases ≡ bases }
+    {
+        let (pool, ()) = pages.resupplied(LifeSupply { operators, bases });
+        StorePages { pool }
+    }
+
     /// As `StoreLife::ask`, of an active transaction.
     pub fn ask<J: Journaling<N>, R: Wait>(
         &mut self,
@@ -339,7 +355,7 @@ impl<'a, D: PageDevice, V: Vault, N: Life> StorePages<'a, D, V, N> {
     }
 
     /// The data device, as it is, and what has the vault. The pass then has seen what the images are made of.
-    pub(crate) fn into_parts(self, pass: &mut Pass<Entry, N>) -> (D, OwnObjects<V, N>)
+    pub fn into_parts(self, pass: &mut Pass<Entry, N>) -> (D, OwnObjects<V, N>)
         ensures device { result.0 ≡ self.entry.pool.images }
         ensures vault { result.1.vault ≡ self.entry.pool.supply.bases.objects.vault }
         ensures written { D.tells → AreWritten N.opens D.told pass.new result.0 }

@@ -8,7 +8,7 @@ use Rattle.segment_restore.proofs.Chains.{open_then}
 use Rattle.segment_restore.proofs.Owned.{fails_after, result_behind_own}
 use Rattle.segment_restore.proofs.Segments.{open_met, restored_both, restored_more}
 use Rattle.segment_restore.proofs.Written.{spares_others}
-use Rattle.own_life.proofs.supply.LifeSupplySupply.ready.Goals as goal
+use Rattle.store_pages.proofs.supply.LifeSupplySupply.ready.Goals as goal
 
 pub returns-in_err-listed-clause-entered : goal.returns-in_err-listed-clause-entered
 returns-in_err-listed-clause-entered g c = upheld _ _ _ is_restored _ _ _ _ c.listed.ensures.seen

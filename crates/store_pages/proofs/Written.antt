@@ -23,7 +23,7 @@ use Rattle.command_laws.specs.Names.{Active, AreNamed}
 use Rattle.command_laws.proofs.Alone.{entered, still_alone}
 use Rattle.command_laws.proofs.Listed.{each_by}
 use Rattle.command_laws.proofs.Living.{BeginsNone, all_weaker, still_named}
-use Rattle.own_life.specs.Pages.{IsNextWritten, IsWrittenEntry, Lacks, OthersStay, WritesPages, WritesUpto}
+use Rattle.store_pages.specs.Pages.{IsNextWritten, IsWrittenEntry, Lacks, OthersStay, WritesPages, WritesUpto}
 
 -- ---- what is entered
 

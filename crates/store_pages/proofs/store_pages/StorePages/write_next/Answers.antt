@@ -1,8 +1,8 @@
 use Rattle.std.proofs.Common.{Bool, List, ap, sym, ◌∙◌}
 use Rattle.restart.specs.Plans.{awaits}
 use Rattle.store_life.specs.SoFar.{actives}
-use Rattle.own_life.proofs.Written.{others_lacking, upto_named, writes_one}
-use Rattle.own_life.proofs.store_pages.StorePages.write_next.Goals as goal
+use Rattle.store_pages.proofs.Written.{others_lacking, upto_named, writes_one}
+use Rattle.store_pages.proofs.store_pages.StorePages.write_next.Goals as goal
 
 pub returns-in-Ok-clause-one : goal.returns-in-Ok-clause-one
 returns-in-Ok-clause-one g c = others_lacking c.args.self.now.pool.frames c.write_out.new.self.frames c.in-Some.page c.in-Ok.ensures.stored

@@ -1,7 +1,7 @@
 use Rattle.std.proofs.Common.{sym}
 use Rattle.segment_restore.proofs.Chains.{based, head_later, upheld_both}
 use Rattle.segment_restore.proofs.Owned.{result_after}
-use Rattle.own_life.proofs.supply.LifeSupplySupply.rebuilt.Goals as goal
+use Rattle.store_pages.proofs.supply.LifeSupplySupply.rebuilt.Goals as goal
 
 pub rebuild_in_life-requires-2-clause-head : goal.rebuild_in_life-requires-2-clause-head
 rebuild_in_life-requires-2-clause-head g c =

@@ -26,7 +26,7 @@ use Rattle.command_laws.proofs.Listed.{each_by}
 use Rattle.command_laws.proofs.Living.{BeginsNone, all_weaker, still_named}
 use Rattle.backups.specs.Backups as backups
 use Rattle.archiving.specs.Archives as archives
-use Rattle.own_life.specs.Backed.{AddsBackup, AddsRuns, Archives, ArchivesNext, BacksUp, IsOfBackup, IsRunEntry, MakesUpto}
+use Rattle.store_pages.specs.Backed.{AddsBackup, AddsRuns, Archives, ArchivesNext, BacksUp, IsOfBackup, IsRunEntry, MakesUpto}
 
 -- ---- which entries
 

@@ -1,6 +1,6 @@
 use Rattle.store_life.specs.SoFar.{actives}
-use Rattle.own_life.proofs.Backed.{next_alone, next_archived, next_durable, next_keeps, next_named}
-use Rattle.own_life.proofs.store_pages.StorePages.archive_next.Goals as goal
+use Rattle.store_pages.proofs.Backed.{next_alone, next_archived, next_durable, next_keeps, next_named}
+use Rattle.store_pages.proofs.store_pages.StorePages.archive_next.Goals as goal
 
 pub returns-clause-runs : goal.returns-clause-runs
 returns-clause-runs g c = record {

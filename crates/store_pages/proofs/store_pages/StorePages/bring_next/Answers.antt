@@ -4,10 +4,10 @@ use Rattle.store_life.specs.SoFar.{actives}
 use Rattle.store_life.proofs.Stepped.{upkeep_named}
 use Rattle.rollback.proofs.Composing.{faults_self}
 use Rattle.page_ops.proofs.Composing.{bring_then, done_meets_none}
-use Rattle.own_life.proofs.Redone.{made_upto}
-use Rattle.own_life.proofs.Restored.{restored_upkeep}
-use Rattle.own_life.proofs.store_pages.StorePages.bring_next.Goals as goal
-use Rattle.own_life.proofs.store_pages.StorePages.bring_next.Goals.{in-Some, in-None}
+use Rattle.store_pages.proofs.Redone.{made_upto}
+use Rattle.store_pages.proofs.Restored.{restored_upkeep}
+use Rattle.store_pages.proofs.store_pages.StorePages.bring_next.Goals as goal
+use Rattle.store_pages.proofs.store_pages.StorePages.bring_next.Goals.{in-Some, in-None}
 
 pub bring-requires-clause-made : goal.bring-requires-clause-made
 bring-requires-clause-made g c =

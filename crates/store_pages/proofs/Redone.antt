@@ -25,7 +25,7 @@ use Rattle.command_laws.proofs.Alone.{entered, still_alone}
 use Rattle.command_laws.proofs.Listed.{each_by}
 use Rattle.store_life.specs.Steps.{AddsUpkeep}
 use Rattle.store_life.proofs.Looked.{looked_alone, looked_same}
-use Rattle.own_life.specs.Pages.{AwaitsRedo, IsNextRedone}
+use Rattle.store_pages.specs.Pages.{AwaitsRedo, IsNextRedone}
 
 -- ---- which pages await redo
 

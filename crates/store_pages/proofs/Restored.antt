@@ -21,9 +21,9 @@ use Rattle.command_laws.specs.Alone.{IsAlone}
 use Rattle.command_laws.specs.Commands.{IsUpkeep}
 use Rattle.store_life.specs.Steps.{AddsUpkeep}
 use Rattle.store_life.proofs.Looked.{looked_alone, looked_same}
-use Rattle.own_life.specs.Backed.{IsRunEntry, MakesUpto}
-use Rattle.own_life.specs.Pages.{AreRestored, IsWrittenEntry, WritesUpto}
-use Rattle.own_life.proofs.Redone.{redone_alone, redone_durable, redone_keeps, redone_upkeep}
+use Rattle.store_pages.specs.Backed.{IsRunEntry, MakesUpto}
+use Rattle.store_pages.specs.Pages.{AreRestored, IsWrittenEntry, WritesUpto}
+use Rattle.store_pages.proofs.Redone.{redone_alone, redone_durable, redone_keeps, redone_upkeep}
 
 -- ---- what bringing a page adds, behind two looks
 

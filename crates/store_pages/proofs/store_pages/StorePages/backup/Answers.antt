@@ -1,6 +1,6 @@
 use Rattle.store_life.specs.SoFar.{actives}
-use Rattle.own_life.proofs.Backed.{backed_alone, backed_durable, backed_keeps, backed_up, backup_named}
-use Rattle.own_life.proofs.store_pages.StorePages.backup.Goals as goal
+use Rattle.store_pages.proofs.Backed.{backed_alone, backed_durable, backed_keeps, backed_up, backup_named}
+use Rattle.store_pages.proofs.store_pages.StorePages.backup.Goals as goal
 
 pub returns-clause-runs : goal.returns-clause-runs
 returns-clause-runs g c = record {

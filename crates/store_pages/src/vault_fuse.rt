@@ -1,7 +1,7 @@
 //! The fuse of a life's vault.
 ghost use Rattle.std.specs.Prelude.{◌≡◌, ◌-◌, ◌^◌, min};
 ghost use Rattle.media.specs.Counted.{Armed};
-ghost use Rattle.own_life.specs.Pages.{IsIdle};
+ghost use Rattle.store_pages.specs.Pages.{IsIdle};
 
 use crate::store_pages::StorePages;
 use media::{PageDevice, Vault};

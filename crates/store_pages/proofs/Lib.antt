@@ -1,0 +1,4 @@
+pub mod Backed
+pub mod Redone
+pub mod Restored
+pub mod Written
