@@ -1,5 +1,5 @@
 -- Calls of a life that failed: what the counts of the log disk's calls say.
-use Rattle.std.proofs.Common.{◌≡◌, ◌<◌, ◌≤◌, ℕ, List, Result, Ok, Err, ⊎_elim, arith, subst, sym}
+use Rattle.std.proofs.Common.{◌≡◌, ◌<◌, ◌≤◌, ℕ, List, Result, Ok, Err, None, ⊎_elim, arith, subst, sym, ◌∙◌}
 use Rattle.std.specs.Prelude.{◌^◌, ◌-◌, IfErr, IfOk, IsErrAnd, min}
 use Rattle.media.specs.Cause.{Rose}
 use Rattle.wal_record.specs.declared.record.Record.{Record}
@@ -110,3 +110,9 @@ if_ok (Err e) P Q f h = tt
 pub if_err : {T E : Type 0} (r : Result T E) (P Q : E → Type 0) → ((e : E) → P e → Q e) → IfErr r P → IfErr r Q
 if_err (Ok x) P Q f h = tt
 if_err (Err e) P Q f h = f e h
+
+-- a log fault ends the life
+pub ended_by : (opens : List Record → Type 0) (x y : LifeState) (fault : Fault) → fault ≡ faults.LogFault → FailsToFlush opens x y fault → y.ended ≡ None → ⊥
+ended_by opens x y fault is failed none =
+    let b : BreaksOff opens x y = subst (FailsToFlush opens x y) is failed in
+    let two = sym none ∙ b.ended in cc

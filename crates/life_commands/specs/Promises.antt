@@ -1,8 +1,10 @@
 -- What each command of a life promises.
-use Rattle.std.specs.Prelude.{◌≡◌, ◌≤◌, ℕ, List, Bool}
+use Rattle.std.specs.Prelude.{◌≡◌, ◌≤◌, ℕ, List, None, Bool}
 use Rattle.media.specs.declared.disk.Disk.{Ghosts}
 use Rattle.media.specs.declared.pages.PageDevice as pages
 use Rattle.media.specs.declared.vault.Vault as vaults
+use Rattle.buffer_pool.specs.Tables.{Table}
+use Rattle.store_pages.specs.Pages.{Lacks}
 use Rattle.own_life.specs.State.{LifeState}
 use Rattle.wal_record.specs.declared.record.Record.{Record}
 use Rattle.script.specs.declared.command.Command.{Command}
@@ -34,3 +36,7 @@ Closed L P V opens old new out = (v : View L.tells) (s : Stage) → Within (seen
 abbrev pub Refused : {D : Type 0} → Ghosts D → (List Record → Type 0) → LifeState → LifeState → Command → ℕ → Status → Type 0
 Refused L opens old new c line status = (v : View L.tells) (s : Stage) → Within (seen L v) opens old s → (kept : ℕ) (disk : _) → IsDiskOf L opens new kept disk
     → RefusesAt (seen L v) kept disk opens new.history s c line status
+
+-- Ok of a loss: where the life goes on, no page in these frames is dirty, and the data device is emptied, as it is said here.
+abbrev pub Loses : LifeState → Table → Type 0 → Type 0
+Loses new frames emptied = new.ended ≡ None → ((page : ℕ) → Lacks frames page → ⊥) × emptied

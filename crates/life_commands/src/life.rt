@@ -4,10 +4,10 @@ ghost use Rattle.command_laws.specs.Names.{is_active};
 ghost use Rattle.script.specs.declared.command.Command.TheVariants as commands;
 ghost use Rattle.store_model.specs.declared.fault.Fault.TheVariants as faults;
 ghost use Rattle.life_commands.specs.Causes.{LifeCause};
-ghost use Rattle.life_commands.specs.Promises.{Did, DidArmed, Refused};
+ghost use Rattle.life_commands.specs.Promises.{Did, DidArmed, Loses, Refused};
 ghost use Rattle.life_commands.specs.Rows.{IsNoClose, IsNoStop};
 ghost use Rattle.life_commands.specs.declared.status.Status.TheVariants as statuses;
-ghost use Rattle.store_pages.specs.Pages.{IsIdle};
+ghost use Rattle.store_pages.specs.Pages.{IsEmptied, IsIdle};
 
 use crate::asking::ask_open;
 use crate::devices::{damage, fuse, renew};
@@ -40,6 +40,7 @@ pub fn step<'a, N: Life, L: Disk, D: PageDevice, V: Vault, R: Wait>(
     requires close { IsNoClose command.now }
     ensures idle { IsIdle pages.new.pool.out pages.new.pool.reserves }
     ensures ok { IfOk result (λ lines. DidArmed L.Disk N.opens armed life.old life.new command.now lines.items) }
+    ensures lost { command.now ≡ commands.Lose → IfOk result (λ lines. Loses life.new pages.new.pool.frames (D.tells → IsEmptied D.newest D.faults pages.old.pool.images pages.new.pool.images)) }
     ensures err { IfErr result (Refused L.Disk N.opens life.old life.new command.now line) }
     ensures cause { IfErr result (LifeCause life.old.calls.own life.new.calls.own) }
     ensures later { life.old.calls.own ≤ life.new.calls.own }
@@ -256,6 +257,7 @@ fn lose<'a, N: Life, L: Disk, D: PageDevice, V: Vault, R: Wait>(
     requires idle { IsIdle pages.old.pool.out pages.old.pool.reserves }
     ensures idle { IsIdle pages.new.pool.out pages.new.pool.reserves }
     ensures ok { IfOk result (λ lines. Did L.Disk N.opens life.old life.new commands.Lose lines.items) }
+    ensures lost { IfOk result (λ lines. Loses life.new pages.new.pool.frames (D.tells → IsEmptied D.newest D.faults pages.old.pool.images pages.new.pool.images)) }
     ensures err { IfErr result (λ status. (line : ℕ) → Refused L.Disk N.opens life.old life.new commands.Lose line status) }
     ensures cause { IfErr result (LifeCause life.old.calls.own life.new.calls.own) }
     ensures later { life.old.calls.own ≤ life.new.calls.own }

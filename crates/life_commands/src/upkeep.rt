@@ -3,8 +3,8 @@ ghost use Rattle.std.specs.Prelude.{◌≡◌, ◌≤◌, ℕ, None, IfErr, IfOk
 ghost use Rattle.script.specs.declared.command.Command.TheVariants as commands;
 ghost use Rattle.life_commands.specs.Causes.{LifeCause};
 ghost use Rattle.life_commands.specs.Faults.{counts_of};
-ghost use Rattle.life_commands.specs.Promises.{Did, DidArmed, Refused};
-ghost use Rattle.store_pages.specs.Pages.{IsIdle};
+ghost use Rattle.life_commands.specs.Promises.{Did, DidArmed, Loses, Refused};
+ghost use Rattle.store_pages.specs.Pages.{IsEmptied, IsIdle};
 
 use crate::failing::{MOST, fail, is_refused};
 use crate::status::Status;
@@ -55,6 +55,7 @@ pub fn lose_open<'a, N: Life, L: Disk, D: PageDevice, V: Vault, R: Wait>(
     requires goes { life.old.ended ≡ None }
     ensures idle { IsIdle pages.new.pool.out pages.new.pool.reserves }
     ensures ok { IfOk result (λ lines. Did L.Disk N.opens life.old life.new commands.Lose lines.items) }
+    ensures lost { IfOk result (λ lines. Loses life.new pages.new.pool.frames (D.tells → IsEmptied D.newest D.faults pages.old.pool.images pages.new.pool.images)) }
     ensures err { IfErr result (λ status. (line : ℕ) → Refused L.Disk N.opens life.old life.new commands.Lose line status) }
     ensures cause { IfErr result (LifeCause life.old.calls.own life.new.calls.own) }
     ensures later { life.old.calls.own ≤ life.new.calls.own }

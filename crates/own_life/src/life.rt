@@ -8,7 +8,6 @@ ghost use Rattle.engine.specs.Writes.{LacksRoom};
 ghost use Rattle.journal.specs.State.{ArmsDisk};
 ghost use Rattle.journal.specs.Stops.{IsDurableUpto};
 ghost use Rattle.log_laws.specs.Right.{IsRight};
-ghost use Rattle.media.specs.Cause.{Rose};
 ghost use Rattle.page_ops.specs.Outcomes.{IsConflict, IsSurvey};
 ghost use Rattle.store_model.specs.declared.fault.Fault.TheVariants as faults;
 ghost use Rattle.store_model.specs.declared.limits.TheConstants.{MOST_ACTIVE};
@@ -17,7 +16,7 @@ ghost use Rattle.wal_record.specs.declared.record.Record.{Record};
 ghost use Rattle.store_life.specs.SoFar.{left_by};
 ghost use Rattle.store_life.specs.Turns.{Asks, EndsBy, IsCheckpointed, IsLost, IsTold};
 ghost use Rattle.own_life.specs.Kept.{without_crowd};
-ghost use Rattle.store_pages.specs.Pages.{HasNone, IsIdle, Lacks};
+ghost use Rattle.store_pages.specs.Pages.{IsEmptied, IsIdle, Lacks};
 ghost use Rattle.own_life.specs.State.{AreLeft, BeginsAs, FailsToAnswer, FailsToBegin, FailsToCommit, FailsToFlush, FailsOver, FailsToLook, GoesOn, IsCommitted, name_by};
 
 use crate::leaving::leave_vault;
@@ -222,7 +221,7 @@ impl<'a, L: Disk, N: Life> OwnLife<'a, L, N> {
         ensures entered { IsLost result self.old.history self.new.history }
         ensures flushed { IfOk result (λ lsn. (opening : List Record) → N.opens opening → lsn ≤ self.new.durable) }
         ensures clean { OnOk result ((page : ℕ) → Lacks pages.new.pool.frames page → ⊥) }
-        ensures empty { D.tells → OnOk result (HasNone D.newest pages.new.pool.images ⊎ Rose (D.faults pages.old.pool.images) (D.faults pages.new.pool.images)) }
+        ensures empty { D.tells → OnOk result (IsEmptied D.newest D.faults pages.old.pool.images pages.new.pool.images) }
         ensures same { OnErr result (pages.new ≡ pages.old) }
         ensures names { self.new.active ≡ self.old.active }
         ensures goes { OnOk result (GoesOn self.old self.new) }

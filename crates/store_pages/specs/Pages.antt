@@ -1,6 +1,7 @@
 -- What a life's pages have written to their data device.
 use Rattle.std.specs.Prelude.{◌≡◌, ◌≢◌, ◌⊎◌, ◌<◌, ◌≤◌, ◌==◌, ℕ, List, [], ◌++◌, length, Option, Some, None, Bool, true, false, IsTrue}
 use Rattle.std.specs.List.{All, list_any}
+use Rattle.media.specs.Cause.{Rose}
 use Rattle.restart.specs.Plans.{awaits}
 use Rattle.buffer_pool.specs.Tables.{Table, frame_of, is_dirty}
 use Rattle.wal_record.specs.History.{life_log}
@@ -21,6 +22,10 @@ Lacks t page = is_dirty (frame_of t page) ≡ true
 -- the device has an image of no page
 abbrev pub HasNone : {D : Type 0} → (D → ℕ → Option (List ℕ)) → D → Type 0
 HasNone newest device = (page : ℕ) → newest device page ≡ None
+
+-- so it is, or the device has counted a fault
+abbrev pub IsEmptied : {D : Type 0} → (D → ℕ → Option (List ℕ)) → (D → ℕ) → D → D → Type 0
+IsEmptied newest faults old new = HasNone newest new ⊎ Rose (faults old) (faults new)
 
 -- no segment is unrestored, in each log with which the life may have begun
 abbrev pub AreRestored : (List Record → Type 0) → List Entry → Type 0

@@ -18,7 +18,7 @@ ghost use Rattle.store_life.specs.SoFar.{HasNames, Runs, actives, left_by};
 ghost use Rattle.store_life.specs.Steps.{AddsUpkeep, StepsBack};
 ghost use Rattle.store_life.specs.Turns.{Asks, EndsBy, IsTold};
 ghost use Rattle.store_pages.specs.Backed.{Archives, ArchivesNext, BacksUp};
-ghost use Rattle.store_pages.specs.Pages.{AreRestored, AwaitsRedo, HasNone, IsIdle, IsKnownRestored, IsNextRedone, IsNextWritten, Lacks, OneLess, WritesUpto};
+ghost use Rattle.store_pages.specs.Pages.{AreRestored, AwaitsRedo, IsEmptied, IsIdle, IsKnownRestored, IsNextRedone, IsNextWritten, Lacks, OneLess, WritesUpto};
 
 use crate::supply::LifeSupply;
 use archiving::{archive, archive_next};
@@ -326,7 +326,7 @@ impl<'a, D: PageDevice, V: Vault, N: Life> StorePages<'a, D, V, N> {
         requires idle { IsIdle self.old.pool.out self.old.pool.reserves }
         ensures idle { IsIdle self.new.pool.out self.new.pool.reserves }
         ensures clean { (page : ℕ) → Lacks self.new.pool.frames page → ⊥ }
-        ensures empty { D.tells → HasNone D.newest self.new.pool.images ⊎ Rose (D.faults self.old.pool.images) (D.faults self.new.pool.images) }
+        ensures empty { D.tells → IsEmptied D.newest D.faults self.old.pool.images self.new.pool.images }
         ensures others { (self.new.pool.plan ≡ self.old.pool.plan) × (self.new.pool.supply ≡ self.old.pool.supply) }
     {
         let _ = self.pool.lose(rt);

@@ -25,6 +25,7 @@ pub returns-in_default : goal.returns-in_default
 returns-in_default g c = record {
   idle = c.requires.idle;
   ok = tt;
+  lost = λ is. tt;
   err = bad_line g.L.Disk g.N.Life.opens c.args.life.now c.args.command.now c.args.line (λ v s h. other_lawful s (in_life g.L.Disk g.N.Life.opens c.args.life.now v s h) c.args.command.now
       c.in_default.not-Nothing c.in_default.not-Begin c.in_default.not-Ask c.in_default.not-Commit c.in_default.not-Abort c.in_default.not-Checkpoint c.in_default.not-Backup c.in_default.not-Archive c.in_default.not-Lose c.in_default.not-Help c.in_default.not-Stat c.in_default.not-Damage c.in_default.not-Fuse c.in_default.not-Renew c.requires.stop c.requires.close);
   cause = tt;

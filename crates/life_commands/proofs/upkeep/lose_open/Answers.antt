@@ -1,7 +1,7 @@
 use Rattle.std.proofs.Common.{refl, rules, ap, ◌∙◌}
 use Rattle.script.specs.declared.command.Command.TheVariants as commands
 use Rattle.life_commands.proofs.Ends.{loss_ends, loss_fails, loses_line, lacks_memory}
-use Rattle.life_commands.proofs.Faults.{by_memory, if_err, if_ok, more_refused}
+use Rattle.life_commands.proofs.Faults.{by_memory, ended_by, if_err, if_ok, more_refused}
 use Rattle.life_commands.proofs.upkeep.lose_open.Goals as goal
 
 pub returns-then-before-ge-MOST-clause-err : goal.returns-then-before-ge-MOST-clause-err
@@ -29,3 +29,6 @@ returns-in-Err-clause-err g c =
     let x = c.args.life.now in
     let y = c.lose-lost.new.self in
     if_err c.fail.result _ _ (λ status k line. loss_ends g.L.Disk g.N.Life.opens x y c.requires.goes c.in-Err.ensures.names c.look.ensures.right c.refused-before.result c.refused.result c.in-Err.fault c.in-Err.ensures.entered c.in-Err.ensures.refused status k line) c.fail.ensures.err
+
+pub returns-in-Err-clause-lost : goal.returns-in-Err-clause-lost
+returns-in-Err-clause-lost g c = if_ok c.fail.result _ _ (λ out k none. absurd (ended_by g.N.Life.opens c.args.life.now c.lose-lost.new.self c.in-Err.fault k.0 c.in-Err.ensures.refused none)) c.fail.ensures.ok
