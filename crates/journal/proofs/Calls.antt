@@ -1,6 +1,6 @@
 -- What a journal tells of its log disk: the calls, and the end.
-use Rattle.std.proofs.Common.{◌≡◌, ℕ, List, Option, Some, None, true, false, refl, sym, ap, ◌∙◌, subst, inl, inr, arith}
-use Rattle.std.specs.Prelude.{◌⊎◌, Result, Ok, Err, IfErr, IfSome, IsErrAnd, OnOk, is_err}
+use Rattle.std.proofs.Common.{◌≡◌, ℕ, List, Option, Some, None, true, false, refl, sym, ap, ◌∙◌, subst, inl, inr}
+use Rattle.std.specs.Prelude.{Result, Ok, Err, IfErr, IfSome, IsErrAnd, OnOk, is_err}
 use Rattle.log_blocks.specs.LogState.{LogState, Refused, durable_lsn}
 use Rattle.log_blocks.specs.Opening.{IsLogFault}
 use Rattle.log_blocks.specs.declared.header.Place.{Place}

@@ -1,8 +1,6 @@
 -- A Checkpoint that the listing makes is what its group asks for.
-use Rattle.std.proofs.Common.{◌≡◌, ℕ, ◌+◌, List, [], ◌∷◌, ◌++◌, Option, Some, None, refl, sym, ap, subst, ◌∙◌}
-use Rattle.std.specs.Prelude.{IsSome, IsTrue}
+use Rattle.std.proofs.Common.{◌≡◌, ℕ, List, [], ◌∷◌, Option, None, refl, sym, ap, subst, ◌∙◌}
 use Rattle.asking_laws.specs.Entered.{fill_all}
-use Rattle.books.specs.Rights.{PageClaim}
 use Rattle.page_ops.specs.Asking.{HasNumbers, MayFollow}
 use Rattle.page_ops.specs.Claims.{Claims}
 use Rattle.page_ops.specs.Groups.{AreFilled, IsGroup, Numbers, made_by}
@@ -10,7 +8,6 @@ use Rattle.page_ops.specs.Seeing.{Account, IsConsistent}
 use Rattle.page_ops.specs.declared.group.Group.{Group}
 use Rattle.wal_record.specs.Checkpoints.{checkpoint_of}
 use Rattle.wal_record.specs.History.{life_log}
-use Rattle.wal_record.specs.State.{is_child}
 use Rattle.wal_record.specs.declared.record.Checkpoint.{Checkpoint}
 use Rattle.wal_record.specs.declared.record.Record.{Record}
 use Rattle.wal_record.specs.declared.record.Record.TheVariants as kinds

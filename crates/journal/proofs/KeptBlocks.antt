@@ -7,7 +7,6 @@ use Rattle.log_blocks.specs.Log.{Block}
 use Rattle.log_blocks.specs.LogState.{LogState, durable_lsn}
 use Rattle.log_blocks.specs.declared.header.Place.{Place}
 use Rattle.log_manager.specs.Managed.{before_lsn, first_kept}
-use Rattle.page_ops.specs.declared.outcome.Found.{Found}
 use Rattle.page_ops.specs.declared.outcome.Found.TheVariants as founds
 use Rattle.store_model.specs.declared.fault.Fault.{Fault}
 use Rattle.wal_record.specs.Checkpoints.{recycle_point}

@@ -1,37 +1,23 @@
 -- A Checkpoint asked for.
-use Rattle.std.proofs.Common.{◌≡◌, ℕ, ◌≤◌, List, [], ◌∷◌, ◌++◌, length, Option, None, refl, sym, ap, subst, ◌∙◌, arith, length-append, inr}
-use Rattle.std.specs.Prelude.{IsTrue, min, Result, Ok, Err}
-use Rattle.front.specs.Seen.{PassSeen}
+use Rattle.std.proofs.Common.{◌≡◌, List, [], ◌∷◌, refl, sym, ap, subst, arith}
+use Rattle.std.specs.Prelude.{IsTrue}
 use Rattle.front.proofs.Keeping.{prefix_self}
 use Rattle.store_model.specs.Along.{AllAlong}
-use Rattle.store_model.specs.declared.fault.Fault.{Fault}
-use Rattle.store_model.specs.declared.fault.Fault.TheVariants as faults
-use Rattle.wal_record.specs.History.{life_log, log_of}
+use Rattle.wal_record.specs.History.{log_of}
 use Rattle.wal_record.specs.Rules.{KeepsCheckpoint, KeepsUnfinished, run_fits, segment_fits}
 use Rattle.wal_record.specs.Sound.{IsLawful}
 use Rattle.wal_record.specs.declared.record.Checkpoint.{Checkpoint}
 use Rattle.wal_record.specs.declared.record.Record.{Record}
 use Rattle.wal_record.specs.declared.record.Record.TheVariants as kinds
 use Rattle.wal_record.specs.declared.entry.Entry.{Entry}
-use Rattle.wal_record.specs.declared.entry.Entry.TheVariants as entries
-use Rattle.wal_record.specs.Legal.{IsLegal}
 use Rattle.wal_record.proofs.Along.{AllAlong_less}
-use Rattle.wal_record.proofs.Pushes.{legal_front, log_more}
 use Rattle.claim_laws.specs.Entering.{IsAtRest}
 use Rattle.asking_laws.proofs.Asks.{asks_law}
 use Rattle.page_ops.specs.Asking.{IsAskable, WasTimely}
-use Rattle.page_ops.specs.Causes.{FailsToFlush}
-use Rattle.page_ops.specs.Claims.{Claims, no_claims}
-use Rattle.page_ops.specs.Groups.{AreFilled, AreFilledFrom, Each, HasRights, IsGroup, no_checkpoint}
-use Rattle.page_ops.specs.Names.{LedgerName}
-use Rattle.page_ops.specs.Outcomes.{EntersGroup, IsFilledIn, OnEntered, answered}
-use Rattle.page_ops.specs.Gains.{Gains}
-use Rattle.page_ops.specs.Seeing.{Account, Enters, IsMoment, Looks, known}
+use Rattle.page_ops.specs.Claims.{Claims}
+use Rattle.page_ops.specs.Groups.{Each, HasRights, IsGroup, no_checkpoint}
+use Rattle.page_ops.specs.Seeing.{IsMoment}
 use Rattle.page_ops.specs.declared.group.Group.{Group}
-use Rattle.page_ops.specs.declared.outcome.Entered.{Entered}
-use Rattle.page_ops.specs.declared.outcome.Entered.TheVariants as entereds
-use Rattle.page_ops.proofs.Gaining.{gains_of, gains_then}
-use Rattle.page_ops.proofs.Staying.{longer_log}
 use Rattle.maintenance.specs.Checkpoints.{checkpoint_group}
 use Rattle.maintenance.proofs.Marks.{StaysOfKind}
 

@@ -1,5 +1,5 @@
 -- A record that is asked for alone, and what it enters.
-use Rattle.std.proofs.Common.{◌≡◌, ℕ, ◌≤◌, List, [], ◌∷◌, ◌++◌, length, Option, None, sym, ap, subst, ◌∙◌, arith, length-append, inr}
+use Rattle.std.proofs.Common.{◌≡◌, ℕ, ◌≤◌, List, [], ◌∷◌, ◌++◌, length, None, ap, subst, ◌∙◌, arith, length-append, inr}
 use Rattle.std.specs.Prelude.{min, Result, Ok, Err, false}
 use Rattle.front.specs.Seen.{PassSeen}
 use Rattle.store_model.specs.declared.fault.Fault.{Fault}

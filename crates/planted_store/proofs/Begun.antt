@@ -1,5 +1,5 @@
 -- What a new store begins with.
-use Rattle.std.proofs.Common.{◌≡◌, ℕ, ◌≤◌, cond, eqb, Bool, true, false, List, [], ◌∷◌, ◌++◌, length, length-append, Option, Some, None, refl, sym, ap, ◌∙◌, arith}
+use Rattle.std.proofs.Common.{◌≡◌, ℕ, ◌≤◌, cond, Bool, List, [], ◌∷◌, ◌++◌, length, length-append, Some, None, refl, ap, ◌∙◌, arith}
 use Rattle.std.proofs.lemmas.Bool.{ne_eqb}
 use Rattle.std.specs.Int.{w32}
 use Rattle.books.specs.Booking.{entry, entry_of}
@@ -7,7 +7,6 @@ use Rattle.books.specs.declared.entry.BookEntry.{BookEntry}
 use Rattle.log_manager.specs.Payload.{bytes_of}
 use Rattle.wal_record.specs.Spelling.{spelling, number_bytes}
 use Rattle.wal_record.specs.declared.record.Format.{Format}
-use Rattle.wal_record.specs.declared.record.Record.{Record}
 use Rattle.wal_record.specs.declared.record.Record.TheVariants as kinds
 
 length-u32 : (n : ℕ) → length (number_bytes w32 n) ≡ 4

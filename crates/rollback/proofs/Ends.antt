@@ -1,6 +1,6 @@
 -- The End of a transaction that has no open write left: it may be asked for at any moment, and what its answer says.
 use Rattle.std.proofs.Common.{◌≡◌, ◌≢◌, ℕ, ◌+◌, ◌<◌, ◌^◌, Bool, true, false, cond, List, [], ◌∷◌, ◌++◌, length, Option, Some, None, Result, Ok, Err, refl, sym, ap, subst, ◌∙◌, arith, append-nil, inl, inr}
-use Rattle.std.specs.Prelude.{◌⊎◌, IfErr, IfOk, IfSome, IsSome, not, ◌||◌}
+use Rattle.std.specs.Prelude.{◌⊎◌, IfErr, IfOk, IfSome, not, ◌||◌}
 use Rattle.std.specs.List.{list_any}
 use Rattle.std.specs.Option.{option_map}
 use Rattle.std.proofs.Math.Nat.{le-max_left, le-max_right}

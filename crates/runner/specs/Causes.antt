@@ -1,5 +1,5 @@
 -- Why a run ends: which statuses a part of the run may give, and that a device's fault has its cause.
-use Rattle.std.specs.Prelude.{◌≡◌, ◌≢◌, ◌≤◌, ◌⊎◌, ℕ, []}
+use Rattle.std.specs.Prelude.{◌≡◌, ◌≢◌, ◌≤◌, ◌⊎◌, ℕ}
 use Rattle.media.specs.Cause.{Rose}
 use Rattle.media.specs.declared.disk.Disk.{Ghosts}
 use Rattle.page_ops.specs.Seeing.{Calls}

@@ -1,7 +1,5 @@
 use Rattle.std.proofs.Common.{List, ap, sym, subst, ◌∙◌, ◌++◌, ◌∷◌, []}
 use Rattle.log_index.specs.Listing.{IsListingOf}
-use Rattle.log_index.specs.declared.listing.Listing.{Listing}
-use Rattle.page_ops.specs.declared.group.Group.{Group}
 use Rattle.wal_record.specs.Checkpoints.{checkpoint_of}
 use Rattle.wal_record.specs.History.{life_log}
 use Rattle.wal_record.specs.declared.entry.Entry.{Entry}

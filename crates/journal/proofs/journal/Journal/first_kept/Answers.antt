@@ -1,4 +1,4 @@
-use Rattle.std.proofs.Common.{ℕ, List, sym, ◌∙◌, subst}
+use Rattle.std.proofs.Common.{ℕ, List, sym, subst}
 use Rattle.log_blocks.specs.declared.header.Place.{Place}
 use Rattle.journal.specs.State.{BeginsWith}
 use Rattle.journal.proofs.Calls.{blocks_is}
