@@ -1,7 +1,7 @@
 //! For each transaction, the keys of its point locks.
 ghost use Rattle.std.specs.Prelude.{◌≡◌, ◌≢◌, OnOk, OnErr, true};
 ghost use Rattle.range_lock.specs.Tables.{is_listed};
-ghost use Rattle.range_lock.specs.declared.entry.PointLock.{PointLock};
+ghost use Rattle.range_lock.specs.Point.{PointLock};
 
 use crate::key_list::KeyList;
 use std::alloc::{AllocError, Global};

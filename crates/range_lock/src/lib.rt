@@ -25,6 +25,8 @@ mod holders;
 mod key_list;
 mod keys;
 mod point;
+mod point_locks;
+mod point_set;
 mod range_locks;
 mod refusal;
 mod release;

@@ -1,5 +1,5 @@
 //! The search for locks in conflict.
-ghost use Rattle.std.specs.Prelude.{◌≡◌, ◌&&◌, ◌||◌, ◌==◌, not, ℕ, List, map, flat_map, IfOk, IfSome, true};
+ghost use Rattle.std.specs.Prelude.{◌≡◌, ◌&&◌, ◌||◌, ◌==◌, not, ℕ, List, map, flat_map, IfOk, IfSome, Some, true};
 ghost use Rattle.std.specs.declared.cmp.Ordering.TheVariants.{Less};
 ghost use Rattle.std.specs.Ordering.{nat_cmp};
 ghost use Rattle.std.specs.Cmp.Lexicographic.{slice_cmp};
@@ -8,12 +8,13 @@ ghost use Rattle.range_lock.specs.Lock.{is_exclusive, conflict};
 ghost use Rattle.range_lock.specs.Nearest.{nearest, step};
 ghost use Rattle.range_lock.specs.Tables.{StartsBelow, lock_at_point, lock_on_range, locks_on_ranges};
 
-use crate::entry::{PointLock, RangeLock};
+use crate::entry::{PointEntry, RangeLock};
 use crate::rival::{Rival, nearer};
 use std::alloc::AllocError;
 use std::collections::{BTreeMap, BTreeSet};
 use std::ops;
-use store_model::{Key, KeyRange, List, Mode, TxId};
+use store_model::{Bound, KeyRange, List, Mode, TxId};
+use text_order::compare_texts;
 
 /// Whether the mode keeps others off.
 pub fn is_exclusive(mode: Mode) -> bool
@@ -46,20 +47,32 @@ fn conflicts(
     holder != tx && range.overlaps(at) && is_one_exclusive(mode, held)
 }
 
-/// A key with only keys below the range below it, if there are keys below the range.
-fn first_key(range: &KeyRange) -> Option<Key>
-    ensures { IfSome result (λ key. (q : List ℕ) → slice_cmp nat_cmp q key ≡ Less → is_below (Some q) range.now.low ≡ true) }
+/// Whether a text is below a bound.
+pub fn is_above(bound: &Bound, text: &[u8]) -> bool
+    ensures { result ≡ is_below (Some text.now) bound.now }
+{
+    match bound.as_bytes() {
+        None => true,
+        Some(end) => compare_texts(text, end).is_lt(),
+    }
+}
+
+/// A lock with only keys below the range below its own, if there are keys below the range. It has the range's low bound,
+/// or as much of it as it has room for, and no lock on its key stands before it.
+fn first_entry<const N: usize>(range: &KeyRange) -> Option<PointEntry<N>>
+    ensures below { IfSome result (λ p. (q : List ℕ) → slice_cmp nat_cmp q p.key ≡ Less → is_below (Some q) range.now.low ≡ true) }
+    ensures first { IfSome result (λ p. p.tx ≡ 0) }
 {
     let low = range.low().as_bytes()?;
-    Key::new(&low[..low.len().min(64)])
+    PointEntry::new(&low[..low.len().min(N)], 0)
 }
 
 /// Where to begin the search among the point locks.
-pub fn start_of(range: &KeyRange) -> ops::Bound<PointLock>
+pub fn start_of<const N: usize>(range: &KeyRange) -> ops::Bound<PointEntry<N>>
     ensures { StartsBelow result range.now.low }
 {
-    match first_key(range) {
-        Some(key) => ops::Bound::Included(PointLock { key, tx: 0 }),
+    match first_entry(range) {
+        Some(entry) => ops::Bound::Included(entry),
         None => ops::Bound::Unbounded,
     }
 }
@@ -67,9 +80,9 @@ pub fn start_of(range: &KeyRange) -> ops::Bound<PointLock>
 /// The first of the best so far and of one point lock in conflict with a lock. It is a call of its own, so that a search
 /// that meets no lock makes no room for what is named.
 #[inline(never)]
-fn first_of_point(
+fn first_of_point<const N: usize>(
     best: Option<Rival>,
-    point: &PointLock,
+    point: &PointEntry<N>,
     held: Mode,
     tx: TxId,
     range: &KeyRange,
@@ -77,12 +90,12 @@ fn first_of_point(
 ) -> Option<Rival>
     ensures { result ≡ step (record { tx = tx; range = range.now; mode = mode }) best (lock_at_point held point.now) }
 {
-    let place = KeyRange::point(&point.key);
-    if conflicts(tx, range, mode, point.tx, &place, held) {
+    let place = point.place();
+    if conflicts(tx, range, mode, point.tx(), &place, held) {
         nearer(
             best,
             Rival {
-                holder: point.tx,
+                holder: point.tx(),
                 range: place,
             },
         )
@@ -93,9 +106,9 @@ fn first_of_point(
 
 /// The first of the best so far and of the point locks in the range that are in conflict with a lock.
 #[inline(never)]
-fn first_in_range(
+fn first_in_range<const N: usize>(
     best: Option<Rival>,
-    points: &BTreeSet<PointLock>,
+    points: &BTreeSet<PointEntry<N>>,
     held: Mode,
     tx: TxId,
     range: &KeyRange,
@@ -106,7 +119,7 @@ fn first_in_range(
     let start = start_of(range);
     let mut best = best;
     for lock in points.range((start.as_ref(), ops::Bound::Unbounded)) {
-        if !range.high().is_above(&lock.key) {
+        if !is_above(range.high(), lock.text()) {
             break;
         }
         best = first_of_point(best, lock, held, tx, range, mode);
@@ -116,9 +129,9 @@ fn first_in_range(
 
 /// The first of the best so far and of the point locks held in one mode in conflict with a lock.
 #[inline(always)]
-pub fn first_point(
+pub fn first_point<const N: usize>(
     best: Option<Rival>,
-    points: &BTreeSet<PointLock>,
+    points: &BTreeSet<PointEntry<N>>,
     held: Mode,
     tx: TxId,
     range: &KeyRange,
