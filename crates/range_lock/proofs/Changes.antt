@@ -1,9 +1,9 @@
 -- What a change of one table does to all that is held.
-use Rattle.std.proofs.Common.{◌≡◌, ℕ, Bool, true, false, cond, List, [], ◌∷◌, ◌++◌, map, Option, Some, None, Result, Ok, Err, refl, sym, ap, subst, ◌∙◌, inl, inr}
-use Rattle.std.specs.Prelude.{◌⊎◌, ◌↔◌, ◌≢◌, ◌||◌, not, flat_map, unwrap_or, OnOk, OnErr}
+use Rattle.std.proofs.Common.{◌≡◌, ℕ, Bool, true, false, List, [], ◌∷◌, ◌++◌, map, Option, Some, None, Result, Ok, Err, refl, sym, ap, subst, ◌∙◌, inl, inr}
+use Rattle.std.specs.Prelude.{◌⊎◌, ◌↔◌, ◌≢◌, flat_map, unwrap_or, OnOk, OnErr}
 use Rattle.std.specs.List.{list_any}
-use Rattle.std.specs.Ordering.{nat_cmp, is_eq, eq_by_cmp, ordering_then, match_ordering}
-use Rattle.std.specs.Cmp.{tied_itself, nat_cmp_total}
+use Rattle.std.specs.Ordering.{nat_cmp, is_eq, eq_by_cmp}
+use Rattle.std.specs.Cmp.{tied_itself}
 use Rattle.std.specs.Cmp.Lexicographic.{slice_cmp, nat_list_cmp_total}
 use Rattle.std.specs.BTreeMap as tree
 use Rattle.std.specs.BTreeMap.{BTreeMap, is_at, insert_entry}
@@ -208,9 +208,9 @@ pub record AreGone (s n : List PointLock) (tx : ℕ) : Type 0 where
 points_drop : (mode : Mode) (s n : List PointLock) (tx : ℕ) → AreGone s n tx → Drops (map (lock_at_point mode) s) (map (lock_at_point mode) n) tx
 points_drop mode s n tx h l = (
   λ g. let p = held_point mode n l g in (
-        λ t. h.gone p.0 (sym (ap (λ (x : Lock). x.tx) p.2) ∙ t) p.1,
-        subst (λ (x : Lock). IsAmong x (map (lock_at_point mode) s)) (sym p.2) (point_held mode s p.0 (h.fewer p.0 p.1)),
-      ),
+    λ t. h.gone p.0 (sym (ap (λ (x : Lock). x.tx) p.2) ∙ t) p.1,
+    subst (λ (x : Lock). IsAmong x (map (lock_at_point mode) s)) (sym p.2) (point_held mode s p.0 (h.fewer p.0 p.1)),
+  ),
   λ g. let p = held_point mode s l g.1 in
       let other : p.0.tx ≢ tx = λ t. g.0 (ap (λ (x : Lock). x.tx) p.2 ∙ t) in
       subst (λ (x : Lock). IsAmong x (map (lock_at_point mode) n)) (sym p.2) (point_held mode n p.0 (h.others p.0 other p.1)),

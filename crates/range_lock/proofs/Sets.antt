@@ -1,7 +1,6 @@
 -- An ordered set of point locks, seen as what is among its keys.
-use Rattle.std.proofs.Common.{◌≡◌, ℕ, ◌<◌, ◌≤◌, length, Bool, true, false, cond, List, [], ◌∷◌, ◌++◌, refl, sym, ap, subst, ◌∙◌, Ordering, Result, Ok, Err, inl, inr, arith}
+use Rattle.std.proofs.Common.{◌≡◌, ℕ, ◌<◌, ◌≤◌, length, Bool, true, false, cond, List, [], ◌∷◌, ◌++◌, refl, sym, ap, subst, ◌∙◌, Result, Ok, Err, inl, inr, arith}
 use Rattle.std.specs.Prelude.{◌⊎◌, ◌↔◌, not, OnOk, OnErr}
-use Rattle.std.specs.Ordering.{is_eq}
 use Rattle.std.specs.BTreeMap.{is_at}
 use Rattle.std.specs.BTreeSet as sorted
 use Rattle.std.specs.BTreeSet.{BTreeSet}
@@ -9,7 +8,7 @@ use Rattle.store_model.proofs.Bools.{not_both, false_unless}
 use Rattle.range_lock.specs.Lock.{IsAmong}
 use Rattle.range_lock.specs.Among.{Adds, Removes}
 use Rattle.range_lock.specs.Point.{PointLock, HasLength, HaveLength, IsKey, point_cmp}
-use Rattle.range_lock.proofs.Members.{exact_point, is_equal, point_among, among_point, among_left, among_right, among_either}
+use Rattle.range_lock.proofs.Members.{exact_point, is_equal, point_among, among_point}
 
 abbrev pub lock_of : List ℕ → ℕ → PointLock
 lock_of key tx = record { key = key; tx = tx }
@@ -39,9 +38,9 @@ stays false o h = h
 pub removed : (s n : BTreeSet PointLock) (k : PointLock) → sorted.UpdatesBy point_cmp (point_cmp k) s n false → Removes s.keys n.keys k
 removed s n k up q = (
   λ h. let has = among_point q n.keys h in (
-        λ e. not_both (sorted.contains point_cmp n k) (subst (λ (p : PointLock). sorted.contains point_cmp n p ≡ true) e has) up.1,
-        point_among q s.keys (stays (is_at (point_cmp k) q) _ (sym (up.0 q) ∙ has)),
-      ),
+    λ e. not_both (sorted.contains point_cmp n k) (subst (λ (p : PointLock). sorted.contains point_cmp n p ≡ true) e has) up.1,
+    point_among q s.keys (stays (is_at (point_cmp k) q) _ (sym (up.0 q) ∙ has)),
+  ),
   λ g. point_among q n.keys (up.2 q (false_unless _ (λ at. g.0 (sym (exact_point k q (is_equal (point_cmp k q) at))))) ∙ among_point q s.keys g.1),
 )
 

@@ -31,11 +31,7 @@ fn point_text(range: &KeyRange) -> Option<&[u8]>
 {
     let low = range.low().as_bytes()?;
     let high = range.high().as_bytes()?;
-    if is_next(low, high) {
-        Some(low)
-    } else {
-        None
-    }
+    if is_next(low, high) { Some(low) } else { None }
 }
 
 /// The key that a range is the range of, if it is that of one key.

@@ -11,11 +11,7 @@ use std::collections::BTreeSet;
 use store_model::{Key, TxId};
 
 /// Whether the transaction's lock on the key of these bytes is in the set.
-pub fn has_point<const N: usize>(
-    points: &BTreeSet<PointEntry<N>>,
-    text: &[u8],
-    tx: TxId,
-) -> bool
+pub fn has_point<const N: usize>(points: &BTreeSet<PointEntry<N>>, text: &[u8], tx: TxId) -> bool
     requires keys { HaveLength 1 N points.now.keys }
     requires room { N ≤ KEY_BYTES }
     ensures { IsTrue result ↔ IsAmong (record { key = text.now; tx = tx }) points.now.keys }

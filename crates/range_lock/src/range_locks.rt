@@ -62,7 +62,9 @@ impl RangeLocks {
         ensures { IfOk result (λ r. r ≡ nearest (record { tx = tx; range = range.now; mode = mode }) (held self.now) None) }
     {
         let best = self.shared.first_rival(None, Mode::Shared, tx, range, mode);
-        let best = self.exclusive.first_rival(best, Mode::Exclusive, tx, range, mode);
+        let best = self
+            .exclusive
+            .first_rival(best, Mode::Exclusive, tx, range, mode);
         first_range(best, &self.ranges, tx, range, mode)
     }
 
@@ -153,8 +155,10 @@ impl RangeLocks {
         ensures err { OnErr result (out.new.items ≡ out.old.items) }
     {
         let mut found = BTreeSet::new(self.alloc);
-        self.shared.add_holders(&mut found, Mode::Shared, range, mode)?;
-        self.exclusive.add_holders(&mut found, Mode::Exclusive, range, mode)?;
+        self.shared
+            .add_holders(&mut found, Mode::Shared, range, mode)?;
+        self.exclusive
+            .add_holders(&mut found, Mode::Exclusive, range, mode)?;
         add_on_ranges(&mut found, &self.ranges, range, mode)?;
         append(self.alloc, &found, out)?;
         Ok(())

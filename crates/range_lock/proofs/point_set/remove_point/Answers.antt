@@ -1,4 +1,4 @@
-use Rattle.std.proofs.Common.{◌∙◌, false, refl, sym, subst}
+use Rattle.std.proofs.Common.{false, refl, subst}
 use Rattle.store_model.proofs.Bools.{not_both}
 use Rattle.range_lock.specs.Point.{PointLock}
 use Rattle.range_lock.specs.Among.{Removes}

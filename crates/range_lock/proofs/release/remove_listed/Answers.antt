@@ -1,4 +1,4 @@
-use Rattle.std.proofs.Common.{sym, subst}
+use Rattle.std.proofs.Common.{subst}
 use Rattle.range_lock.specs.Lock.{IsAmong}
 use Rattle.range_lock.proofs.release.remove_listed.Goals as goal
 

@@ -1,6 +1,3 @@
-use Rattle.std.proofs.Common.{◌≡◌, false, subst}
-use Rattle.std.specs.Ordering.{is_le}
-use Rattle.range_lock.specs.Point.{PointLock, point_cmp}
 use Rattle.range_lock.proofs.Conflicts.{below_start}
 use Rattle.range_lock.proofs.search.start_of.Goals as goal
 

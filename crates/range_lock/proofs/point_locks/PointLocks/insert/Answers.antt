@@ -19,7 +19,7 @@ is_long c = subst (λ (t : List ℕ). 24 < length t) c.as_bytes.ensures.value c.
 pub invariant_of-self : goal.invariant_of-self
 invariant_of-self c = (
   put_fitting c.insert_point.result 1 24 c.self.inside.short.keys c.insert_point.new.points.keys (lock_of c.args.key.now c.args.tx)
-  (record { least_fits = c.as_bytes.ensures.not_empty; fits = is_short c }) c.insert_point.ensures.ok c.insert_point.ensures.err c.self.invariant.0,
+      (record { least_fits = c.as_bytes.ensures.not_empty; fits = is_short c }) c.insert_point.ensures.ok c.insert_point.ensures.err c.self.invariant.0,
   c.self.invariant.1,
 )
 
@@ -27,7 +27,7 @@ pub invariant_of-self-else-as_bytes-le-SHORT_BYTES : goal.invariant_of-self-else
 invariant_of-self-else-as_bytes-le-SHORT_BYTES c = (
   c.self.invariant.0,
   put_fitting c.insert_point-else-as_bytes-le-SHORT_BYTES.result 25 64 c.self.inside.long.keys c.insert_point-else-as_bytes-le-SHORT_BYTES.new.points.keys (lock_of c.args.key.now c.args.tx)
-  (record { least_fits = is_long c; fits = c.as_bytes.ensures.fits }) c.insert_point-else-as_bytes-le-SHORT_BYTES.ensures.ok c.insert_point-else-as_bytes-le-SHORT_BYTES.ensures.err c.self.invariant.1,
+      (record { least_fits = is_long c; fits = c.as_bytes.ensures.fits }) c.insert_point-else-as_bytes-le-SHORT_BYTES.ensures.ok c.insert_point-else-as_bytes-le-SHORT_BYTES.ensures.err c.self.invariant.1,
 )
 
 pub returns-then-as_bytes-le-SHORT_BYTES-clause-ok : goal.returns-then-as_bytes-le-SHORT_BYTES-clause-ok

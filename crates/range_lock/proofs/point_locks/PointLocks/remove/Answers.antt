@@ -1,5 +1,5 @@
 -- The lock leaves the set of its length, and it isn't in the other one.
-use Rattle.std.proofs.Common.{◌≡◌, List, ◌++◌, subst, arith}
+use Rattle.std.proofs.Common.{List, ◌++◌, subst, arith}
 use Rattle.range_lock.specs.Point.{PointLock}
 use Rattle.range_lock.specs.Among.{Removes}
 use Rattle.range_lock.proofs.Changes.{removes_left, removes_right}
