@@ -1,6 +1,6 @@
 //! The locks as the tables keep them.
 ghost use Rattle.std.proofs.Common.{rules};
-ghost use Rattle.std.specs.Prelude.{◌≡◌, ◌≤◌, ◌↔◌, length, IsSome, IfSome};
+ghost use Rattle.std.specs.Prelude.{◌≡◌, ◌≤◌, ◌↔◌, length, IsSome, IfSome, IsTrue};
 ghost use Rattle.std.specs.Cmp.{partial_order_from_own_ties};
 ghost use Rattle.std.specs.Cmp.Rules.{comparing};
 ghost use Rattle.std.specs.Cmp.Lexicographic.{slice_cmp};
@@ -13,6 +13,13 @@ use std::cmp::Ordering;
 use std::marker::Model;
 use store_model::{KEY_BYTES, Key, KeyRange, Mode, TxId};
 use text_order::compare_texts;
+
+/// Whether these bytes are a key: they are 1 to [`KEY_BYTES`].
+pub fn is_key(text: &[u8]) -> bool
+    ensures { IsTrue result ↔ IsKey text.now }
+{
+    !text.is_empty() && text.len() <= KEY_BYTES
+}
 
 /// A transaction's lock on a single key, with room for a key of `N` bytes. These are ordered by key, then by transaction.
 #[derive(PartialEq, Eq, Drop)]
@@ -39,7 +46,7 @@ impl<const N: usize> PointEntry<N> {
         ensures value { IfSome result (λ p. p ≡ record { key = text.now; tx = tx }) }
         ensures exact { IsSome result ↔ (IsKey text.now × (length text.now ≤ N)) }
     {
-        if text.is_empty() || text.len() > KEY_BYTES {
+        if !is_key(text) {
             return None;
         }
         match ArrayVec::try_from(text) {

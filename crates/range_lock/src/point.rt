@@ -3,16 +3,17 @@ ghost use Rattle.std.specs.Prelude.{◌≡◌, ◌≢◌, ◌↔◌, ◌⊎◌, 
 ghost use Rattle.store_model.specs.Range.{point, includes};
 ghost use Rattle.range_lock.specs.Lock.{IsAmong, is_exclusive};
 ghost use Rattle.range_lock.specs.Among.{HasTheSame, Adds};
-ghost use Rattle.range_lock.specs.Point.{PointLock};
+ghost use Rattle.range_lock.specs.Point.{PointLock, IsKey};
 ghost use Rattle.range_lock.specs.Tables.{is_listed, AreListed, IsCoveredAtPoint};
 
+use crate::entry::is_key;
 use crate::key_list::KeyList;
 use crate::keys::list_key;
 use crate::point_locks::PointLocks;
 use crate::search::is_exclusive;
 use std::alloc::{AllocError, Global};
 use std::collections::BTreeMap;
-use store_model::{Key, KeyRange, Mode, TxId};
+use store_model::{KeyRange, Mode, TxId};
 
 /// Whether a text is another with a zero byte behind it: the next text above that one.
 fn is_next(text: &[u8], next: &[u8]) -> bool
@@ -24,7 +25,7 @@ fn is_next(text: &[u8], next: &[u8]) -> bool
     }
 }
 
-/// The bytes of the key that a range is the range of, if it is that of one text.
+/// The text that a range is the range of, if it is that of one text.
 fn point_text(range: &KeyRange) -> Option<&[u8]>
     ensures some { IfSome result (λ text. range.now ≡ point text.now) }
     ensures none { IfNone result ((key : List ℕ) → range.now ≢ point key) }
@@ -34,11 +35,13 @@ fn point_text(range: &KeyRange) -> Option<&[u8]>
     if is_next(low, high) { Some(low) } else { None }
 }
 
-/// The key that a range is the range of, if it is that of one key.
-pub fn point_of(range: &KeyRange) -> Option<Key>
-    ensures { IfSome result (λ key. range.now ≡ point key) }
+/// The bytes of the key that a range is the range of, if it is that of one key.
+pub fn point_of(range: &KeyRange) -> Option<&[u8]>
+    ensures value { IfSome result (λ key. range.now ≡ point key.now) }
+    ensures is_key { IfSome result (λ key. IsKey key.now) }
 {
-    Key::new(point_text(range)?)
+    let text = point_text(range)?;
+    if is_key(text) { Some(text) } else { None }
 }
 
 /// Whether a range includes another.
@@ -48,16 +51,17 @@ pub fn includes(wide: &KeyRange, range: &KeyRange) -> bool
     !range.low().is_below(wide.low()) && !wide.high().is_below(range.high())
 }
 
-/// Adds a lock on a key to those held in one mode, and lists the key for its transaction. Where memory runs out, these
+/// Adds a lock on the key of these bytes to those held in one mode, and lists the key for its transaction. Where memory runs out, these
 /// locks stay as they were.
 pub fn put_point(
     alloc: Global,
     points: &mut PointLocks,
     keys: &mut BTreeMap<TxId, KeyList>,
     tx: TxId,
-    key: &Key,
+    key: &[u8],
 ) -> Result<(), AllocError>
-    requires { AreListed points.old keys.old }
+    requires is_key { IsKey key.now }
+    requires listed { AreListed points.old keys.old }
     ensures ok { OnOk result (Adds points.old points.new (record { key = key.now; tx = tx })) }
     ensures err { OnErr result (HasTheSame points.old points.new) }
     ensures listed { AreListed points.new keys.new }
@@ -71,7 +75,7 @@ pub fn put_point(
     match list_key(alloc, keys, tx, key) {
         Ok(()) => Ok(()),
         Err(_) => {
-            points.remove(key.as_bytes(), tx);
+            points.remove(key, tx);
             Err(AllocError)
         }
     }

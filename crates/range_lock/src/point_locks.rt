@@ -6,6 +6,7 @@ ghost use Rattle.std.specs.BTreeSet.{contains};
 ghost use Rattle.range_lock.specs.Lock.{IsAmong};
 ghost use Rattle.range_lock.specs.Nearest.{nearest};
 ghost use Rattle.range_lock.specs.Among.{Adds, Removes};
+ghost use Rattle.range_lock.specs.Point.{IsKey};
 ghost use Rattle.range_lock.specs.Tables.{lock_at_point, bars_by};
 
 use crate::entry::PointEntry;
@@ -16,7 +17,7 @@ use crate::search::first_point;
 use std::alloc::{AllocError, Global};
 use std::collections::BTreeSet;
 use std::marker::Model;
-use store_model::{KEY_BYTES, Key, KeyRange, Mode, TxId};
+use store_model::{KEY_BYTES, KeyRange, Mode, TxId};
 
 /// The most bytes of a short key. An entry for one is half as long as one for the longest key.
 const SHORT_BYTES: usize = 24;
@@ -68,13 +69,15 @@ impl PointLocks {
         }
     }
 
-    /// Adds a transaction's lock on a key, and tells whether it is new. Where memory runs out, they are as before.
-    pub fn insert(&mut self, key: &Key, tx: TxId) -> Result<bool, AllocError>
+    /// Adds a transaction's lock on the key of these bytes, and tells whether it is new. Where memory runs out, they are as
+    /// before.
+    pub fn insert(&mut self, key: &[u8], tx: TxId) -> Result<bool, AllocError>
+        requires { IsKey key.now }
         ensures ok { OnOk result (Adds self.old self.new (record { key = key.now; tx = tx })) }
         ensures told { IfOk result (λ added. (added ≡ false) ↔ IsAmong (record { key = key.now; tx = tx }) self.old) }
         ensures err { OnErr result (self.new ≡ self.old) }
     {
-        if key.as_bytes().len() <= SHORT_BYTES {
+        if key.len() <= SHORT_BYTES {
             insert_point(&mut self.short, key, tx)
         } else {
             insert_point(&mut self.long, key, tx)
@@ -92,19 +95,19 @@ impl PointLocks {
         }
     }
 
-    /// The first of the best so far and of these locks, held in one mode, in conflict with a lock.
+    /// Takes into the best so far the first of these locks, held in one mode, in conflict with a lock.
     pub fn first_rival(
         &self,
-        best: Option<Rival>,
+        best: &mut Option<Rival>,
         held: Mode,
         tx: TxId,
         range: &KeyRange,
         mode: Mode,
-    ) -> Option<Rival>
-        ensures { result ≡ nearest (record { tx = tx; range = range.now; mode = mode }) (map (lock_at_point held) self.now) best }
+    )
+        ensures { best.new ≡ nearest (record { tx = tx; range = range.now; mode = mode }) (map (lock_at_point held) self.now) best.old }
     {
-        let best = first_point(best, &self.short, held, tx, range, mode);
-        first_point(best, &self.long, held, tx, range, mode)
+        first_point(best, &self.short, held, tx, range, mode);
+        first_point(best, &self.long, held, tx, range, mode);
     }
 
     /// Adds the holders of those of these locks, held in one mode, that bar the range.

@@ -3,6 +3,7 @@ ghost use Rattle.std.specs.Prelude.{◌≡◌, ◌≢◌, ◌↔◌, [], ◌++�
 ghost use Rattle.store_model.specs.Range.{point};
 ghost use Rattle.range_lock.specs.Lock.{AreCompatible, Lock, conflict};
 ghost use Rattle.range_lock.specs.Nearest.{nearest};
+ghost use Rattle.range_lock.specs.Point.{IsKey};
 ghost use Rattle.range_lock.specs.Tables.{all_locks, AreListed};
 
 use crate::entry::RangeLock;
@@ -17,7 +18,7 @@ use crate::search::first_range;
 use crate::wider::{copied, covers_on_range, holds_range, put_range};
 use std::alloc::{AllocError, Global};
 use std::collections::{BTreeMap, BTreeSet};
-use store_model::{Key, KeyRange, List, Memory, Mode, TxId};
+use store_model::{KeyRange, List, Memory, Mode, TxId};
 
 /// The locks that transactions hold.
 #[derive(Drop)]
@@ -61,22 +62,25 @@ impl RangeLocks {
     ) -> Result<Option<Rival>, AllocError>
         ensures { IfOk result (λ r. r ≡ nearest (record { tx = tx; range = range.now; mode = mode }) (held self.now) None) }
     {
-        let best = self.shared.first_rival(None, Mode::Shared, tx, range, mode);
-        let best = self
-            .exclusive
-            .first_rival(best, Mode::Exclusive, tx, range, mode);
-        first_range(best, &self.ranges, tx, range, mode)
+        let mut best = None;
+        self.shared
+            .first_rival(&mut best, Mode::Shared, tx, range, mode);
+        self.exclusive
+            .first_rival(&mut best, Mode::Exclusive, tx, range, mode);
+        first_range(&mut best, &self.ranges, tx, range, mode)?;
+        Ok(best)
     }
 
-    /// Takes a lock on a single key.
-    fn add_point(&mut self, tx: TxId, key: Key, mode: Mode) -> Result<(), AllocError>
-        requires { (l : Lock) → Holds self.old l → conflict (record { tx = tx; range = point key; mode = mode }) l ≡ false }
-        ensures ok { OnOk result (Gains self.old self.new (record { tx = tx; range = point key; mode = mode })) }
+    /// Takes a lock on the key of these bytes.
+    fn add_point(&mut self, tx: TxId, key: &[u8], mode: Mode) -> Result<(), AllocError>
+        requires is_key { IsKey key.now }
+        requires free { (l : Lock) → Holds self.old l → conflict (record { tx = tx; range = point key.now; mode = mode }) l ≡ false }
+        ensures ok { OnOk result (Gains self.old self.new (record { tx = tx; range = point key.now; mode = mode })) }
         ensures err { OnErr result (HoldsTheSame self.old self.new) }
     {
         match mode {
-            Mode::Shared => put_point(self.alloc, &mut self.shared, &mut self.keys, tx, &key),
-            Mode::Exclusive => put_point(self.alloc, &mut self.exclusive, &mut self.keys, tx, &key),
+            Mode::Shared => put_point(self.alloc, &mut self.shared, &mut self.keys, tx, key),
+            Mode::Exclusive => put_point(self.alloc, &mut self.exclusive, &mut self.keys, tx, key),
         }
     }
 

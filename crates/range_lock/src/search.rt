@@ -1,5 +1,5 @@
 //! The search for locks in conflict.
-ghost use Rattle.std.specs.Prelude.{◌≡◌, ◌&&◌, ◌||◌, ◌==◌, not, ℕ, List, map, flat_map, IfOk, IfSome, Some, true};
+ghost use Rattle.std.specs.Prelude.{◌≡◌, ◌&&◌, ◌||◌, ◌==◌, not, ℕ, List, map, flat_map, OnOk, IfSome, Some, true};
 ghost use Rattle.std.specs.declared.cmp.Ordering.TheVariants.{Less};
 ghost use Rattle.std.specs.Ordering.{nat_cmp};
 ghost use Rattle.std.specs.Cmp.Lexicographic.{slice_cmp};
@@ -77,128 +77,120 @@ pub fn start_of<const N: usize>(range: &KeyRange) -> ops::Bound<PointEntry<N>>
     }
 }
 
-/// The first of the best so far and of one point lock in conflict with a lock. It is a call of its own, so that a search
-/// that meets no lock makes no room for what is named.
+/// Takes a point lock into the best so far where it is the first in conflict with a lock. It is a call of its own, so that
+/// a search that meets no lock makes no room for what is named.
 #[inline(never)]
 fn first_of_point<const N: usize>(
-    best: Option<Rival>,
+    best: &mut Option<Rival>,
     point: &PointEntry<N>,
     held: Mode,
     tx: TxId,
     range: &KeyRange,
     mode: Mode,
-) -> Option<Rival>
-    ensures { result ≡ step (record { tx = tx; range = range.now; mode = mode }) best (lock_at_point held point.now) }
+)
+    ensures { best.new ≡ step (record { tx = tx; range = range.now; mode = mode }) best.old (lock_at_point held point.now) }
 {
+    let holder = point.tx();
     let place = point.place();
-    if conflicts(tx, range, mode, point.tx(), &place, held) {
-        nearer(
-            best,
-            Rival {
-                holder: point.tx(),
-                range: place,
-            },
-        )
-    } else {
-        best
+    if conflicts(tx, range, mode, holder, &place, held) {
+        let other = Rival {
+            holder,
+            range: place,
+        };
+        *best = nearer(best.take(), other);
     }
 }
 
-/// The first of the best so far and of the point locks in the range that are in conflict with a lock.
+/// Takes into the best so far the first of the point locks in the range that are in conflict with a lock.
 #[inline(never)]
 fn first_in_range<const N: usize>(
-    best: Option<Rival>,
+    best: &mut Option<Rival>,
     points: &BTreeSet<PointEntry<N>>,
     held: Mode,
     tx: TxId,
     range: &KeyRange,
     mode: Mode,
-) -> Option<Rival>
-    ensures { result ≡ nearest (record { tx = tx; range = range.now; mode = mode }) (map (lock_at_point held) points.now.keys) best }
+)
+    ensures { best.new ≡ nearest (record { tx = tx; range = range.now; mode = mode }) (map (lock_at_point held) points.now.keys) best.old }
 {
     let start = start_of(range);
-    let mut best = best;
     for lock in points.range((start.as_ref(), ops::Bound::Unbounded)) {
         if !is_above(range.high(), lock.text()) {
             break;
         }
-        best = first_of_point(best, lock, held, tx, range, mode);
+        first_of_point(best, lock, held, tx, range, mode);
     }
-    best
 }
 
-/// The first of the best so far and of the point locks held in one mode in conflict with a lock.
+/// Takes into the best so far the first of the point locks held in one mode in conflict with a lock.
 #[inline(always)]
 pub fn first_point<const N: usize>(
-    best: Option<Rival>,
+    best: &mut Option<Rival>,
     points: &BTreeSet<PointEntry<N>>,
     held: Mode,
     tx: TxId,
     range: &KeyRange,
     mode: Mode,
-) -> Option<Rival>
-    ensures { result ≡ nearest (record { tx = tx; range = range.now; mode = mode }) (map (lock_at_point held) points.now.keys) best }
+)
+    ensures { best.new ≡ nearest (record { tx = tx; range = range.now; mode = mode }) (map (lock_at_point held) points.now.keys) best.old }
 {
     if points.is_empty() || !is_one_exclusive(mode, held) {
-        return best;
+        return;
     }
-    first_in_range(best, points, held, tx, range, mode)
+    first_in_range(best, points, held, tx, range, mode);
 }
 
-/// The first of the best so far and of one range lock in conflict with a lock.
+/// Takes a range lock into the best so far where it is the first in conflict with a lock.
 fn first_of(
-    best: Option<Rival>,
+    best: &mut Option<Rival>,
     holder: TxId,
     held: &RangeLock,
     tx: TxId,
     range: &KeyRange,
     mode: Mode,
-) -> Result<Option<Rival>, AllocError>
-    ensures { IfOk result (λ r. r ≡ step (record { tx = tx; range = range.now; mode = mode }) best (lock_on_range holder held.now)) }
+) -> Result<(), AllocError>
+    ensures { OnOk result (best.new ≡ step (record { tx = tx; range = range.now; mode = mode }) best.old (lock_on_range holder held.now)) }
 {
     if conflicts(tx, range, mode, holder, &held.range, held.mode) {
         let range = held.range.clone()?;
-        Ok(nearer(best, Rival { holder, range }))
-    } else {
-        Ok(best)
+        *best = nearer(best.take(), Rival { holder, range });
     }
+    Ok(())
 }
 
-/// The first of the best so far and of a transaction's range locks in conflict with a lock.
+/// Takes into the best so far the first of a transaction's range locks in conflict with a lock.
 fn first_of_holder(
-    best: Option<Rival>,
+    best: &mut Option<Rival>,
     holder: TxId,
     held: &[RangeLock],
     tx: TxId,
     range: &KeyRange,
     mode: Mode,
-) -> Result<Option<Rival>, AllocError>
-    ensures { IfOk result (λ r. r ≡ nearest (record { tx = tx; range = range.now; mode = mode }) (map (lock_on_range holder) held.now) best) }
+) -> Result<(), AllocError>
+    ensures { OnOk result (best.new ≡ nearest (record { tx = tx; range = range.now; mode = mode }) (map (lock_on_range holder) held.now) best.old) }
 {
-    let mut best = best;
     for lock in held {
-        best = first_of(best, holder, lock, tx, range, mode)?;
+        first_of(best, holder, lock, tx, range, mode)?;
     }
-    Ok(best)
+    Ok(())
 }
 
-/// The first of the best so far and of the range locks in conflict with a lock.
+/// Takes into the best so far the first of the range locks in conflict with a lock.
 #[tactic(auto, unfolding(crate::specs::Nearest::nearest), using(crate::proofs::Conflicts::nearest_appended))]
 pub fn first_range(
-    best: Option<Rival>,
+    best: &mut Option<Rival>,
     ranges: &BTreeMap<TxId, List<RangeLock>>,
     tx: TxId,
     range: &KeyRange,
     mode: Mode,
-) -> Result<Option<Rival>, AllocError>
-    ensures { IfOk result (λ r. r ≡ nearest (record { tx = tx; range = range.now; mode = mode }) (flat_map locks_on_ranges ranges.now.entries) best) }
+) -> Result<(), AllocError>
+    ensures { OnOk result (best.new ≡ nearest (record { tx = tx; range = range.now; mode = mode }) (flat_map locks_on_ranges ranges.now.entries) best.old) }
 {
     if ranges.is_empty() {
-        return Ok(best);
+        return Ok(());
     }
-    let mut best = best;
     for (holder, held) in ranges {
-        best = first_of_holder(best, *holder, held.as_slice(), tx, range, mode)?;
+        first_of_holder(best, *holder, held.as_slice(), tx, range, mode)?;
     }
-    Ok(best)
+    Ok(())
 }

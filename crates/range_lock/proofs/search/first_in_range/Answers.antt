@@ -21,7 +21,7 @@ loop-lock-init g c =
     let is = c.into_iter-lock-iterator.ensures.into_iter_gives ∙ c.range-lock-items.ensures.between tt ∙ from in
     let asked : Lock = record { tx = c.args.tx; range = c.args.range.now; mode = c.args.mode } in
     record {
-      same = ap (λ (ps : List PointLock). nearest asked (map (lock_at_point c.args.held) ps) c.args.best) is ∙ nearest-from c.args.held asked start c.start_of-start.ensures c.args.points.now.keys c.args.best;
+      same = ap (λ (ps : List PointLock). nearest asked (map (lock_at_point c.args.held) ps) c.args.best.now) is ∙ nearest-from c.args.held asked start c.start_of-start.ensures c.args.points.now.keys c.args.best.now;
       sorted = subst (IsStrictlySortedBy point_cmp) (sym is) (IsStrictlySortedBy-filter point_cmp _ c.args.points.now.keys c.range-lock-items.ensures.ordered);
     }
 
@@ -29,7 +29,7 @@ pub loop-lock-preserved : goal.loop-lock-preserved
 loop-lock-preserved g c =
     let is = c.in-Some.ensures.steps in
     record {
-      same = stepped c.args.held _ c.loop-lock.lock-iterator c.loop-lock.best _ c.loop-lock.invariant.same c.in-Some.lock.now c.next.new.self is c.first_of_point-best.result c.first_of_point-best.ensures;
+      same = stepped c.args.held _ c.loop-lock.lock-iterator c.loop-lock.best _ c.loop-lock.invariant.same c.in-Some.lock.now c.next.new.self is c.first_of_point.new.best c.first_of_point.ensures;
       sorted = sorted_after c.in-Some.lock.now c.loop-lock.lock-iterator c.next.new.self is c.loop-lock.invariant.sorted;
     }
 

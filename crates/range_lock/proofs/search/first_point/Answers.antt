@@ -13,6 +13,6 @@ pub returns-then-is_empty : goal.returns-then-is_empty
 returns-then-is_empty g c =
     let asked : Lock = record { tx = c.args.tx; range = c.args.range.now; mode = c.args.mode } in
     elim c.then-is_empty.branch [
-      | then-is_empty-via-then-is_empty w ↦ sym (ap (λ (ps : List PointLock). nearest asked (map (lock_at_point c.args.held) ps) c.args.best) (nil_from_length _ (c.is_empty.ensures.0 w.if-is_empty.true)) ∙ nearest-nil asked c.args.best)
-      | then-is_empty-via-else-is_empty+then-not-is_one_exclusive w ↦ sym (nearest-shared c.args.held asked (sym w.is_one_exclusive.ensures ∙ w.if-not-is_one_exclusive.true) c.args.points.now.keys c.args.best)
+      | then-is_empty-via-then-is_empty w ↦ sym (ap (λ (ps : List PointLock). nearest asked (map (lock_at_point c.args.held) ps) c.args.best.now) (nil_from_length _ (c.is_empty.ensures.0 w.if-is_empty.true)) ∙ nearest-nil asked c.args.best.now)
+      | then-is_empty-via-else-is_empty+then-not-is_one_exclusive w ↦ sym (nearest-shared c.args.held asked (sym w.is_one_exclusive.ensures ∙ w.if-not-is_one_exclusive.true) c.args.points.now.keys c.args.best.now)
     ]

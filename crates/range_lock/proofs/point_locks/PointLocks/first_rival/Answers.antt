@@ -12,6 +12,6 @@ returns c =
     let asked : Lock = record { tx = c.args.tx; range = c.args.range.now; mode = c.args.mode } in
     let short = c.self.inside.short.keys in
     let long = c.self.inside.long.keys in
-    c.first_point.ensures ∙ ap (nearest asked (map (lock_at_point c.args.held) long)) c.first_point-best.ensures
-    ∙ sym (nearest-both c.args.held asked short long c.args.best)
-    ∙ ap (λ (ps : List PointLock). nearest asked (map (lock_at_point c.args.held) ps) c.args.best) c.self.view_is
+    c.first_point-2.ensures ∙ ap (nearest asked (map (lock_at_point c.args.held) long)) c.first_point.ensures
+    ∙ sym (nearest-both c.args.held asked short long c.args.best.now)
+    ∙ ap (λ (ps : List PointLock). nearest asked (map (lock_at_point c.args.held) ps) c.args.best.now) c.self.view_is
