@@ -51,8 +51,8 @@ pub fn includes(wide: &KeyRange, range: &KeyRange) -> bool
     !range.low().is_below(wide.low()) && !wide.high().is_below(range.high())
 }
 
-/// Adds a lock on the key of these bytes to those held in one mode, and lists the key for its transaction. Where memory runs out, these
-/// locks stay as they were.
+/// Adds a lock on the key of these bytes to those held in one mode, and lists the key for its transaction. Where memory runs
+/// out, these locks stay as they were.
 pub fn put_point(
     alloc: Global,
     points: &mut PointLocks,

@@ -22,7 +22,8 @@ use store_model::{KEY_BYTES, KeyRange, Mode, TxId};
 /// The most bytes of a short key. An entry for one is half as long as one for the longest key.
 const SHORT_BYTES: usize = 24;
 
-/// Locks on single keys. Those on short keys stand in a set of their own, whose entries are small.
+/// Locks on single keys. Those on short keys stand in a set of their own, whose entries are small, so that a lock is looked
+/// for in the set of its key's length alone.
 #[derive(Drop)]
 pub struct PointLocks {
     short: BTreeSet<PointEntry<SHORT_BYTES>>,

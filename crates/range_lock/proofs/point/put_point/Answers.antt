@@ -1,8 +1,7 @@
-use Rattle.std.proofs.Common.{ℕ, List, ap, sym, subst, inl, inr}
+use Rattle.std.proofs.Common.{ap, sym, subst, inl, inr}
 use Rattle.store_model.proofs.Bools.{not_both}
 use Rattle.range_lock.specs.Lock.{IsAmong}
 use Rattle.range_lock.specs.Point.{PointLock}
-use Rattle.range_lock.specs.Among.{Removes}
 use Rattle.range_lock.proofs.Changes.{undone}
 use Rattle.range_lock.proofs.Sets.{lock_of}
 use Rattle.range_lock.proofs.point.put_point.Goals as goal

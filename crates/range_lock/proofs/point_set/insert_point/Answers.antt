@@ -1,4 +1,4 @@
-use Rattle.std.proofs.Common.{◌≡◌, ◌∙◌, ℕ, List, false, ap, subst}
+use Rattle.std.proofs.Common.{◌≡◌, false, subst}
 use Rattle.std.specs.Prelude.{◌↔◌}
 use Rattle.range_lock.specs.Lock.{IsAmong}
 use Rattle.range_lock.specs.Point.{PointLock}

@@ -1,5 +1,5 @@
 -- The lock joins the set of its length, and it isn't in the other one.
-use Rattle.std.proofs.Common.{ℕ, ◌<◌, ◌≤◌, length, List, ◌++◌, sym, subst, inl, inr}
+use Rattle.std.proofs.Common.{List, ◌++◌, sym, subst, inl, inr}
 use Rattle.std.proofs.lemmas.Result.{IfOk-weaker, on_ok_weaker}
 use Rattle.range_lock.specs.Lock.{IsAmong}
 use Rattle.range_lock.specs.Point.{PointLock}
