@@ -1,28 +1,24 @@
 -- What a change of one table does to all that is held.
-use Rattle.std.proofs.Common.{◌≡◌, ℕ, Bool, true, false, cond, List, [], ◌∷◌, ◌++◌, map, Option, Some, None, Result, Ok, Err, refl, sym, ap, subst, ◌∙◌, inl, inr}
-use Rattle.std.specs.Prelude.{◌⊎◌, ◌↔◌, ◌≢◌, ◌||◌, not, flat_map, unwrap_or, OnOk, OnErr}
+use Rattle.std.proofs.Common.{◌≡◌, ℕ, Bool, true, false, List, [], ◌∷◌, ◌++◌, map, Option, Some, None, Result, Ok, Err, refl, sym, ap, subst, ◌∙◌, inl, inr}
+use Rattle.std.specs.Prelude.{◌⊎◌, ◌↔◌, ◌≢◌, flat_map, unwrap_or, OnOk, OnErr}
 use Rattle.std.specs.List.{list_any}
-use Rattle.std.specs.Ordering.{nat_cmp, is_eq, eq_by_cmp, ordering_then, match_ordering}
-use Rattle.std.specs.Cmp.{tied_itself, nat_cmp_total}
+use Rattle.std.specs.Ordering.{nat_cmp, is_eq, eq_by_cmp}
+use Rattle.std.specs.Cmp.{tied_itself}
 use Rattle.std.specs.Cmp.Lexicographic.{slice_cmp, nat_list_cmp_total}
 use Rattle.std.specs.BTreeMap as tree
 use Rattle.std.specs.BTreeMap.{BTreeMap, is_at, insert_entry}
 use Rattle.std.specs.Map.{lookup, remove_entry}
 use Rattle.std.proofs.lemmas.Map.Lookups.{exact_unsigned}
 use Rattle.store_model.proofs.Bools.{not_both, false_unless}
-use Rattle.std.specs.BTreeSet as sorted
-use Rattle.std.specs.BTreeSet.{BTreeSet, insert_key}
-use Rattle.std.specs.Set.{remove_key}
-use Rattle.std.specs.declared.cmp.Ordering.{Ordering}
-use Rattle.std.specs.declared.cmp.Ordering.TheVariants.{Less, Equal, Greater}
 use Rattle.store_model.specs.Range.{Interval}
 use Rattle.store_model.specs.declared.range.Mode.{Mode}
 use Rattle.store_model.specs.declared.range.Mode.TheVariants.{Shared, Exclusive}
 use Rattle.range_lock.specs.Lock.{Lock, IsAmong, AreCompatible, covers}
-use Rattle.range_lock.specs.Tables.{all_locks, lock_at_point, locks_at_points, lock_on_range, locks_on_ranges, point_cmp, is_listed}
-use Rattle.range_lock.specs.declared.entry.PointLock.{PointLock}
+use Rattle.range_lock.specs.Among.{HasTheSame, Adds, Removes}
+use Rattle.range_lock.specs.Point.{PointLock}
+use Rattle.range_lock.specs.Tables.{all_locks, lock_at_point, locks_at_points, lock_on_range, locks_on_ranges, is_listed}
 use Rattle.range_lock.specs.declared.entry.RangeLock.{RangeLock}
-use Rattle.range_lock.proofs.Members.{among_left, among_right, among_either, exact_point, is_equal, or_true_right, Has, point_held, held_point, among_inserted, among_fewer, not_of}
+use Rattle.range_lock.proofs.Members.{among_left, among_right, among_either, is_equal, or_true_right, point_held, held_point, among_inserted, among_fewer, not_of}
 
 -- ---- the keys of a transaction
 
@@ -39,12 +35,8 @@ listed_last keys tx key k old ks got is same p at_tx at_key =
 
 -- ---- a list of locks that gains one, beside others
 
--- the new locks are the old ones and this one
-abbrev pub Adds : List Lock → List Lock → Lock → Type 0
-Adds old new k = (l : Lock) → IsAmong l new ↔ ((l ≡ k) ⊎ IsAmong l old)
-
-module _ (old new others : List Lock) (k : Lock) (h : Adds old new k) where
-  adds_left : Adds (old ++ others) (new ++ others) k
+module _ {A : Type 0} (old new others : List A) (k : A) (h : Adds old new k) where
+  pub adds_left : Adds (old ++ others) (new ++ others) k
   adds_left l = (
     λ g. elim (among_either l new others g) [
       | inl m ↦ elim ((h l).0 m) [ inl e ↦ inl e | inr n ↦ inr (among_left l old others n) ]
@@ -56,7 +48,7 @@ module _ (old new others : List Lock) (k : Lock) (h : Adds old new k) where
     ],
   )
 
-  adds_right : Adds (others ++ old) (others ++ new) k
+  pub adds_right : Adds (others ++ old) (others ++ new) k
   adds_right l = (
     λ g. elim (among_either l others new g) [
       | inl m ↦ inr (among_left l others old m)
@@ -68,100 +60,104 @@ module _ (old new others : List Lock) (k : Lock) (h : Adds old new k) where
     ],
   )
 
+module _ {A : Type 0} (old new others : List A) (k : A) (h : Removes old new k) where
+  pub removes_left : (IsAmong k others → ⊥) → Removes (old ++ others) (new ++ others) k
+  removes_left none l = (
+    λ g. elim (among_either l new others g) [
+      | inl m ↦ let r = (h l).0 m in (r.0, among_left l old others r.1)
+      | inr m ↦ (λ e. none (subst (λ (x : A). IsAmong x others) e m), among_right l old others m)
+    ],
+    λ g. elim (among_either l old others g.1) [ inl m ↦ among_left l new others ((h l).1 (g.0, m)) | inr m ↦ among_right l new others m ],
+  )
+
+  pub removes_right : (IsAmong k others → ⊥) → Removes (others ++ old) (others ++ new) k
+  removes_right none l = (
+    λ g. elim (among_either l others new g) [
+      | inl m ↦ (λ e. none (subst (λ (x : A). IsAmong x others) e m), among_left l others old m)
+      | inr m ↦ let r = (h l).0 m in (r.0, among_right l others old r.1)
+    ],
+    λ g. elim (among_either l others old g.1) [ inl m ↦ among_left l others new m | inr m ↦ among_right l others new ((h l).1 (g.0, m)) ],
+  )
+
+-- what was added and removed again
+pub undone : {A : Type 0} (old mid new : List A) (k : A) → (IsAmong k old → ⊥) → Adds old mid k → Removes mid new k → HasTheSame old new
+undone old mid new k none put out x = (
+  λ h. let r = (out x).0 h in elim ((put x).0 r.1) [ inl e ↦ absurd (r.0 e) | inr m ↦ m ],
+  λ h. (out x).1 (λ e. none (subst (λ y. IsAmong y old) e h), (put x).1 (inr h)),
+)
+
+module _ {A : Type 0} (old new others : List A) (h : HasTheSame old new) where
+  same_left : HasTheSame (old ++ others) (new ++ others)
+  same_left l = (
+    λ g. elim (among_either l new others g) [ inl m ↦ among_left l old others ((h l).0 m) | inr m ↦ among_right l old others m ],
+    λ g. elim (among_either l old others g) [ inl m ↦ among_left l new others ((h l).1 m) | inr m ↦ among_right l new others m ],
+  )
+
+  same_right : HasTheSame (others ++ old) (others ++ new)
+  same_right l = (
+    λ g. elim (among_either l others new g) [ inl m ↦ among_left l others old m | inr m ↦ among_right l others old ((h l).0 m) ],
+    λ g. elim (among_either l others old g) [ inl m ↦ among_left l others new m | inr m ↦ among_right l others new ((h l).1 m) ],
+  )
+
+pub has_same : {A : Type 0} (old new : List A) → new ≡ old → HasTheSame old new
+has_same old new e x = (λ h. subst (IsAmong x) e h, λ h. subst (IsAmong x) (sym e) h)
+
 -- a lock that was there already
 pub adds_nothing : (old : List Lock) (k : Lock) → IsAmong k old → Adds old old k
 adds_nothing old k h l = (λ g. inr g, λ g. elim g [ inl e ↦ subst (λ (x : Lock). IsAmong x old) (sym e) h | inr m ↦ m ])
 
--- after a lock was added, or memory ran out
-pub at_most : {A E : Type 0} (r : Result A E) (old new : List Lock) (k : Lock) → OnOk r (Adds old new k) → OnErr r (new ≡ old) → (l : Lock) → IsAmong l new → (l ≡ k) ⊎ IsAmong l old
-at_most (Ok a) old new k ok err l g = (ok l).0 g
-at_most (Err e) old new k ok err l g = inr (subst (IsAmong l) err g)
+-- after one was added, or memory ran out
+pub at_most : {A R E : Type 0} (r : Result R E) (old new : List A) (k : A) → OnOk r (Adds old new k) → OnErr r (HasTheSame old new) → (x : A) → IsAmong x new → (x ≡ k) ⊎ IsAmong x old
+at_most (Ok a) old new k ok err x g = (ok x).0 g
+at_most (Err e) old new k ok err x g = inr ((err x).0 g)
 
 -- ---- locks on keys, held in one mode
 
-tied_point : (k : PointLock) → is_at (point_cmp k) k ≡ true
-tied_point k = ap (λ (o : Ordering). is_eq (ordering_then o (nat_cmp k.tx k.tx))) (tied_itself nat_list_cmp_total k.key) ∙ ap is_eq (tied_itself nat_cmp_total k.tx)
-
-under : (b : Bool) (k q : PointLock) (o : Bool) → is_at (point_cmp k) q ≡ b → cond b true o ≡ true → (q ≡ k) ⊎ (o ≡ true)
-under true k q o at h = inl (sym (exact_point k q (is_equal (point_cmp k q) at)))
-under false k q o at h = inr h
-
-keeps : (b : Bool) (o : Bool) → o ≡ true → cond b true o ≡ true
-keeps true o h = refl
-keeps false o h = h
-
-pub has_new : (s n : BTreeSet PointLock) (k : PointLock) → sorted.Updates point_cmp s n k true → (q : PointLock) → Has n q ↔ ((q ≡ k) ⊎ Has s q)
-has_new s n k up q = (
-  λ h. under (is_at (point_cmp k) q) k q (sorted.contains point_cmp s q) refl (sym (up.0 q) ∙ h),
-  λ g. elim g [ inl e ↦ subst (Has n) (sym e) up.1 | inr h ↦ up.0 q ∙ keeps (is_at (point_cmp k) q) _ h ],
-)
-
--- a new one that is taken out again
-undone : (k : PointLock) (ks : List PointLock) → list_any (is_at (point_cmp k)) ks ≡ false → remove_key (is_at (point_cmp k)) (insert_key point_cmp ks k) ≡ ks
-undone k [] none = ap (λ (b : Bool). cond {A = List PointLock} b [] (k ∷ [])) (tied_point k)
-undone k (x ∷ xs) none = by (point_cmp k x) refl none (undone k xs)
-  where
-    by : (o : Ordering) → point_cmp k x ≡ o → (is_eq o || list_any (is_at (point_cmp k)) xs) ≡ false → (list_any (is_at (point_cmp k)) xs ≡ false → remove_key (is_at (point_cmp k)) (insert_key point_cmp xs k) ≡ xs)
-        → remove_key (is_at (point_cmp k)) (match_ordering o (k ∷ x ∷ xs) (x ∷ xs) (x ∷ insert_key point_cmp xs k)) ≡ x ∷ xs
-    by Less e n rest = ap (λ (b : Bool). cond {A = List PointLock} b (x ∷ xs) (k ∷ remove_key (is_at (point_cmp k)) (x ∷ xs))) (tied_point k)
-    by Equal e n rest = absurd cc
-    by Greater e n rest = ap (λ (o : Ordering). cond {A = List PointLock} (is_eq o) (insert_key point_cmp xs k) (x ∷ remove_key (is_at (point_cmp k)) (insert_key point_cmp xs k))) e ∙ ap (λ (l : List PointLock). x ∷ l) (rest n)
-
--- the insertion told that it is new
-pub was_new : (added there : Bool) → added ≡ not there → added ≡ true → there ≡ false
-was_new added false e n = refl
-was_new added true e n = absurd (let f : false ≡ true = sym e ∙ n in cc)
-
--- the same keys hold the same locks
-pub same_points : (s n : BTreeSet PointLock) → n.keys ≡ s.keys → (p : PointLock) → Has n p → Has s p
-same_points s n e p h = subst (λ (ks : List PointLock). list_any (is_at (point_cmp p)) ks ≡ true) e h
-
-pub taken_out : (k : PointLock) (old mid new : List PointLock) → list_any (is_at (point_cmp k)) old ≡ false → mid ≡ insert_key point_cmp old k → new ≡ remove_key (is_at (point_cmp k)) mid → new ≡ old
-taken_out k old mid new none put out = out ∙ ap (remove_key (is_at (point_cmp k))) put ∙ undone k old none
-
--- after an insertion, or one for which memory ran out
-pub has_after : {A E : Type 0} (r : Result A E) (s n : BTreeSet PointLock) (k : PointLock) → OnOk r ((q : PointLock) → Has n q ↔ ((q ≡ k) ⊎ Has s q)) → OnErr r (n.keys ≡ s.keys)
-    → (q : PointLock) → Has n q → (q ≡ k) ⊎ Has s q
-has_after (Ok b) s n k ok err q h = (ok q).0 h
-has_after (Err e) s n k ok err q h = inr (ap (list_any (is_at (point_cmp q))) (sym err) ∙ h)
-
-points_add : (mode : Mode) (s n : BTreeSet PointLock) (k : PointLock) → ((q : PointLock) → Has n q ↔ ((q ≡ k) ⊎ Has s q))
-    → Adds (map (lock_at_point mode) s.keys) (map (lock_at_point mode) n.keys) (lock_at_point mode k)
+points_add : (mode : Mode) (s n : List PointLock) (k : PointLock) → Adds s n k
+    → Adds (map (lock_at_point mode) s) (map (lock_at_point mode) n) (lock_at_point mode k)
 points_add mode s n k h l = (
   λ g. let p = held_point mode n l g in
       elim ((h p.0).0 p.1) [
         | inl e ↦ inl (p.2 ∙ ap (lock_at_point mode) e)
-        | inr c ↦ inr (subst (λ (x : Lock). IsAmong x (map (lock_at_point mode) s.keys)) (sym p.2) (point_held mode s p.0 c))
+        | inr c ↦ inr (subst (λ (x : Lock). IsAmong x (map (lock_at_point mode) s)) (sym p.2) (point_held mode s p.0 c))
       ],
   λ g. elim g [
-    | inl e ↦ subst (λ (x : Lock). IsAmong x (map (lock_at_point mode) n.keys)) (sym e) (point_held mode n k ((h k).1 (inl refl)))
-    | inr m ↦ let p = held_point mode s l m in subst (λ (x : Lock). IsAmong x (map (lock_at_point mode) n.keys)) (sym p.2) (point_held mode n p.0 ((h p.0).1 (inr p.1)))
+    | inl e ↦ subst (λ (x : Lock). IsAmong x (map (lock_at_point mode) n)) (sym e) (point_held mode n k ((h k).1 (inl refl)))
+    | inr m ↦ let p = held_point mode s l m in subst (λ (x : Lock). IsAmong x (map (lock_at_point mode) n)) (sym p.2) (point_held mode n p.0 ((h p.0).1 (inr p.1)))
   ],
 )
 
-module _ (s e n : BTreeSet PointLock) (ranges : BTreeMap ℕ (List RangeLock)) where
+points_same : (mode : Mode) (s n : List PointLock) → HasTheSame s n → HasTheSame (map (lock_at_point mode) s) (map (lock_at_point mode) n)
+points_same mode s n h l = (
+  λ g. let p = held_point mode n l g in subst (λ (x : Lock). IsAmong x (map (lock_at_point mode) s)) (sym p.2) (point_held mode s p.0 ((h p.0).0 p.1)),
+  λ g. let p = held_point mode s l g in subst (λ (x : Lock). IsAmong x (map (lock_at_point mode) n)) (sym p.2) (point_held mode n p.0 ((h p.0).1 p.1)),
+)
+
+module _ (s e n : List PointLock) (ranges : BTreeMap ℕ (List RangeLock)) where
   abbrev others : List Lock
   others = flat_map locks_on_ranges ranges.entries
 
-  pub shared_add : (k : PointLock) (mode : Mode) → mode ≡ Shared → ((q : PointLock) → Has n q ↔ ((q ≡ k) ⊎ Has s q)) → Adds (all_locks s e ranges) (all_locks n e ranges) (lock_at_point mode k)
+  pub shared_add : (k : PointLock) (mode : Mode) → mode ≡ Shared → Adds s n k → Adds (all_locks s e ranges) (all_locks n e ranges) (lock_at_point mode k)
   shared_add k mode is h =
-      let at_e = map (lock_at_point Exclusive) e.keys in
-      rw is (adds_left (locks_at_points s e) (locks_at_points n e) others _ (adds_left (map (lock_at_point Shared) s.keys) (map (lock_at_point Shared) n.keys) at_e _ (points_add Shared s n k h)))
+      let at_e = map (lock_at_point Exclusive) e in
+      rw is (adds_left (locks_at_points s e) (locks_at_points n e) others _ (adds_left (map (lock_at_point Shared) s) (map (lock_at_point Shared) n) at_e _ (points_add Shared s n k h)))
 
-  pub shared_same : n.keys ≡ s.keys → all_locks n e ranges ≡ all_locks s e ranges
-  shared_same same = ap (λ (ps : List PointLock). (map (lock_at_point Shared) ps ++ map (lock_at_point Exclusive) e.keys) ++ others) same
+  pub shared_same : HasTheSame s n → HasTheSame (all_locks s e ranges) (all_locks n e ranges)
+  shared_same h =
+      same_left (locks_at_points s e) (locks_at_points n e) others (same_left (map (lock_at_point Shared) s) (map (lock_at_point Shared) n) (map (lock_at_point Exclusive) e) (points_same Shared s n h))
 
-  pub exclusive_add : (k : PointLock) (mode : Mode) → mode ≡ Exclusive → ((q : PointLock) → Has n q ↔ ((q ≡ k) ⊎ Has e q)) → Adds (all_locks s e ranges) (all_locks s n ranges) (lock_at_point mode k)
+  pub exclusive_add : (k : PointLock) (mode : Mode) → mode ≡ Exclusive → Adds e n k → Adds (all_locks s e ranges) (all_locks s n ranges) (lock_at_point mode k)
   exclusive_add k mode is h =
-      let at_s = map (lock_at_point Shared) s.keys in
-      rw is (adds_left (locks_at_points s e) (locks_at_points s n) others _ (adds_right (map (lock_at_point Exclusive) e.keys) (map (lock_at_point Exclusive) n.keys) at_s _ (points_add Exclusive e n k h)))
+      let at_s = map (lock_at_point Shared) s in
+      rw is (adds_left (locks_at_points s e) (locks_at_points s n) others _ (adds_right (map (lock_at_point Exclusive) e) (map (lock_at_point Exclusive) n) at_s _ (points_add Exclusive e n k h)))
 
-  pub exclusive_same : n.keys ≡ e.keys → all_locks s n ranges ≡ all_locks s e ranges
-  exclusive_same same = ap (λ (ps : List PointLock). (map (lock_at_point Shared) s.keys ++ map (lock_at_point Exclusive) ps) ++ others) same
+  pub exclusive_same : HasTheSame e n → HasTheSame (all_locks s e ranges) (all_locks s n ranges)
+  exclusive_same h =
+      same_left (locks_at_points s e) (locks_at_points s n) others (same_right (map (lock_at_point Exclusive) e) (map (lock_at_point Exclusive) n) (map (lock_at_point Shared) s) (points_same Exclusive e n h))
 
 -- ---- range locks
 
-pub range_add : (s e : BTreeSet PointLock) (rs rn : List (ℕ × List RangeLock)) (k : Lock) → Adds (flat_map locks_on_ranges rs) (flat_map locks_on_ranges rn) k
+pub range_add : (s e : List PointLock) (rs rn : List (ℕ × List RangeLock)) (k : Lock) → Adds (flat_map locks_on_ranges rs) (flat_map locks_on_ranges rn) k
     → Adds (locks_at_points s e ++ flat_map locks_on_ranges rs) (locks_at_points s e ++ flat_map locks_on_ranges rn) k
 range_add s e rs rn k h = adds_right (flat_map locks_on_ranges rs) (flat_map locks_on_ranges rn) (locks_at_points s e) k h
 
@@ -204,19 +200,20 @@ drops_both old new old_2 new_2 tx h g l = (
 )
 
 -- all of the transaction's locks on keys are gone, and no other
-abbrev pub AreGone : BTreeSet PointLock → BTreeSet PointLock → ℕ → Type 0
-AreGone s n tx = ((p : PointLock) → p.tx ≢ tx → sorted.contains point_cmp n p ≡ sorted.contains point_cmp s p) × ((p : PointLock) → p.tx ≡ tx → Has n p → ⊥)
+pub record AreGone (s n : List PointLock) (tx : ℕ) : Type 0 where
+  pub others : (p : PointLock) → p.tx ≢ tx → IsAmong p s → IsAmong p n
+  pub fewer : (p : PointLock) → IsAmong p n → IsAmong p s
+  pub gone : (p : PointLock) → p.tx ≡ tx → IsAmong p n → ⊥
 
-points_drop : (mode : Mode) (s n : BTreeSet PointLock) (tx : ℕ) → AreGone s n tx → Drops (map (lock_at_point mode) s.keys) (map (lock_at_point mode) n.keys) tx
-points_drop mode s n tx gone l = (
-  λ g. let p = held_point mode n l g in
-      let other : p.0.tx ≢ tx = λ t. gone.1 p.0 t p.1 in (
-        λ t. other (sym (ap (λ (x : Lock). x.tx) p.2) ∙ t),
-        subst (λ (x : Lock). IsAmong x (map (lock_at_point mode) s.keys)) (sym p.2) (point_held mode s p.0 (sym (gone.0 p.0 other) ∙ p.1)),
-      ),
+points_drop : (mode : Mode) (s n : List PointLock) (tx : ℕ) → AreGone s n tx → Drops (map (lock_at_point mode) s) (map (lock_at_point mode) n) tx
+points_drop mode s n tx h l = (
+  λ g. let p = held_point mode n l g in (
+    λ t. h.gone p.0 (sym (ap (λ (x : Lock). x.tx) p.2) ∙ t) p.1,
+    subst (λ (x : Lock). IsAmong x (map (lock_at_point mode) s)) (sym p.2) (point_held mode s p.0 (h.fewer p.0 p.1)),
+  ),
   λ g. let p = held_point mode s l g.1 in
       let other : p.0.tx ≢ tx = λ t. g.0 (ap (λ (x : Lock). x.tx) p.2 ∙ t) in
-      subst (λ (x : Lock). IsAmong x (map (lock_at_point mode) n.keys)) (sym p.2) (point_held mode n p.0 (gone.0 p.0 other ∙ p.1)),
+      subst (λ (x : Lock). IsAmong x (map (lock_at_point mode) n)) (sym p.2) (point_held mode n p.0 (h.others p.0 other p.1)),
 )
 
 ranges_drop : (tx : ℕ) (rs rn : List (ℕ × List RangeLock)) → rn ≡ remove_entry (is_at (nat_cmp tx)) rs → lookup (is_at (nat_cmp tx)) rn ≡ None → Drops (flat_map locks_on_ranges rs) (flat_map locks_on_ranges rn) tx
@@ -225,12 +222,12 @@ ranges_drop tx rs rn entries absent l = (
   λ g. subst (λ (es : List (ℕ × List RangeLock)). IsAmong l (flat_map locks_on_ranges es)) (sym entries) ((among_fewer tx l rs).1 g.0 g.1),
 )
 
-pub released : (tx : ℕ) (s s_new e e_new : BTreeSet PointLock) (rs rn : BTreeMap ℕ (List RangeLock)) → AreGone s s_new tx → AreGone e e_new tx
+pub released : (tx : ℕ) (s s_new e e_new : List PointLock) (rs rn : BTreeMap ℕ (List RangeLock)) → AreGone s s_new tx → AreGone e e_new tx
     → rn.entries ≡ remove_entry (is_at (nat_cmp tx)) rs.entries → lookup (is_at (nat_cmp tx)) rn.entries ≡ None
     → Drops (all_locks s e rs) (all_locks s_new e_new rn) tx
 released tx s s_new e e_new rs rn gone_s gone_e entries absent =
     drops_both (locks_at_points s e) (locks_at_points s_new e_new) (flat_map locks_on_ranges rs.entries) (flat_map locks_on_ranges rn.entries) tx
-    (drops_both (map (lock_at_point Shared) s.keys) (map (lock_at_point Shared) s_new.keys) (map (lock_at_point Exclusive) e.keys) (map (lock_at_point Exclusive) e_new.keys) tx
+    (drops_both (map (lock_at_point Shared) s) (map (lock_at_point Shared) s_new) (map (lock_at_point Exclusive) e) (map (lock_at_point Exclusive) e_new) tx
     (points_drop Shared s s_new tx gone_s) (points_drop Exclusive e e_new tx gone_e))
     (ranges_drop tx rs.entries rn.entries entries absent)
 

@@ -17,9 +17,9 @@ use Rattle.std.specs.declared.ops.Bound.{Bound}
 use Rattle.std.specs.declared.ops.Bound.TheVariants.{Unbounded}
 use Rattle.std.specs.BTreeMap.Range.{is_from_start, range_contains}
 use Rattle.store_model.specs.declared.range.Mode.{Mode}
-use Rattle.range_lock.specs.Tables.{lock_at_point, lock_on_range, point_cmp}
+use Rattle.range_lock.specs.Tables.{lock_at_point, lock_on_range}
 use Rattle.range_lock.specs.declared.rival.Rival.{Rival}
-use Rattle.range_lock.specs.declared.entry.PointLock.{PointLock}
+use Rattle.range_lock.specs.Point.{PointLock, point_cmp}
 use Rattle.range_lock.specs.declared.entry.RangeLock.{RangeLock}
 use Rattle.range_lock.proofs.Texts.{less, turned, none_between}
 
@@ -69,8 +69,9 @@ key_first Equal p h e = absurd (not_both (is_le p) h e)
 key_first Greater p h e = refl
 
 -- the first lock at a key is not above a lock only where its key isn't
-pub below_start : (key : List ℕ) (p : PointLock) → is_le (point_cmp (record { key = key; tx = 0 }) p) ≡ false → slice_cmp nat_cmp p.key key ≡ Less
-below_start key p e = turned key p.key Greater (key_first (slice_cmp nat_cmp key p.key) _ (none_above p.tx) e)
+pub below_start : (k : PointLock) → k.tx ≡ 0 → (p : PointLock) → is_le (point_cmp k p) ≡ false → slice_cmp nat_cmp p.key k.key ≡ Less
+below_start k first p e =
+    turned k.key p.key Greater (key_first (slice_cmp nat_cmp k.key p.key) _ (subst (λ (t : ℕ). is_le (nat_cmp t p.tx) ≡ true) (sym first) (none_above p.tx)) e)
 
 pub and-true : (b : Bool) → (b && true) ≡ false → b ≡ false
 and-true true e = absurd cc
@@ -104,6 +105,12 @@ module _ (held : Mode) where
 
   pub free_below : (asked : Lock) (p : PointLock) → is_below (Some p.key) asked.range.low ≡ true → conflict asked (lock_at_point held p) ≡ false
   free_below asked p e = apart asked (lock_at_point held p) (false_and _ _ (not_below_next p.key asked.range.low e))
+
+  pub nearest-both : (asked : Lock) (xs ys : List PointLock) (best : Option Rival)
+      → nearest asked (map (lock_at_point held) (xs ++ ys)) best ≡ nearest asked (map (lock_at_point held) ys) (nearest asked (map (lock_at_point held) xs) best)
+  unfolding nearest
+  nearest-both asked [] ys best = refl
+  nearest-both asked (x ∷ xs) ys best = nearest-both asked xs ys (step asked best (lock_at_point held x))
 
   filter_by : (asked : Lock) (passes : PointLock → Bool) (p : PointLock) (ps : List PointLock) → (passes p ≡ false → conflict asked (lock_at_point held p) ≡ false)
       → ((best : Option Rival) → nearest asked (map (lock_at_point held) (filter passes ps)) best ≡ nearest asked (map (lock_at_point held) ps) best)

@@ -19,8 +19,8 @@ use Rattle.store_model.specs.Range.{Interval, is_below, point}
 use Rattle.store_model.specs.declared.range.Mode.{Mode}
 use Rattle.store_model.proofs.Bools.{both_true, and_true}
 use Rattle.range_lock.specs.Lock.{Lock, IsAmong, bars}
-use Rattle.range_lock.specs.Tables.{lock_at_point, lock_on_range, locks_on_ranges, point_cmp, bars_by, StartsBelow}
-use Rattle.range_lock.specs.declared.entry.PointLock.{PointLock}
+use Rattle.range_lock.specs.Tables.{lock_at_point, lock_on_range, locks_on_ranges, bars_by, StartsBelow}
+use Rattle.range_lock.specs.Point.{PointLock, point_cmp}
 use Rattle.range_lock.specs.declared.entry.RangeLock.{RangeLock}
 use Rattle.range_lock.proofs.Conflicts.{not_below_next, and_false, false_and, after, not_greater, and-true}
 use Rattle.range_lock.proofs.Members.{either_true, or_true_left, or_true_right, is_equal}
@@ -33,13 +33,13 @@ either_side true false c = refl
 either_side false true c = refl
 either_side false false c = refl
 
+pub or_regrouped : (a b c : Bool) → (a || (b || c)) ≡ ((a || b) || c)
+or_regrouped true b c = refl
+or_regrouped false b c = refl
+
 pub any_append : {A : Type 0} (t : A → Bool) (xs ys : List A) → list_any t (xs ++ ys) ≡ (list_any t xs || list_any t ys)
 any_append t [] ys = refl
-any_append t (x ∷ xs) ys = ap (λ b. t x || b) (any_append t xs ys) ∙ regroup (t x) (list_any t xs) (list_any t ys)
-  where
-    regroup : (a b c : Bool) → (a || (b || c)) ≡ ((a || b) || c)
-    regroup true b c = refl
-    regroup false b c = refl
+any_append t (x ∷ xs) ys = ap (λ b. t x || b) (any_append t xs ys) ∙ or_regrouped (t x) (list_any t xs) (list_any t ys)
 
 pub any_among : {A : Type 0} (t : A → Bool) (xs : List A) → list_any t xs ≡ true → (x : A) × IsAmong x xs × (t x ≡ true)
 any_among t [] h = absurd cc
@@ -103,6 +103,10 @@ split_holder range mode tx holder held es rest is =
 -- ---- locks on keys, held in one mode
 
 module _ (held : Mode) where
+  pub any_both : (t : Lock → Bool) (xs ys : List PointLock) → list_any t (map (lock_at_point held) (xs ++ ys)) ≡ (list_any t (map (lock_at_point held) xs) || list_any t (map (lock_at_point held) ys))
+  any_both t [] ys = refl
+  any_both t (x ∷ xs) ys = ap (λ (b : Bool). t (lock_at_point held x) || b) (any_both t xs ys) ∙ or_regrouped (t (lock_at_point held x)) _ _
+
   pub bars_below : (range : Interval) (mode : Mode) (p : PointLock) → is_below (Some p.key) range.low ≡ true → bars range mode (lock_at_point held p) ≡ false
   bars_below range mode p e = false_and _ _ (false_and _ _ (not_below_next p.key range.low e))
 

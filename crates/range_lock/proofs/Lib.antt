@@ -1,6 +1,7 @@
 pub mod Texts
 pub mod Conflicts
 pub mod Members
+pub mod Sets
 pub mod First
 pub mod Changes
 pub mod Points

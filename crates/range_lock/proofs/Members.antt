@@ -5,8 +5,6 @@ use Rattle.std.specs.Ordering.{nat_cmp, is_eq, ordering_then, match_ordering}
 use Rattle.std.specs.Cmp.{tied_itself, nat_cmp_total}
 use Rattle.std.specs.Cmp.Lexicographic.{slice_cmp, nat_list_cmp_total}
 use Rattle.std.specs.BTreeMap.{is_at, insert_entry}
-use Rattle.std.specs.BTreeSet as sorted
-use Rattle.std.specs.BTreeSet.{BTreeSet}
 use Rattle.std.specs.List.{list_any, AllByRecursion}
 use Rattle.std.specs.List.Sorted.{IsStrictlySortedBy}
 use Rattle.std.proofs.lemmas.Map.Keys.{sorted_head}
@@ -15,8 +13,8 @@ use Rattle.std.proofs.lemmas.Map.Lookups.{exact_bytes, exact_unsigned}
 use Rattle.store_model.proofs.Bools.{not_both}
 use Rattle.store_model.specs.declared.range.Mode.{Mode}
 use Rattle.range_lock.specs.Lock.{Lock, IsAmong}
-use Rattle.range_lock.specs.Tables.{lock_at_point, lock_on_range, locks_on_ranges, point_cmp}
-use Rattle.range_lock.specs.declared.entry.PointLock.{PointLock}
+use Rattle.range_lock.specs.Point.{PointLock, point_cmp}
+use Rattle.range_lock.specs.Tables.{lock_at_point, lock_on_range, locks_on_ranges}
 use Rattle.range_lock.specs.declared.entry.RangeLock.{RangeLock}
 
 -- ---- lists
@@ -83,24 +81,21 @@ pub or_true_right : (a b : Bool) → b ≡ true → (a || b) ≡ true
 or_true_right true b e = refl
 or_true_right false b e = e
 
-point_among : (p : PointLock) (ks : List PointLock) → list_any (is_at (point_cmp p)) ks ≡ true → IsAmong p ks
+pub point_among : (p : PointLock) (ks : List PointLock) → list_any (is_at (point_cmp p)) ks ≡ true → IsAmong p ks
 point_among p [] e = absurd cc
 point_among p (k ∷ ks) e = elim (either_true (is_at (point_cmp p) k) (list_any (is_at (point_cmp p)) ks) e) [ inl h ↦ inl (exact_point p k (is_equal (point_cmp p k) h)) | inr h ↦ inr (point_among p ks h) ]
 
-among_point : (p : PointLock) (ks : List PointLock) → IsAmong p ks → list_any (is_at (point_cmp p)) ks ≡ true
+pub among_point : (p : PointLock) (ks : List PointLock) → IsAmong p ks → list_any (is_at (point_cmp p)) ks ≡ true
 among_point p [] h = absurd h
 among_point p (k ∷ ks) (inl e) = or_true_left _ _ (subst (λ (q : PointLock). is_eq (point_cmp p q) ≡ true) e (ap is_eq (point_itself p)))
 among_point p (k ∷ ks) (inr h) = or_true_right _ _ (among_point p ks h)
 
-abbrev pub Has : BTreeSet PointLock → PointLock → Type 0
-Has s p = sorted.contains point_cmp s p ≡ true
+module _ (mode : Mode) (s : List PointLock) where
+  pub point_held : (p : PointLock) → IsAmong p s → IsAmong (lock_at_point mode p) (map (lock_at_point mode) s)
+  point_held p h = among_mapped (lock_at_point mode) p s h
 
-module _ (mode : Mode) (s : BTreeSet PointLock) where
-  pub point_held : (p : PointLock) → Has s p → IsAmong (lock_at_point mode p) (map (lock_at_point mode) s.keys)
-  point_held p h = among_mapped (lock_at_point mode) p s.keys (point_among p s.keys h)
-
-  pub held_point : (l : Lock) → IsAmong l (map (lock_at_point mode) s.keys) → (p : PointLock) × Has s p × (l ≡ lock_at_point mode p)
-  held_point l h = let r = among_map (lock_at_point mode) l s.keys h in (r.0, among_point r.0 s.keys r.1, r.2)
+  pub held_point : (l : Lock) → IsAmong l (map (lock_at_point mode) s) → (p : PointLock) × IsAmong p s × (l ≡ lock_at_point mode p)
+  held_point l h = among_map (lock_at_point mode) l s h
 
 -- ---- range locks
 

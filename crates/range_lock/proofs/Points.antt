@@ -1,23 +1,21 @@
 -- Ranges of a single key, and the locks on them.
-use Rattle.std.proofs.Common.{◌≡◌, ℕ, Bool, true, false, cond, List, [], ◌∷◌, ◌++◌, map, Option, Some, None, refl, sym, ap, subst, ◌∙◌, Ordering, Less, Equal, Greater, inl, inr}
+use Rattle.std.proofs.Common.{◌≡◌, ℕ, Bool, true, false, List, [], ◌∷◌, ◌++◌, map, Option, Some, None, refl, sym, ap, subst, ◌∙◌, Ordering, Less, Equal, Greater, inl, inr}
 use Rattle.std.specs.Prelude.{◌↔◌, ◌≢◌, ◌⊎◌, ◌||◌, ◌&&◌, not, IsTrue}
 use Rattle.std.specs.List.{list_any}
 use Rattle.std.specs.Ordering.{nat_cmp, is_lt, eq_by_cmp}
 use Rattle.std.specs.Cmp.{tied_itself}
 use Rattle.std.specs.Cmp.Lexicographic.{slice_cmp, nat_list_cmp_total}
-use Rattle.std.specs.BTreeMap.{is_at}
-use Rattle.std.specs.BTreeSet as sorted
-use Rattle.std.specs.BTreeSet.{BTreeSet}
 use Rattle.std.proofs.lemmas.Map.Lookups.{exact_bytes}
 use Rattle.store_model.specs.Range.{Interval, IsBelow, is_below, point, includes}
 use Rattle.store_model.specs.declared.range.Mode.{Mode}
 use Rattle.store_model.proofs.Bools.{both_true, and_true, or_left, or_right, not_true, not_from, not_both, false_unless}
 use Rattle.store_model.specs.declared.range.Mode.TheVariants.{Shared, Exclusive}
-use Rattle.range_lock.specs.Lock.{Lock, is_exclusive, covers}
-use Rattle.range_lock.specs.Tables.{lock_at_point, point_cmp, IsKey, AreKeys, IsCoveredAtPoint}
-use Rattle.range_lock.specs.declared.entry.PointLock.{PointLock}
+use Rattle.range_lock.specs.Lock.{Lock, IsAmong, is_exclusive, covers}
+use Rattle.range_lock.specs.Among.{Removes}
+use Rattle.range_lock.specs.Point.{PointLock}
+use Rattle.range_lock.specs.Tables.{lock_at_point, IsCoveredAtPoint}
 use Rattle.range_lock.proofs.Texts.{less, turned, none_between}
-use Rattle.range_lock.proofs.Members.{among_left, among_right, among_either, exact_point, is_equal, Has, point_held, held_point}
+use Rattle.range_lock.proofs.Members.{among_left, among_right, among_either, is_equal, point_held, held_point}
 
 -- ---- what lies within a point is that point
 
@@ -83,24 +81,24 @@ enough false true false h = inr (refl, refl)
 enough false true true h = absurd cc
 enough false false m h = absurd cc
 
-module _ (shared exclusive : BTreeSet PointLock) (tx : ℕ) (range : Interval) (mode : Mode) (below : IsBelow range.low range.high) where
-  pub covered_exactly : (key : List ℕ) (e s r : Bool) → range ≡ point key → e ≡ sorted.contains point_cmp exclusive (record { key = key; tx = tx }) → s ≡ sorted.contains point_cmp shared (record { key = key; tx = tx })
+module _ (shared exclusive : List PointLock) (tx : ℕ) (range : Interval) (mode : Mode) (below : IsBelow range.low range.high) where
+  pub covered_exactly : (key : List ℕ) (e s r : Bool) → range ≡ point key → IsTrue e ↔ IsAmong (record { key = key; tx = tx }) exclusive → IsTrue s ↔ IsAmong (record { key = key; tx = tx }) shared
       → r ≡ (e || (s && not (is_exclusive mode))) → IsTrue r ↔ IsCoveredAtPoint shared exclusive tx range mode
   covered_exactly key e s r is is_e is_s is_r = (to, from)
     where
       at_shared : List Lock
-      at_shared = map (lock_at_point Shared) shared.keys
+      at_shared = map (lock_at_point Shared) shared
 
       at_exclusive : List Lock
-      at_exclusive = map (lock_at_point Exclusive) exclusive.keys
+      at_exclusive = map (lock_at_point Exclusive) exclusive
 
       lock : PointLock
       lock = record { key = key; tx = tx }
 
       to : IsTrue r → IsCoveredAtPoint shared exclusive tx range mode
       to h = elim (enough e s (is_exclusive mode) (sym is_r ∙ h)) [
-        | inl he ↦ (lock_at_point Exclusive lock, among_right _ at_shared at_exclusive (point_held Exclusive exclusive lock (sym is_e ∙ he)), refl, covers_same Exclusive lock range mode is refl)
-        | inr hs ↦ (lock_at_point Shared lock, among_left _ at_shared at_exclusive (point_held Shared shared lock (sym is_s ∙ hs.0)), refl, covers_same Shared lock range mode is (not_from _ hs.1))
+        | inl he ↦ (lock_at_point Exclusive lock, among_right _ at_shared at_exclusive (point_held Exclusive exclusive lock (is_e.0 he)), refl, covers_same Exclusive lock range mode is refl)
+        | inr hs ↦ (lock_at_point Shared lock, among_left _ at_shared at_exclusive (point_held Shared shared lock (is_s.0 hs.0)), refl, covers_same Shared lock range mode is (not_from _ hs.1))
       ]
 
       same : (held : Mode) (p : PointLock) (l : Lock) → l ≡ lock_at_point held p → range ≡ point p.key → l.tx ≡ tx → p ≡ lock
@@ -110,35 +108,29 @@ module _ (shared exclusive : BTreeSet PointLock) (tx : ℕ) (range : Interval) (
       from g = elim (among_either g.0 at_shared at_exclusive g.1) [
         | inl m ↦ let p = held_point Shared shared g.0 m in
             let c = only_same Shared p.0 range mode g.0 p.2 g.3 below in
-            is_r ∙ or_right e _ (and_true s _ (is_s ∙ subst (Has shared) (same Shared p.0 g.0 p.2 c.0 g.2) p.1) c.1)
+            is_r ∙ or_right e _ (and_true s _ (is_s.1 (subst (λ (q : PointLock). IsAmong q shared) (same Shared p.0 g.0 p.2 c.0 g.2) p.1)) c.1)
         | inr m ↦ let p = held_point Exclusive exclusive g.0 m in
             let c = only_same Exclusive p.0 range mode g.0 p.2 g.3 below in
-            is_r ∙ or_left e _ (is_e ∙ subst (Has exclusive) (same Exclusive p.0 g.0 p.2 c.0 g.2) p.1)
+            is_r ∙ or_left e _ (is_e.1 (subst (λ (q : PointLock). IsAmong q exclusive) (same Exclusive p.0 g.0 p.2 c.0 g.2) p.1))
       ]
 
-  pub covered_by_none : AreKeys shared → AreKeys exclusive → ((key : List ℕ) → IsKey key → range ≢ point key) → IsCoveredAtPoint shared exclusive tx range mode → ⊥
-  covered_by_none keys_shared keys_exclusive none g = elim (among_either g.0 (map (lock_at_point Shared) shared.keys) (map (lock_at_point Exclusive) exclusive.keys) g.1) [
-    | inl m ↦ let p = held_point Shared shared g.0 m in none p.0.key (keys_shared p.0 p.1) (only_same Shared p.0 range mode g.0 p.2 g.3 below).0
-    | inr m ↦ let p = held_point Exclusive exclusive g.0 m in none p.0.key (keys_exclusive p.0 p.1) (only_same Exclusive p.0 range mode g.0 p.2 g.3 below).0
+  pub covered_by_none : ((key : List ℕ) → range ≢ point key) → IsCoveredAtPoint shared exclusive tx range mode → ⊥
+  covered_by_none none g = elim (among_either g.0 (map (lock_at_point Shared) shared) (map (lock_at_point Exclusive) exclusive) g.1) [
+    | inl m ↦ let p = held_point Shared shared g.0 m in none p.0.key (only_same Shared p.0 range mode g.0 p.2 g.3 below).0
+    | inr m ↦ let p = held_point Exclusive exclusive g.0 m in none p.0.key (only_same Exclusive p.0 range mode g.0 p.2 g.3 below).0
   ]
 
 -- ---- removal
 
-module _ (s n : BTreeSet PointLock) (k : PointLock) (up : sorted.UpdatesBy point_cmp (point_cmp k) s n false) where
-  pub removed_others : (p : PointLock) → p.tx ≢ k.tx → sorted.contains point_cmp n p ≡ sorted.contains point_cmp s p
-  removed_others p other = up.2 p (false_unless _ (λ g. other (ap (λ (q : PointLock). q.tx) (sym (exact_point k p (is_equal (point_cmp k p) g))))))
+module _ (s n : List PointLock) (key : List ℕ) (tx : ℕ) (h : Removes s n (record { key = key; tx = tx })) where
+  pub removed_others : (p : PointLock) → p.tx ≢ tx → IsAmong p s → IsAmong p n
+  removed_others p other m = (h p).1 (λ e. other (ap (λ (q : PointLock). q.tx) e), m)
 
-  pub removed_fewer : (p : PointLock) → sorted.contains point_cmp n p ≡ true → sorted.contains point_cmp s p ≡ true
-  removed_fewer p h = by (is_at (point_cmp k) p) (sym (up.0 p) ∙ h)
-    where
-      by : (b : Bool) → cond b false (sorted.contains point_cmp s p) ≡ true → sorted.contains point_cmp s p ≡ true
-      by true g = absurd cc
-      by false g = g
+  pub removed_fewer : (p : PointLock) → IsAmong p n → IsAmong p s
+  removed_fewer p m = ((h p).0 m).1
 
-  pub removed_gone : (p : PointLock) → p.tx ≡ k.tx → sorted.contains point_cmp n p ≡ true → eq_by_cmp (slice_cmp nat_cmp) p.key k.key ≡ false
-  removed_gone p t h = false_unless _ (λ g.
-      let same : p ≡ k = λ i. record { key = exact_bytes p.key k.key (is_equal (slice_cmp nat_cmp p.key k.key) g) i; tx = t i } in
-      not_both (sorted.contains point_cmp n k) (subst (λ (q : PointLock). sorted.contains point_cmp n q ≡ true) same h) up.1)
+  pub removed_gone : (p : PointLock) → p.tx ≡ tx → IsAmong p n → eq_by_cmp (slice_cmp nat_cmp) p.key key ≡ false
+  removed_gone p t m = false_unless _ (λ g. ((h p).0 m).0 (λ i. record { key = exact_bytes p.key key (is_equal (slice_cmp nat_cmp p.key key) g) i; tx = t i }))
 
 -- ---- one key more
 

@@ -6,8 +6,8 @@ ghost use Rattle.std.specs.BTreeSet.{contains, IsOrdered};
 ghost use Rattle.range_lock.specs.Lock.{bars};
 ghost use Rattle.range_lock.specs.Tables.{lock_at_point, lock_on_range, locks_on_ranges, bars_by};
 
-use crate::entry::{PointLock, RangeLock};
-use crate::search::{is_one_exclusive, start_of};
+use crate::entry::{PointEntry, RangeLock};
+use crate::search::{is_above, is_one_exclusive, start_of};
 use std::alloc::{AllocError, Global};
 use std::collections::{BTreeMap, BTreeSet};
 use std::ops;
@@ -20,9 +20,9 @@ fn keeps_off(range: &KeyRange, mode: Mode, at: &KeyRange, held: Mode) -> bool
 }
 
 /// Adds the holders of point locks in one mode that bar the range.
-pub fn add_at_points(
+pub fn add_at_points<const N: usize>(
     found: &mut BTreeSet<TxId>,
-    points: &BTreeSet<PointLock>,
+    points: &BTreeSet<PointEntry<N>>,
     held: Mode,
     range: &KeyRange,
     mode: Mode,
@@ -30,12 +30,11 @@ pub fn add_at_points(
     ensures { OnOk result ((tx : ℕ) → contains nat_cmp found.new tx ≡ (contains nat_cmp found.old tx || list_any (bars_by range.now mode tx) (map (lock_at_point held) points.now.keys))) }
 {
     for lock in points.range((start_of(range), ops::Bound::Unbounded)) {
-        if !range.high().is_above(&lock.key) {
+        if !is_above(range.high(), lock.text()) {
             break;
         }
-        let place = KeyRange::point(&lock.key);
-        if keeps_off(range, mode, &place, held) {
-            found.insert(lock.tx)?;
+        if keeps_off(range, mode, &lock.place(), held) {
+            found.insert(lock.tx())?;
         }
     }
     Ok(())

@@ -1,10 +1,10 @@
 //! Lists of keys that take little more memory than the bytes of their keys.
 ghost use Rattle.std.specs.Prelude.{◌≡◌, ◌≤◌, ◌+◌, ◌++◌, ◌∷◌, [], length, vec_len, vec_capacity, OnOk, OnErr};
+ghost use Rattle.store_model.specs.declared.limits.TheConstants.{KEY_BYTES};
 ghost use Rattle.range_lock.specs.Cut.{cut_into};
 
 use std::alloc::{AllocError, Global};
 use std::marker::Model;
-use store_model::Key;
 
 /// A list of keys: their bytes, one key behind the other, and the length of each. A key by itself has room for the
 /// longest one.
@@ -50,12 +50,12 @@ impl KeyList {
         }
     }
 
-    /// Adds a key at the end. Where memory runs out, the list is as before.
-    pub fn push(&mut self, key: &Key) -> Result<(), AllocError>
-        ensures ok { OnOk result (self.new ≡ self.old ++ key.now ∷ []) }
+    /// Adds the key of these bytes at the end. Where memory runs out, the list is as before.
+    pub fn push(&mut self, text: &[u8]) -> Result<(), AllocError>
+        requires { length text.now ≤ KEY_BYTES }
+        ensures ok { OnOk result (self.new ≡ self.old ++ text.now ∷ []) }
         ensures err { OnErr result (self.new ≡ self.old) }
     {
-        let text = key.as_bytes();
         let end = self.texts.len();
         make_room(&mut self.texts, text)?;
         self.texts.extend_from_slice(text)?;

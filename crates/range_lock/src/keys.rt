@@ -1,20 +1,22 @@
 //! For each transaction, the keys of its point locks.
-ghost use Rattle.std.specs.Prelude.{◌≡◌, ◌≢◌, OnOk, OnErr, true};
+ghost use Rattle.std.specs.Prelude.{◌≡◌, ◌≢◌, ◌≤◌, length, OnOk, OnErr, true};
+ghost use Rattle.store_model.specs.declared.limits.TheConstants.{KEY_BYTES};
 ghost use Rattle.range_lock.specs.Tables.{is_listed};
-ghost use Rattle.range_lock.specs.declared.entry.PointLock.{PointLock};
+ghost use Rattle.range_lock.specs.Point.{PointLock};
 
 use crate::key_list::KeyList;
 use std::alloc::{AllocError, Global};
 use std::collections::BTreeMap;
-use store_model::{Key, TxId};
+use store_model::TxId;
 
-/// Lists a key for a transaction. Where memory runs out, all that was listed still is.
+/// Lists the key of these bytes for a transaction. Where memory runs out, all that was listed still is.
 pub fn list_key(
     alloc: Global,
     keys: &mut BTreeMap<TxId, KeyList>,
     tx: TxId,
-    key: &Key,
+    key: &[u8],
 ) -> Result<(), AllocError>
+    requires { length key.now ≤ KEY_BYTES }
     ensures stays { (p : PointLock) → is_listed keys.old p ≡ true → is_listed keys.new p ≡ true }
     ensures added { OnOk result ((p : PointLock) → p.tx ≡ tx → p.key ≡ key.now → is_listed keys.new p ≡ true) }
 {

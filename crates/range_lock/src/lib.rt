@@ -14,10 +14,10 @@
 //! 4. [`RangeLocks::release_all`] leaves every lock of the others, and takes no memory.
 //! 5. Where memory runs out, what is held stays as it was.
 //!
-//! Behind it, locks on single keys stand in two ordered sets by key, one for each mode, so that a lock is found, taken
-//! and checked in a time that is logarithmic in their number; for their release each transaction has the bytes of their
-//! keys, one key behind the other. The few locks on wider ranges stand in a list for each transaction, and each check
-//! looks at all of them.
+//! Behind it, locks on single keys stand in ordered sets by key, so that a lock is found, taken and checked in a time that
+//! is logarithmic in their number: for each mode one set for short keys, whose entries are small, and one for long ones.
+//! For their release each transaction has the bytes of their keys, one key behind the other. The few locks on wider
+//! ranges stand in a list for each transaction, and each check looks at all of them.
 #![tactic(auto)]
 
 mod entry;
@@ -25,6 +25,8 @@ mod holders;
 mod key_list;
 mod keys;
 mod point;
+mod point_locks;
+mod point_set;
 mod range_locks;
 mod refusal;
 mod release;

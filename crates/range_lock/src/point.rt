@@ -1,18 +1,19 @@
 //! Ranges of a single key, and the locks on them.
 ghost use Rattle.std.specs.Prelude.{◌≡◌, ◌≢◌, ◌↔◌, ◌⊎◌, ◌&&◌, ◌||◌, ◌++◌, ◌∷◌, [], not, ℕ, List, length, IfSome, IfNone, OnOk, OnErr, IsTrue, true};
-ghost use Rattle.std.specs.BTreeSet.{contains};
 ghost use Rattle.store_model.specs.Range.{point, includes};
-ghost use Rattle.range_lock.specs.Lock.{is_exclusive};
-ghost use Rattle.range_lock.specs.Tables.{point_cmp, IsKey, AreKeys, is_listed, AreListed, IsCoveredAtPoint};
-ghost use Rattle.range_lock.specs.declared.entry.PointLock.{PointLock};
+ghost use Rattle.range_lock.specs.Lock.{IsAmong, is_exclusive};
+ghost use Rattle.range_lock.specs.Among.{HasTheSame, Adds};
+ghost use Rattle.range_lock.specs.Point.{PointLock, IsKey};
+ghost use Rattle.range_lock.specs.Tables.{is_listed, AreListed, IsCoveredAtPoint};
 
-use crate::entry::PointLock;
+use crate::entry::is_key;
 use crate::key_list::KeyList;
 use crate::keys::list_key;
+use crate::point_locks::PointLocks;
 use crate::search::is_exclusive;
 use std::alloc::{AllocError, Global};
-use std::collections::{BTreeMap, BTreeSet};
-use store_model::{Key, KeyRange, Mode, TxId};
+use std::collections::BTreeMap;
+use store_model::{KeyRange, Mode, TxId};
 
 /// Whether a text is another with a zero byte behind it: the next text above that one.
 fn is_next(text: &[u8], next: &[u8]) -> bool
@@ -24,19 +25,23 @@ fn is_next(text: &[u8], next: &[u8]) -> bool
     }
 }
 
-/// The key that a range is the range of, if it is that of one key.
-pub fn point_of(range: &KeyRange) -> Option<Key>
-    ensures some { IfSome result (λ key. range.now ≡ point key) }
-    ensures fits { IfSome result IsKey }
-    ensures none { IfNone result ((key : List ℕ) → IsKey key → range.now ≢ point key) }
+/// The text that a range is the range of, if it is that of one text.
+fn point_text(range: &KeyRange) -> Option<&[u8]>
+    ensures some { IfSome result (λ text. range.now ≡ point text.now) }
+    ensures none { IfNone result ((key : List ℕ) → range.now ≢ point key) }
 {
     let low = range.low().as_bytes()?;
     let high = range.high().as_bytes()?;
-    if is_next(low, high) {
-        Key::new(low)
-    } else {
-        None
-    }
+    if is_next(low, high) { Some(low) } else { None }
+}
+
+/// The bytes of the key that a range is the range of, if it is that of one key.
+pub fn point_of(range: &KeyRange) -> Option<&[u8]>
+    ensures value { IfSome result (λ key. range.now ≡ point key.now) }
+    ensures is_key { IfSome result (λ key. IsKey key.now) }
+{
+    let text = point_text(range)?;
+    if is_key(text) { Some(text) } else { None }
 }
 
 /// Whether a range includes another.
@@ -46,43 +51,34 @@ pub fn includes(wide: &KeyRange, range: &KeyRange) -> bool
     !range.low().is_below(wide.low()) && !wide.high().is_below(range.high())
 }
 
-/// Adds a lock on a key to those held in one mode, and lists the key for its transaction. Where memory runs out, these
-/// locks stay as they were.
+/// Adds a lock on the key of these bytes to those held in one mode, and lists the key for its transaction. Where memory runs
+/// out, these locks stay as they were.
 pub fn put_point(
     alloc: Global,
-    points: &mut BTreeSet<PointLock>,
+    points: &mut PointLocks,
     keys: &mut BTreeMap<TxId, KeyList>,
     tx: TxId,
-    key: Key,
+    key: &[u8],
 ) -> Result<(), AllocError>
-    requires { AreListed points.old keys.old }
-    ensures ok { OnOk result ((p : PointLock) → (contains point_cmp points.new p ≡ true) ↔ ((p ≡ record { key = key; tx = tx }) ⊎ (contains point_cmp points.old p ≡ true))) }
-    ensures err { OnErr result (points.new.keys ≡ points.old.keys) }
+    requires is_key { IsKey key.now }
+    requires listed { AreListed points.old keys.old }
+    ensures ok { OnOk result (Adds points.old points.new (record { key = key.now; tx = tx })) }
+    ensures err { OnErr result (HasTheSame points.old points.new) }
     ensures listed { AreListed points.new keys.new }
 
     // The keys of the locks in the other mode are listed still.
     ensures stays { (p : PointLock) → is_listed keys.old p ≡ true → is_listed keys.new p ≡ true }
 {
-    let listed = key.copied();
-    if !points.insert(PointLock { key, tx })? {
+    if !points.insert(key, tx)? {
         return Ok(());
     }
-    match list_key(alloc, keys, tx, &listed) {
+    match list_key(alloc, keys, tx, key) {
         Ok(()) => Ok(()),
         Err(_) => {
-            points.remove(&PointLock { key: listed, tx });
+            points.remove(key, tx);
             Err(AllocError)
         }
     }
-}
-
-fn has_point(points: &BTreeSet<PointLock>, key: &Key, tx: TxId) -> bool
-    ensures { result ≡ contains point_cmp points.now (record { key = key.now; tx = tx }) }
-{
-    points.contains(&PointLock {
-        key: key.copied(),
-        tx,
-    })
 }
 
 /// Whether an exclusive or a shared lock is enough for a mode.
@@ -94,22 +90,20 @@ fn suffices(exclusive: bool, shared: bool, mode: Mode) -> bool
 
 /// Whether one of the transaction's locks on single keys includes the range in this mode.
 pub fn covers_at_point(
-    shared: &BTreeSet<PointLock>,
-    exclusive: &BTreeSet<PointLock>,
+    shared: &PointLocks,
+    exclusive: &PointLocks,
     tx: TxId,
     range: &KeyRange,
     mode: Mode,
 ) -> bool
-    requires keys_shared { AreKeys shared.now }
-    requires keys_exclusive { AreKeys exclusive.now }
     ensures { IsTrue result ↔ IsCoveredAtPoint shared.now exclusive.now tx range.now mode }
 {
     let _low = range.low();
-    match point_of(range) {
+    match point_text(range) {
         None => false,
-        Some(key) => {
-            let by_exclusive = has_point(exclusive, &key, tx);
-            let by_shared = has_point(shared, &key, tx);
+        Some(text) => {
+            let by_exclusive = exclusive.contains(text, tx);
+            let by_shared = shared.contains(text, tx);
             suffices(by_exclusive, by_shared, mode)
         }
     }

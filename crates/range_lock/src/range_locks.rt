@@ -3,29 +3,31 @@ ghost use Rattle.std.specs.Prelude.{◌≡◌, ◌≢◌, ◌↔◌, [], ◌++�
 ghost use Rattle.store_model.specs.Range.{point};
 ghost use Rattle.range_lock.specs.Lock.{AreCompatible, Lock, conflict};
 ghost use Rattle.range_lock.specs.Nearest.{nearest};
-ghost use Rattle.range_lock.specs.Tables.{all_locks, AreListed, AreKeys, IsKey};
+ghost use Rattle.range_lock.specs.Point.{IsKey};
+ghost use Rattle.range_lock.specs.Tables.{all_locks, AreListed};
 
-use crate::entry::{PointLock, RangeLock};
-use crate::holders::{add_at_points, add_on_ranges, append};
+use crate::entry::RangeLock;
+use crate::holders::{add_on_ranges, append};
 use crate::key_list::KeyList;
 use crate::point::{covers_at_point, point_of, put_point};
+use crate::point_locks::PointLocks;
 use crate::refusal::LockRefused;
 use crate::release::remove_listed;
 use crate::rival::Rival;
-use crate::search::{first_point, first_range};
+use crate::search::first_range;
 use crate::wider::{copied, covers_on_range, holds_range, put_range};
 use std::alloc::{AllocError, Global};
 use std::collections::{BTreeMap, BTreeSet};
-use store_model::{Key, KeyRange, List, Memory, Mode, TxId};
+use store_model::{KeyRange, List, Memory, Mode, TxId};
 
 /// The locks that transactions hold.
 #[derive(Drop)]
 pub struct RangeLocks {
     alloc: Global,
     /// The locks on single keys that are held shared.
-    shared: BTreeSet<PointLock>,
+    shared: PointLocks,
     /// Those that are held exclusive.
-    exclusive: BTreeSet<PointLock>,
+    exclusive: PointLocks,
     /// For each transaction, the keys of its point locks.
     keys: BTreeMap<TxId, KeyList>,
     /// For each transaction, its locks on wider ranges.
@@ -33,8 +35,6 @@ pub struct RangeLocks {
     ghost compatible: { AreCompatible (all_locks shared exclusive ranges) },
     ghost listed_shared: { AreListed shared keys },
     ghost listed_exclusive: { AreListed exclusive keys },
-    ghost keys_shared: { AreKeys shared },
-    ghost keys_exclusive: { AreKeys exclusive },
 }
 
 impl RangeLocks {
@@ -46,8 +46,8 @@ impl RangeLocks {
     {
         RangeLocks {
             alloc,
-            shared: BTreeSet::new(alloc),
-            exclusive: BTreeSet::new(alloc),
+            shared: PointLocks::new(alloc),
+            exclusive: PointLocks::new(alloc),
             keys: BTreeMap::new(alloc),
             ranges: BTreeMap::new(alloc),
         }
@@ -62,16 +62,20 @@ impl RangeLocks {
     ) -> Result<Option<Rival>, AllocError>
         ensures { IfOk result (λ r. r ≡ nearest (record { tx = tx; range = range.now; mode = mode }) (held self.now) None) }
     {
-        let best = first_point(None, &self.shared, Mode::Shared, tx, range, mode);
-        let best = first_point(best, &self.exclusive, Mode::Exclusive, tx, range, mode);
-        first_range(best, &self.ranges, tx, range, mode)
+        let mut best = None;
+        self.shared
+            .first_rival(&mut best, Mode::Shared, tx, range, mode);
+        self.exclusive
+            .first_rival(&mut best, Mode::Exclusive, tx, range, mode);
+        first_range(&mut best, &self.ranges, tx, range, mode)?;
+        Ok(best)
     }
 
-    /// Takes a lock on a single key.
-    fn add_point(&mut self, tx: TxId, key: Key, mode: Mode) -> Result<(), AllocError>
-        requires is_key { IsKey key }
-        requires free { (l : Lock) → Holds self.old l → conflict (record { tx = tx; range = point key; mode = mode }) l ≡ false }
-        ensures ok { OnOk result (Gains self.old self.new (record { tx = tx; range = point key; mode = mode })) }
+    /// Takes a lock on the key of these bytes.
+    fn add_point(&mut self, tx: TxId, key: &[u8], mode: Mode) -> Result<(), AllocError>
+        requires is_key { IsKey key.now }
+        requires free { (l : Lock) → Holds self.old l → conflict (record { tx = tx; range = point key.now; mode = mode }) l ≡ false }
+        ensures ok { OnOk result (Gains self.old self.new (record { tx = tx; range = point key.now; mode = mode })) }
         ensures err { OnErr result (HoldsTheSame self.old self.new) }
     {
         match mode {
@@ -155,8 +159,10 @@ impl RangeLocks {
         ensures err { OnErr result (out.new.items ≡ out.old.items) }
     {
         let mut found = BTreeSet::new(self.alloc);
-        add_at_points(&mut found, &self.shared, Mode::Shared, range, mode)?;
-        add_at_points(&mut found, &self.exclusive, Mode::Exclusive, range, mode)?;
+        self.shared
+            .add_holders(&mut found, Mode::Shared, range, mode)?;
+        self.exclusive
+            .add_holders(&mut found, Mode::Exclusive, range, mode)?;
         add_on_ranges(&mut found, &self.ranges, range, mode)?;
         append(self.alloc, &found, out)?;
         Ok(())

@@ -3,35 +3,13 @@ ghost use Rattle.std.specs.Prelude.{◌≡◌, ◌≢◌, take, drop, true, fals
 ghost use Rattle.std.specs.List.{list_any};
 ghost use Rattle.std.specs.Ordering.{nat_cmp, eq_by_cmp};
 ghost use Rattle.std.specs.Cmp.Lexicographic.{slice_cmp};
-ghost use Rattle.std.specs.BTreeSet.{contains};
 ghost use Rattle.range_lock.specs.Cut.{cut_into};
-ghost use Rattle.range_lock.specs.Tables.{point_cmp, AreKeys};
-ghost use Rattle.range_lock.specs.declared.entry.PointLock.{PointLock};
+ghost use Rattle.range_lock.specs.Lock.{IsAmong};
+ghost use Rattle.range_lock.specs.Point.{PointLock};
 
-use crate::entry::PointLock;
 use crate::key_list::KeyList;
-use std::collections::BTreeSet;
-use store_model::{Key, TxId};
-
-fn remove_point(points: &mut BTreeSet<PointLock>, tx: TxId, key: Key)
-    ensures others { (p : PointLock) → p.tx ≢ tx → contains point_cmp points.new p ≡ contains point_cmp points.old p }
-    ensures fewer { (p : PointLock) → contains point_cmp points.new p ≡ true → contains point_cmp points.old p ≡ true }
-    ensures gone { (p : PointLock) → p.tx ≡ tx → contains point_cmp points.new p ≡ true → eq_by_cmp (slice_cmp nat_cmp) p.key key ≡ false }
-{
-    points.remove(&PointLock { key, tx });
-}
-
-/// Removes a transaction's lock on the key of these bytes.
-fn remove_key(points: &mut BTreeSet<PointLock>, tx: TxId, text: &[u8])
-    requires { AreKeys points.old }
-    ensures others { (p : PointLock) → p.tx ≢ tx → contains point_cmp points.new p ≡ contains point_cmp points.old p }
-    ensures fewer { (p : PointLock) → contains point_cmp points.new p ≡ true → contains point_cmp points.old p ≡ true }
-    ensures gone { (p : PointLock) → p.tx ≡ tx → contains point_cmp points.new p ≡ true → eq_by_cmp (slice_cmp nat_cmp) p.key text.now ≡ false }
-{
-    if let Some(key) = Key::new(text) {
-        remove_point(points, tx, key);
-    }
-}
+use crate::point_locks::PointLocks;
+use store_model::TxId;
 
 /// The first bytes, `n` of them or all, and the others.
 fn cut(bytes: &[u8], n: usize) -> (&[u8], &[u8])
@@ -42,27 +20,28 @@ fn cut(bytes: &[u8], n: usize) -> (&[u8], &[u8])
 }
 
 /// Removes a transaction's locks on the keys of these lengths in the texts.
-fn remove_cut(points: &mut BTreeSet<PointLock>, tx: TxId, lengths: &[u8], texts: &[u8])
-    requires { AreKeys points.old }
-    ensures others { (p : PointLock) → p.tx ≢ tx → contains point_cmp points.new p ≡ contains point_cmp points.old p }
-    ensures fewer { (p : PointLock) → contains point_cmp points.new p ≡ true → contains point_cmp points.old p ≡ true }
-    ensures gone { (p : PointLock) → p.tx ≡ tx → contains point_cmp points.new p ≡ true → list_any (eq_by_cmp (slice_cmp nat_cmp) p.key) (cut_into lengths.now texts.now) ≡ false }
+fn remove_cut(points: &mut PointLocks, tx: TxId, lengths: &[u8], texts: &[u8])
+    ensures others { (p : PointLock) → p.tx ≢ tx → IsAmong p points.old → IsAmong p points.new }
+    ensures fewer { (p : PointLock) → IsAmong p points.new → IsAmong p points.old }
+    ensures gone { (p : PointLock) → p.tx ≡ tx → IsAmong p points.new → list_any (eq_by_cmp (slice_cmp nat_cmp) p.key) (cut_into lengths.now texts.now) ≡ false }
 {
     let mut rest = texts;
     for n in lengths {
         let (text, after) = cut(rest, *n as usize);
-        remove_key(points, tx, text);
+        points.remove(text, tx);
         rest = after;
     }
 }
 
 /// Removes a transaction's locks on the keys that are listed.
-pub fn remove_listed(points: &mut BTreeSet<PointLock>, tx: TxId, keys: &KeyList)
-    requires { AreKeys points.old }
-    ensures others { (p : PointLock) → p.tx ≢ tx → contains point_cmp points.new p ≡ contains point_cmp points.old p }
-    ensures fewer { (p : PointLock) → contains point_cmp points.new p ≡ true → contains point_cmp points.old p ≡ true }
-    ensures gone { (p : PointLock) → p.tx ≡ tx → contains point_cmp points.new p ≡ true → list_any (eq_by_cmp (slice_cmp nat_cmp) p.key) keys.now ≡ false }
+pub fn remove_listed(points: &mut PointLocks, tx: TxId, keys: &KeyList)
+    ensures others { (p : PointLock) → p.tx ≢ tx → IsAmong p points.old → IsAmong p points.new }
+    ensures fewer { (p : PointLock) → IsAmong p points.new → IsAmong p points.old }
+    ensures gone { (p : PointLock) → p.tx ≡ tx → IsAmong p points.new → list_any (eq_by_cmp (slice_cmp nat_cmp) p.key) keys.now ≡ false }
 {
+    if points.is_empty() {
+        return;
+    }
     let (lengths, texts) = keys.parts();
     remove_cut(points, tx, lengths, texts);
 }

@@ -1,5 +1,5 @@
 //! The search for locks in conflict.
-ghost use Rattle.std.specs.Prelude.{◌≡◌, ◌&&◌, ◌||◌, ◌==◌, not, ℕ, List, map, flat_map, IfOk, IfSome, true};
+ghost use Rattle.std.specs.Prelude.{◌≡◌, ◌&&◌, ◌||◌, ◌==◌, not, ℕ, List, map, flat_map, OnOk, IfSome, Some, true};
 ghost use Rattle.std.specs.declared.cmp.Ordering.TheVariants.{Less};
 ghost use Rattle.std.specs.Ordering.{nat_cmp};
 ghost use Rattle.std.specs.Cmp.Lexicographic.{slice_cmp};
@@ -8,12 +8,13 @@ ghost use Rattle.range_lock.specs.Lock.{is_exclusive, conflict};
 ghost use Rattle.range_lock.specs.Nearest.{nearest, step};
 ghost use Rattle.range_lock.specs.Tables.{StartsBelow, lock_at_point, lock_on_range, locks_on_ranges};
 
-use crate::entry::{PointLock, RangeLock};
+use crate::entry::{PointEntry, RangeLock};
 use crate::rival::{Rival, nearer};
 use std::alloc::AllocError;
 use std::collections::{BTreeMap, BTreeSet};
 use std::ops;
-use store_model::{Key, KeyRange, List, Mode, TxId};
+use store_model::{Bound, KeyRange, List, Mode, TxId};
+use text_order::compare_texts;
 
 /// Whether the mode keeps others off.
 pub fn is_exclusive(mode: Mode) -> bool
@@ -46,146 +47,150 @@ fn conflicts(
     holder != tx && range.overlaps(at) && is_one_exclusive(mode, held)
 }
 
-/// A key with only keys below the range below it, if there are keys below the range.
-fn first_key(range: &KeyRange) -> Option<Key>
-    ensures { IfSome result (λ key. (q : List ℕ) → slice_cmp nat_cmp q key ≡ Less → is_below (Some q) range.now.low ≡ true) }
+/// Whether a text is below a bound.
+pub fn is_above(bound: &Bound, text: &[u8]) -> bool
+    ensures { result ≡ is_below (Some text.now) bound.now }
+{
+    match bound.as_bytes() {
+        None => true,
+        Some(end) => compare_texts(text, end).is_lt(),
+    }
+}
+
+/// A lock with only keys below the range below its own, if there are keys below the range. It has the range's low bound,
+/// or as much of it as it has room for, and no lock on its key stands before it.
+fn first_entry<const N: usize>(range: &KeyRange) -> Option<PointEntry<N>>
+    ensures below { IfSome result (λ p. (q : List ℕ) → slice_cmp nat_cmp q p.key ≡ Less → is_below (Some q) range.now.low ≡ true) }
+    ensures first { IfSome result (λ p. p.tx ≡ 0) }
 {
     let low = range.low().as_bytes()?;
-    Key::new(&low[..low.len().min(64)])
+    PointEntry::new(&low[..low.len().min(N)], 0)
 }
 
 /// Where to begin the search among the point locks.
-pub fn start_of(range: &KeyRange) -> ops::Bound<PointLock>
+pub fn start_of<const N: usize>(range: &KeyRange) -> ops::Bound<PointEntry<N>>
     ensures { StartsBelow result range.now.low }
 {
-    match first_key(range) {
-        Some(key) => ops::Bound::Included(PointLock { key, tx: 0 }),
+    match first_entry(range) {
+        Some(entry) => ops::Bound::Included(entry),
         None => ops::Bound::Unbounded,
     }
 }
 
-/// The first of the best so far and of one point lock in conflict with a lock. It is a call of its own, so that a search
-/// that meets no lock makes no room for what is named.
+/// Takes a point lock into the best so far where it is the first in conflict with a lock. It is a call of its own, so that
+/// a search that meets no lock makes no room for what is named.
 #[inline(never)]
-fn first_of_point(
-    best: Option<Rival>,
-    point: &PointLock,
+fn first_of_point<const N: usize>(
+    best: &mut Option<Rival>,
+    point: &PointEntry<N>,
     held: Mode,
     tx: TxId,
     range: &KeyRange,
     mode: Mode,
-) -> Option<Rival>
-    ensures { result ≡ step (record { tx = tx; range = range.now; mode = mode }) best (lock_at_point held point.now) }
+)
+    ensures { best.new ≡ step (record { tx = tx; range = range.now; mode = mode }) best.old (lock_at_point held point.now) }
 {
-    let place = KeyRange::point(&point.key);
-    if conflicts(tx, range, mode, point.tx, &place, held) {
-        nearer(
-            best,
-            Rival {
-                holder: point.tx,
-                range: place,
-            },
-        )
-    } else {
-        best
+    let holder = point.tx();
+    let place = point.place();
+    if conflicts(tx, range, mode, holder, &place, held) {
+        let other = Rival {
+            holder,
+            range: place,
+        };
+        *best = nearer(best.take(), other);
     }
 }
 
-/// The first of the best so far and of the point locks in the range that are in conflict with a lock.
+/// Takes into the best so far the first of the point locks in the range that are in conflict with a lock.
 #[inline(never)]
-fn first_in_range(
-    best: Option<Rival>,
-    points: &BTreeSet<PointLock>,
+fn first_in_range<const N: usize>(
+    best: &mut Option<Rival>,
+    points: &BTreeSet<PointEntry<N>>,
     held: Mode,
     tx: TxId,
     range: &KeyRange,
     mode: Mode,
-) -> Option<Rival>
-    ensures { result ≡ nearest (record { tx = tx; range = range.now; mode = mode }) (map (lock_at_point held) points.now.keys) best }
+)
+    ensures { best.new ≡ nearest (record { tx = tx; range = range.now; mode = mode }) (map (lock_at_point held) points.now.keys) best.old }
 {
     let start = start_of(range);
-    let mut best = best;
     for lock in points.range((start.as_ref(), ops::Bound::Unbounded)) {
-        if !range.high().is_above(&lock.key) {
+        if !is_above(range.high(), lock.text()) {
             break;
         }
-        best = first_of_point(best, lock, held, tx, range, mode);
+        first_of_point(best, lock, held, tx, range, mode);
     }
-    best
 }
 
-/// The first of the best so far and of the point locks held in one mode in conflict with a lock.
+/// Takes into the best so far the first of the point locks held in one mode in conflict with a lock.
 #[inline(always)]
-pub fn first_point(
-    best: Option<Rival>,
-    points: &BTreeSet<PointLock>,
+pub fn first_point<const N: usize>(
+    best: &mut Option<Rival>,
+    points: &BTreeSet<PointEntry<N>>,
     held: Mode,
     tx: TxId,
     range: &KeyRange,
     mode: Mode,
-) -> Option<Rival>
-    ensures { result ≡ nearest (record { tx = tx; range = range.now; mode = mode }) (map (lock_at_point held) points.now.keys) best }
+)
+    ensures { best.new ≡ nearest (record { tx = tx; range = range.now; mode = mode }) (map (lock_at_point held) points.now.keys) best.old }
 {
     if points.is_empty() || !is_one_exclusive(mode, held) {
-        return best;
+        return;
     }
-    first_in_range(best, points, held, tx, range, mode)
+    first_in_range(best, points, held, tx, range, mode);
 }
 
-/// The first of the best so far and of one range lock in conflict with a lock.
+/// Takes a range lock into the best so far where it is the first in conflict with a lock.
 fn first_of(
-    best: Option<Rival>,
+    best: &mut Option<Rival>,
     holder: TxId,
     held: &RangeLock,
     tx: TxId,
     range: &KeyRange,
     mode: Mode,
-) -> Result<Option<Rival>, AllocError>
-    ensures { IfOk result (λ r. r ≡ step (record { tx = tx; range = range.now; mode = mode }) best (lock_on_range holder held.now)) }
+) -> Result<(), AllocError>
+    ensures { OnOk result (best.new ≡ step (record { tx = tx; range = range.now; mode = mode }) best.old (lock_on_range holder held.now)) }
 {
     if conflicts(tx, range, mode, holder, &held.range, held.mode) {
         let range = held.range.clone()?;
-        Ok(nearer(best, Rival { holder, range }))
-    } else {
-        Ok(best)
+        *best = nearer(best.take(), Rival { holder, range });
     }
+    Ok(())
 }
 
-/// The first of the best so far and of a transaction's range locks in conflict with a lock.
+/// Takes into the best so far the first of a transaction's range locks in conflict with a lock.
 fn first_of_holder(
-    best: Option<Rival>,
+    best: &mut Option<Rival>,
     holder: TxId,
     held: &[RangeLock],
     tx: TxId,
     range: &KeyRange,
     mode: Mode,
-) -> Result<Option<Rival>, AllocError>
-    ensures { IfOk result (λ r. r ≡ nearest (record { tx = tx; range = range.now; mode = mode }) (map (lock_on_range holder) held.now) best) }
+) -> Result<(), AllocError>
+    ensures { OnOk result (best.new ≡ nearest (record { tx = tx; range = range.now; mode = mode }) (map (lock_on_range holder) held.now) best.old) }
 {
-    let mut best = best;
     for lock in held {
-        best = first_of(best, holder, lock, tx, range, mode)?;
+        first_of(best, holder, lock, tx, range, mode)?;
     }
-    Ok(best)
+    Ok(())
 }
 
-/// The first of the best so far and of the range locks in conflict with a lock.
+/// Takes into the best so far the first of the range locks in conflict with a lock.
 #[tactic(auto, unfolding(crate::specs::Nearest::nearest), using(crate::proofs::Conflicts::nearest_appended))]
 pub fn first_range(
-    best: Option<Rival>,
+    best: &mut Option<Rival>,
     ranges: &BTreeMap<TxId, List<RangeLock>>,
     tx: TxId,
     range: &KeyRange,
     mode: Mode,
-) -> Result<Option<Rival>, AllocError>
-    ensures { IfOk result (λ r. r ≡ nearest (record { tx = tx; range = range.now; mode = mode }) (flat_map locks_on_ranges ranges.now.entries) best) }
+) -> Result<(), AllocError>
+    ensures { OnOk result (best.new ≡ nearest (record { tx = tx; range = range.now; mode = mode }) (flat_map locks_on_ranges ranges.now.entries) best.old) }
 {
     if ranges.is_empty() {
-        return Ok(best);
+        return Ok(());
     }
-    let mut best = best;
     for (holder, held) in ranges {
-        best = first_of_holder(best, *holder, held.as_slice(), tx, range, mode)?;
+        first_of_holder(best, *holder, held.as_slice(), tx, range, mode)?;
     }
-    Ok(best)
+    Ok(())
 }

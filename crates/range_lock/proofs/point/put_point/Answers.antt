@@ -1,26 +1,30 @@
-use Rattle.std.proofs.Common.{◌≡◌, ◌∙◌, ap, sym, subst, inl, inr}
-use Rattle.std.specs.BTreeMap.{is_at}
-use Rattle.std.specs.Set.{remove_key}
-use Rattle.range_lock.specs.Tables.{point_cmp}
-use Rattle.range_lock.specs.declared.entry.PointLock.{PointLock}
-use Rattle.range_lock.proofs.Changes.{has_new, was_new, taken_out, same_points}
+use Rattle.std.proofs.Common.{ap, sym, subst, inl, inr}
+use Rattle.store_model.proofs.Bools.{not_both}
+use Rattle.range_lock.specs.Lock.{IsAmong}
+use Rattle.range_lock.specs.Point.{PointLock}
+use Rattle.range_lock.proofs.Changes.{undone}
+use Rattle.range_lock.proofs.Sets.{lock_of}
 use Rattle.range_lock.proofs.point.put_point.Goals as goal
 
-pub returns-in-Ok-clause-ok : goal.returns-in-Ok-clause-ok
-returns-in-Ok-clause-ok c = has_new c.args.points.now c.insert.new.self (record { key = c.args.key; tx = c.args.tx }) c.in_ok-insert.ensures.updates
+pub returns-then-not-branch-clause-listed : goal.returns-then-not-branch-clause-listed
+returns-then-not-branch-clause-listed c p h =
+    elim ((c.in_ok-insert.ensures.ok p).0 h) [
+      | inl e ↦ c.requires.listed p (subst (λ (q : PointLock). IsAmong q c.args.points.now) (sym e) (c.in_ok-insert.ensures.told.0 c.if-not-branch.true))
+      | inr m ↦ c.requires.listed p m
+    ]
 
 pub returns-in-Ok-clause-listed : goal.returns-in-Ok-clause-listed
 returns-in-Ok-clause-listed c p h =
-    elim ((has_new c.args.points.now c.insert.new.self (record { key = c.args.key; tx = c.args.tx }) c.in_ok-insert.ensures.updates p).0 h) [
-      | inl e ↦ c.in-Ok.ensures.added p (ap (λ (q : PointLock). q.tx) e) (ap (λ (q : PointLock). q.key) e ∙ sym c.copied-listed.ensures)
-      | inr m ↦ c.list_key.ensures.stays p (c.requires p m)
+    elim ((c.in_ok-insert.ensures.ok p).0 h) [
+      | inl e ↦ c.in-Ok.ensures.added p (ap (λ (q : PointLock). q.tx) e) (ap (λ (q : PointLock). q.key) e)
+      | inr m ↦ c.list_key.ensures.stays p (c.requires.listed p m)
     ]
 
 pub returns-in-Err-clause-err : goal.returns-in-Err-clause-err
 returns-in-Err-clause-err c =
-    let k : PointLock = record { key = c.args.key; tx = c.args.tx } in
-    let out : c.remove.new.self.keys ≡ remove_key (is_at (point_cmp k)) c.insert.new.self.keys = subst (λ key. c.remove.new.self.keys ≡ remove_key (is_at (point_cmp (record { key = key; tx = c.args.tx }))) c.insert.new.self.keys) c.copied-listed.ensures c.remove.ensures.keys in
-    taken_out k c.args.points.now.keys c.insert.new.self.keys c.remove.new.self.keys (was_new _ _ c.in_ok-insert.ensures.added c.if-not-branch.false) c.in_ok-insert.ensures.keys out
+    undone c.args.points.now c.insert.new.self c.remove.new.self (lock_of c.args.key.now c.args.tx)
+    (λ m. not_both _ c.if-not-branch.false (c.in_ok-insert.ensures.told.1 m)) c.in_ok-insert.ensures.ok
+    c.remove.ensures
 
 pub returns-in-Err-clause-listed : goal.returns-in-Err-clause-listed
-returns-in-Err-clause-listed c p h = c.list_key.ensures.stays p (c.requires p (same_points c.args.points.now c.remove.new.self (returns-in-Err-clause-err c) p h))
+returns-in-Err-clause-listed c p h = c.list_key.ensures.stays p (c.requires.listed p ((returns-in-Err-clause-err c p).0 h))

@@ -18,12 +18,12 @@ returns-clause-ok c =
         rising = c.in_ok-append.ensures.ordered;
         exact = λ tx.
             let bar = bars_by c.args.range.now c.args.mode tx in
-            let at_shared = map (lock_at_point Shared) t.shared.keys in
-            let at_exclusive = map (lock_at_point Exclusive) t.exclusive.keys in
+            let at_shared = map (lock_at_point Shared) t.shared in
+            let at_exclusive = map (lock_at_point Exclusive) t.exclusive in
             let ranges = flat_map locks_on_ranges t.ranges.entries in
             let none : list_any (is_at (nat_cmp tx)) c.new-found.result.keys ≡ false = ap (list_any (is_at (nat_cmp tx))) c.new-found.ensures.empty in
-            let shared = c.in_ok-add_at_points.ensures tx ∙ ap (λ (b : Bool). b || list_any bar at_shared) none in
-            let points = c.in_ok-add_at_points-2.ensures tx ∙ ap (λ (b : Bool). b || list_any bar at_exclusive) shared ∙ sym (any_append bar at_shared at_exclusive) in
+            let shared = c.in_ok-add_holders.ensures tx ∙ ap (λ (b : Bool). b || list_any bar at_shared) none in
+            let points = c.in_ok-add_holders-2.ensures tx ∙ ap (λ (b : Bool). b || list_any bar at_exclusive) shared ∙ sym (any_append bar at_shared at_exclusive) in
             let all = c.in_ok-add_on_ranges.ensures tx ∙ ap (λ (b : Bool). b || list_any bar ranges) points ∙ sym (any_append bar (locks_at_points t.shared t.exclusive) ranges) in
             holders_exactly (held t) c.args.range.now c.args.mode txs tx all;
       },
