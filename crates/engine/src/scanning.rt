@@ -1,5 +1,5 @@
 //! Scans.
-ghost use Rattle.std.specs.Prelude.{◌≡◌, ◌<◌, Err, IfErr, IfOk, IfSome, OnOk, false};
+ghost use Rattle.std.specs.Prelude.{◌≡◌, ◌<◌, ◌++◌, ◌∷◌, [], Err, IfErr, IfOk, IfSome, OnOk, false};
 ghost use Rattle.store_model.specs.declared.fault.Fault.TheVariants as faults;
 ghost use Rattle.store_model.specs.declared.reply.Reply.TheVariants as replies;
 ghost use Rattle.store_model.specs.declared.request.Request.TheVariants as requests;
@@ -116,10 +116,18 @@ fn again(alloc: Global, pairs: &[Pair]) -> Result<Reply, Memory>
 {
     let mut copies = Vec::with_capacity(alloc, pairs.len())?;
     for pair in pairs {
-        copies.push(Pair {
-            key: pair.key.copied(),
-            value: pair.value.copied(),
-        })?;
+        add_again(pair, &mut copies)?;
     }
     Ok(Reply::Pairs(List::from_vec(copies)))
+}
+
+/// Adds a pair once more. It is a function of its own since the pair is so moved less often.
+fn add_again(pair: &Pair, copies: &mut Vec<Pair>) -> Result<(), Memory>
+    ensures { OnOk result (copies.new.items ≡ copies.old.items ++ pair.now ∷ []) }
+{
+    copies.push(Pair {
+        key: pair.key.copied(),
+        value: pair.value.copied(),
+    })?;
+    Ok(())
 }

@@ -5,3 +5,4 @@ pub mod Desks
 pub mod Causing
 pub mod Scanning
 pub mod Gathering
+pub mod Between

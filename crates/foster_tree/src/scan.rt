@@ -1,9 +1,10 @@
 //! The pairs of a range, leaf by leaf.
-ghost use Rattle.std.specs.Prelude.{◌≡◌, ◌++◌, ◌&&◌, not, map, IfOk, IfErr, IsTrue, OnErr, OnOk};
+ghost use Rattle.std.specs.Prelude.{◌≡◌, ◌≤◌, ◌++◌, ◌∷◌, [], Some, drop, length, map, not, take, true, IfOk, IfErr, IsTrue, OnErr, OnOk};
+ghost use Rattle.std.specs.List.{list_all};
 ghost use mathlib.Core.List.{IsPrefix};
 ghost use Rattle.store_model.specs.Contents.{pair_of};
-ghost use Rattle.store_model.specs.Range.{has_key};
-ghost use Rattle.wal_record.specs.State.{leaf_rows};
+ghost use Rattle.store_model.specs.Range.{has_key, is_below};
+ghost use Rattle.wal_record.specs.State.{KeepsState, leaf_below, leaf_rows, rises};
 ghost use Rattle.tree_laws.specs.Scan.{live_entries};
 ghost use Rattle.page_ops.specs.Asking.{EndsRange};
 ghost use Rattle.page_ops.specs.Causes.{FailsToBring, MeetsNoEnd};
@@ -86,7 +87,7 @@ fn collect<N: Life, J: Entering<N>, P: Pages<N, J>, R: Wait>(
     for _ in rt.forever() {
         let leaf = find_leaf(rt, alloc, pages, journal, from.text(), pass)?;
         let end = end_of_part(&leaf.state, range.high());
-        if let Err(memory) = gather(&leaf.state.rows, &from, &end, out) {
+        if let Err(memory) = gather(&leaf.state, &from, &end, out) {
             pages.put_back(rt, &mut Some(leaf));
             return Err(memory.into());
         }
@@ -115,39 +116,59 @@ fn end_of_part(state: &PageState, high: &Bound) -> Bound
 }
 
 /// Adds the live pairs of a leaf between two bounds.
-fn gather(rows: &Rows, low: &Bound, high: &Bound, out: &mut Vec<Pair>) -> Result<(), Memory>
-    ensures done { OnOk result (out.new.items ≡ out.old.items ++ map pair_of (live_entries (has_key (record { low = low.now; high = high.now })) (leaf_rows rows.now))) }
+fn gather(state: &PageState, low: &Bound, high: &Bound, out: &mut Vec<Pair>) -> Result<(), Memory>
+    requires { KeepsState state.now }
+    ensures done { OnOk result (out.new.items ≡ out.old.items ++ map pair_of (live_entries (has_key (record { low = low.now; high = high.now })) (leaf_rows state.now.rows))) }
     ensures more { IsPrefix out.old.items out.new.items }
 {
-    match rows {
-        Rows::Leaf(rows) => gather_rows(rows.as_slice(), low, high, out),
+    match &state.rows {
+        Rows::Leaf(rows) => add_live(rows_between(rows.as_slice(), low, high), out),
         Rows::Branch(_) => Ok(()),
     }
 }
 
-fn gather_rows(
-    rows: &[LeafRow],
-    low: &Bound,
-    high: &Bound,
-    out: &mut Vec<Pair>,
-) -> Result<(), Memory>
-    ensures done { OnOk result (out.new.items ≡ out.old.items ++ map pair_of (live_entries (has_key (record { low = low.now; high = high.now })) rows.now)) }
+/// The rows between two bounds. It looks at as many rows as their number has binary digits, twice.
+fn rows_between<'a>(rows: &'a [LeafRow], low: &Bound, high: &Bound) -> &'a [LeafRow]
+    requires { IsTrue (rises leaf_below rows.now) }
+    ensures { live_entries (λ key. true) result.now ≡ live_entries (has_key (record { low = low.now; high = high.now })) rows.now }
+{
+    let (below, _) = rows.split_at(rows_below(rows, high));
+    let (_, between) = below.split_at(rows_below(below, low));
+    between
+}
+
+/// How many of the rows have their keys below a bound.
+fn rows_below(rows: &[LeafRow], bound: &Bound) -> usize
+    requires { IsTrue (rises leaf_below rows.now) }
+    ensures fits { result ≤ length rows.now }
+    ensures below { list_all (λ row. is_below (Some row.key) bound.now) (take result rows.now) ≡ true }
+    ensures others { list_all (λ row. not (is_below (Some row.key) bound.now)) (drop result rows.now) ≡ true }
+{
+    rows.partition_point(|row| is_above(bound, row.key.as_bytes()))
+}
+
+/// Adds the pairs of the rows that have a value, for which room is made at once.
+fn add_live(rows: &[LeafRow], out: &mut Vec<Pair>) -> Result<(), Memory>
+    ensures done { OnOk result (out.new.items ≡ out.old.items ++ map pair_of (live_entries (λ key. true) rows.now)) }
     ensures more { IsPrefix out.old.items out.new.items }
 {
+    out.reserve(rows.len())?;
     for row in rows {
-        if is_live_in(row, low, high) {
-            out.push(Pair {
-                key: row.key.copied(),
-                value: row.value.copied(),
-            })?;
+        if !row.tombstone {
+            add_pair(row, out)?;
         }
     }
     Ok(())
 }
 
-/// Whether the row has a value, and its key lies between two bounds.
-fn is_live_in(row: &LeafRow, low: &Bound, high: &Bound) -> bool
-    ensures { result ≡ (not row.now.tombstone && has_key (record { low = low.now; high = high.now }) row.now.key) }
+/// Adds the pair of a row. It is a function of its own, since a pair is then moved less often.
+fn add_pair(row: &LeafRow, out: &mut Vec<Pair>) -> Result<(), Memory>
+    ensures done { OnOk result (out.new.items ≡ out.old.items ++ record { key = row.now.key; value = row.now.value } ∷ []) }
+    ensures same { OnErr result (out.new.items ≡ out.old.items) }
 {
-    !row.tombstone && !is_above(low, row.key.as_bytes()) && is_above(high, row.key.as_bytes())
+    out.push(Pair {
+        key: row.key.copied(),
+        value: row.value.copied(),
+    })?;
+    Ok(())
 }

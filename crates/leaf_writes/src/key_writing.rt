@@ -56,15 +56,17 @@ pub fn write_key<N: Life, J: Entering<N>, P: Pages<N, J>, R: Wait>(
     ensures refused { IfErr result (FailsToEnter OrFull) }
     ensures ends { Ends N.opens N.log_faults N.made (J.account journal.old) (J.account journal.new) pass.new.log result }
 {
-    if fits_with(&leaf.state, &change.key, &change.new) || !has_tombstone(&leaf.state) {
-        return write_here(rt, alloc, pages, journal, leaf, owner, change, pass);
+    let fits = fits_with(&leaf.state, &change.key, &change.new);
+    if fits || !has_tombstone(&leaf.state) {
+        return write_here(rt, alloc, pages, journal, leaf, owner, change, fits, pass);
     }
     purge(rt, alloc, journal, leaf, pass)?;
     see_owner(rt, journal, owner, pass);
-    write_here(rt, alloc, pages, journal, leaf, owner, change, pass)
+    let fits = fits_with(&leaf.state, &change.key, &change.new);
+    write_here(rt, alloc, pages, journal, leaf, owner, change, fits, pass)
 }
 
-/// The change where the leaf isn't purged: it has room for the value, or no tombstone.
+/// The change where the leaf isn't purged: it has room for the value, which `fits` tells, or no tombstone.
 fn write_here<N: Life, J: Entering<N>, P: Pages<N, J>, R: Wait>(
     rt: &R,
     alloc: Global,
@@ -73,11 +75,13 @@ fn write_here<N: Life, J: Entering<N>, P: Pages<N, J>, R: Wait>(
     leaf: &mut Held<N>,
     owner: &mut Option<SessionRight<N>>,
     change: &Change,
+    fits: bool,
     pass: &mut Pass<Entry, N>,
 ) -> Result<Entered, Fault>
     requires begins { IsPrefix leaf.old.pass.log pass.old.log }
     requires may { MayChange N.opens pass.old.log leaf.old.state change.now owner.old }
     requires leaf { IsLeafOf change.now.key leaf.old.state }
+    requires fits { fits ≡ has_room change.now leaf.old.state }
     requires purged { (has_room change.now leaf.old.state || not (has_tombstone leaf.old.state)) ≡ true }
     requires reserved { (P.desk pages.old).reserves ≡ true }
     ensures written { WritesAlone N.opens N.entries N.session_entries change.now owner.old pass.new leaf.old leaf.new result (known (J.account journal.old) pass.old (claims_of leaf.old owner.old)) (known (J.account journal.new) pass.new (claims_of leaf.new owner.new)) }
@@ -90,7 +94,7 @@ fn write_here<N: Life, J: Entering<N>, P: Pages<N, J>, R: Wait>(
     ensures refused { IfErr result (FailsToEnter OrFull) }
     ensures ends { Ends N.opens N.log_faults N.made (J.account journal.old) (J.account journal.new) pass.new.log result }
 {
-    if fits_with(&leaf.state, &change.key, &change.new) {
+    if fits {
         write_leaf(rt, alloc, journal, leaf, owner, change, pass)
     } else {
         split_leaf(rt, alloc, pages, journal, leaf, owner, change, pass)

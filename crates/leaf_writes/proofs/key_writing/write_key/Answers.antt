@@ -20,7 +20,7 @@ write_here-requires-2-clause-purged g c =
 
 pub returns-clause-written : goal.returns-clause-written
 returns-clause-written g c =
-    let room = ap (λ (h : Hand). has_room c.args.change.now h.state) (sym c.leaf.view_is) ∙ sym c.fits_with.ensures ∙ c.if-fits_with.false in
+    let room = ap (λ (h : Hand). has_room c.args.change.now h.state) (sym c.leaf.view_is) ∙ sym c.fits_with-fits.ensures ∙ c.if-fits.false in
     let some = ap (λ (h : Hand). has_tombstone h.state) (sym c.leaf.view_is) ∙ sym c.has_tombstone.ensures ∙ c.if-not-has_tombstone.false in
     key_behind g.N.Life.opens g.N.Life.entries g.N.Life.session_entries c.args.change.now c.args.leaf.now c.purge.new.leaf c.write_here-2.new.leaf c.args.pass.now c.purge.new.pass c.see_owner.new.pass c.write_here-2.new.pass
     _ _ _ _ _ _ _ _ _ _ _ _ c.in_ok-purge.field-0 (λ i. not (room i) && some i) c.in_ok-purge.ensures.purged c.in_ok-purge.ensures.entered c.see_owner.ensures.seen c.write_here-2.result c.args.owner.now c.see_owner.new.owner c.see_owner.ensures.same c.write_here-2.ensures.written
@@ -39,7 +39,7 @@ returns-clause-ends g c =
 
 pub returns-clause-desk : goal.returns-clause-desk
 returns-clause-desk g c =
-    let room = ap (λ (h : Hand). has_room c.args.change.now h.state) (sym c.leaf.view_is) ∙ sym c.fits_with.ensures ∙ c.if-fits_with.false in
+    let room = ap (λ (h : Hand). has_room c.args.change.now h.state) (sym c.leaf.view_is) ∙ sym c.fits_with-fits.ensures ∙ c.if-fits.false in
     let some = ap (λ (h : Hand). has_tombstone h.state) (sym c.leaf.view_is) ∙ sym c.has_tombstone.ensures ∙ c.if-not-has_tombstone.false in
     desk_purged c.args.change.now c.args.leaf.now.state _ _ c.write_here-2.result c.purge.new.leaf.state (λ i. not (room i) && some i) c.in_ok-purge.ensures.purged.state c.write_here-2.ensures.desk
 
