@@ -56,7 +56,7 @@ impl<'a, D: PageDevice, V: Vault, N: Life> StorePages<'a, D, V, N> {
     ) -> StorePages<'a, D, V, N>
         requires idle { IsIdle pages.out pages.reserves }
         ensures idle { IsIdle result.pool.out result.pool.reserves }
-        ensures pages { (result.pool.frames ≡ pages.frames) × (result.pool.plan ≡ pages.plan) × (result.pool.images ≡ pages.images) }
+        ensures pages { (result.pool.frames ≡ pages.entry.frames) × (result.pool.plan ≡ pages.entry.plan) × (result.pool.images ≡ pages.entry.images) }
         ensures bases { result.pool.supply.bases ≡ bases }
     {
         let (pool, ()) = pages.resupplied(LifeSupply { operators, bases });
