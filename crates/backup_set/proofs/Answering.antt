@@ -1,5 +1,5 @@
 -- An image that stands at a place is one of those that the head counts.
-use Rattle.std.proofs.Common.{◌≡◌, ◌⊎◌, inl, inr, ℕ, ◌+◌, ◌*◌, ◌^◌, ◌<◌, ◌≤◌, List, [], take, drop, sym, ap, ◌∙◌, arith, Option, Some, None, Result, Ok, Err, refl}
+use Rattle.std.proofs.Common.{◌≡◌, inl, inr, ℕ, ◌+◌, ◌*◌, ◌^◌, ◌<◌, List, [], take, drop, sym, ap, ◌∙◌, arith, Option, Some, None, Result, Ok, Err}
 use Rattle.std.specs.Prelude.{IfErr, IfOk, IfSome, IsTrue}
 use Rattle.std.proofs.lemmas.List.{take-take}
 use Rattle.wal_record.specs.Rules.{is_number}

@@ -1,14 +1,13 @@
 -- The head of a backup object: what is spelled is read again, and a fault lies within its 20 bytes.
-use Rattle.std.proofs.Common.{◌≡◌, ℕ, ◌+◌, ◌^◌, ◌<◌, ◌≤◌, Bool, true, false, cond, eqb, ltb, List, [], ◌∷◌, ◌++◌, length, take, drop, Result, Ok, Err, refl, sym, ap, subst, ◌∙◌, append_assoc, arith}
+use Rattle.std.proofs.Common.{◌≡◌, ℕ, ◌+◌, ◌^◌, ◌<◌, ◌≤◌, false, eqb, List, [], ◌++◌, length, drop, Ok, Err, refl, sym, ap, ◌∙◌, append_assoc, arith}
 use Rattle.std.specs.Prelude.{IsTrue}
-use Rattle.std.specs.Int.{Width, w8, w32, w64, byte_len, from_be_bytes}
-use Rattle.std.proofs.lemmas.Bool.{ltb-false}
+use Rattle.std.specs.Int.{w32, w64}
 use Rattle.std.proofs.lemmas.Bool.Decides.{nat_tests}
 use Rattle.std.proofs.lemmas.List.{length-append, length-drop, append-nil, drop-drop}
 use Rattle.wal_record.specs.Rules.{is_page_count}
 use Rattle.wal_record.specs.Spelling.{number_bytes}
 use Rattle.wal_record.specs.Reading.{Read, ◌>>=◌, number_at}
-use Rattle.state_codec.proofs.Fields.{IsBytes, IsField, Takes, Takes-then, bind_ok, guard_ok, test_ok, within_bind, within_guards, number_field, wide32, wide64}
+use Rattle.state_codec.proofs.Fields.{IsBytes, Takes, Takes-then, bind_ok, within_bind}
 use Rattle.vault_objects.specs.Fields.{is_this}
 use Rattle.vault_objects.proofs.Numbers.{eq_is, number_ok, number_within, number32, number64, is_same}
 use Rattle.backup_set.specs.Backup.{head_bytes}

@@ -1,7 +1,7 @@
 -- Images in a backup object: what is read of one, and that no two copies have one image.
-use Rattle.std.proofs.Common.{◌≡◌, ◌≢◌, ◌⊎◌, inl, inr, ℕ, ◌+◌, ◌-◌, ◌^◌, ◌<◌, ◌≤◌, Bool, true, eqb, ltb, List, [], ◌∷◌, ◌++◌, length, take, drop, Result, Ok, Err, refl, sym, ap, subst, ◌∙◌, append_assoc, arith}
+use Rattle.std.proofs.Common.{◌≡◌, inl, inr, ℕ, ◌+◌, ◌-◌, ◌^◌, ◌<◌, ◌≤◌, true, List, [], ◌++◌, length, take, drop, Result, Ok, Err, refl, sym, ap, ◌∙◌, append_assoc, arith}
 use Rattle.std.specs.Prelude.{IsTrue, replicate}
-use Rattle.std.specs.Int.{w8, w32, w64, byte_len, from_be_bytes}
+use Rattle.std.specs.Int.{w8, w32, w64, from_be_bytes}
 use Rattle.std.proofs.lemmas.Bool.{and_parts}
 use Rattle.std.proofs.lemmas.Bool.Decides.{nat_tests}
 use Rattle.std.proofs.lemmas.List.{drop_at, length-drop}
@@ -13,10 +13,10 @@ use Rattle.wal_record.specs.State.{KeepsState}
 use Rattle.wal_record.specs.Spelling.{number_bytes, state_bytes}
 use Rattle.wal_record.specs.Reading.{Read, ◌>>=◌, number_at}
 use Rattle.wal_record.specs.Upkeep.{segment_of}
-use Rattle.state_codec.proofs.Fields.{bind_ok, ok_is, within_bind, number_field, wide8, wide32}
+use Rattle.state_codec.proofs.Fields.{bind_ok, ok_is, within_bind, number_field, wide8}
 use Rattle.state_codec.proofs.FieldKinds.{lt_true, lt_is_true}
-use Rattle.page_image.specs.Image.{head_bytes, body_bytes, image_bytes}
-use Rattle.page_image.specs.Reading.{is_format, number_in, number_of, sealed_at, Verifies}
+use Rattle.page_image.specs.Image.{head_bytes, body_bytes}
+use Rattle.page_image.specs.Reading.{is_format, number_in, sealed_at}
 use Rattle.page_image.specs.declared.sealed.Sealed.{Sealed}
 use Rattle.page_image.proofs.Reading.{image_is}
 use Rattle.backup_set.specs.Backup.{IsCopy, copy_bytes}

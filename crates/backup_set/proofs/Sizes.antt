@@ -1,8 +1,8 @@
 -- How long an image is.
-use Rattle.std.proofs.Common.{◌≡◌, ℕ, ◌+◌, ◌-◌, ◌≤◌, Bool, true, false, List, [], ◌∷◌, ◌++◌, length, Option, Some, None, refl, sym, ap, ◌∙◌, arith}
+use Rattle.std.proofs.Common.{◌≡◌, ℕ, ◌+◌, ◌-◌, ◌≤◌, List, [], ◌∷◌, ◌++◌, length, Option, Some, None, refl, ◌∙◌, arith}
 use Rattle.std.specs.Prelude.{flat_map, replicate}
-use Rattle.std.specs.List.{sum_by, fold}
-use Rattle.std.specs.Int.{w8, w16, w32, w64}
+use Rattle.std.specs.List.{fold}
+use Rattle.std.specs.Int.{w8}
 use Rattle.std.proofs.lemmas.List.{length-append, length-replicate}
 use Rattle.sha2.proofs.Facts256.{length-sha256}
 use Rattle.wal_record.specs.State.{KeepsState, text_of, leaf_row_size, branch_row_size, rows_size, high_size, foster_size, state_size}

@@ -1,19 +1,18 @@
 -- The images of a backup object one by one: a walk from the left, and that an object has one list of copies.
-use Rattle.std.proofs.Common.{◌≡◌, ◌≢◌, ◌⊎◌, inl, inr, ℕ, zero, suc, ◌+◌, ◌-◌, ◌*◌, ◌^◌, ◌<◌, ◌≤◌, List, [], ◌∷◌, ◌++◌, length, get_or, take, drop, Result, Ok, Err, refl, sym, ap, subst, ◌∙◌, append_assoc, arith}
+use Rattle.std.proofs.Common.{◌≡◌, ◌≢◌, inl, inr, ℕ, zero, suc, ◌+◌, ◌-◌, ◌*◌, ◌^◌, ◌<◌, ◌≤◌, List, [], ◌∷◌, ◌++◌, length, take, drop, Result, Ok, Err, refl, sym, ap, subst, ◌∙◌, append_assoc, arith}
 use Rattle.std.specs.Prelude.{IsTrue, flat_map, map}
 use Rattle.std.specs.List.{All}
-use Rattle.std.proofs.lemmas.List.{append-nil, length-append, length-map, length-drop, length_push, take_at, drop_at, drop-drop, drop_all, take_all, take-append-drop, nil_from_length}
+use Rattle.std.proofs.lemmas.List.{append-nil, length-append, length-map, length-drop, length_push, take_at, drop_at, drop-drop, drop_all, take-append-drop, nil_from_length}
 use Rattle.std.proofs.lemmas.List.Elements.{All-push}
 use Rattle.state_codec.proofs.Fields.{IsBytes, IsBytes-take, ok_is}
 use Rattle.wal_record.specs.Rules.{is_page_count}
-use Rattle.wal_record.specs.Upkeep.{segment_of}
 use Rattle.page_image.specs.Image.{image_bytes}
 use Rattle.page_image.specs.declared.sealed.Sealed.{Sealed}
-use Rattle.backup_set.specs.Backup.{IsCopy, AreCopies, IsAmong, AreImages, IsBackup, backup_name, copy_bytes, head_bytes, object_bytes}
-use Rattle.backup_set.specs.Reading.{BeginsWith, Breaks, IsFaultBehind, IsFirstFault, IsHeadFault, IsNoImage, LacksPage, NoCopy, head_at, last_page}
-use Rattle.backup_set.specs.Answers.{HasAt, HasImage, IsBad}
+use Rattle.backup_set.specs.Backup.{IsCopy, AreCopies, IsAmong, IsBackup, backup_name, copy_bytes, head_bytes}
+use Rattle.backup_set.specs.Reading.{BeginsWith, IsFaultBehind, IsFirstFault, IsNoImage, LacksPage, NoCopy, head_at, last_page}
+use Rattle.backup_set.specs.Answers.{HasImage, IsBad}
 use Rattle.backup_set.specs.declared.copy.PageCopy.{PageCopy}
-use Rattle.backup_set.proofs.Heads.{count_most, head_again, head_ok, head_takes, length-head}
+use Rattle.backup_set.proofs.Heads.{head_again, head_ok, head_takes, length-head}
 use Rattle.backup_set.proofs.Images.{copy_same, length-copy, no_flaw, page_below}
 
 abbrev pub copies_bytes : List PageCopy → List ℕ

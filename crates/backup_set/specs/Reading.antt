@@ -9,7 +9,7 @@ use Rattle.page_image.specs.Image.{digest_of}
 use Rattle.page_image.specs.Reading.{Verifies, is_format, sealed_at}
 use Rattle.page_image.specs.declared.sealed.Sealed.{Sealed}
 use Rattle.vault_objects.specs.Fields.{is_this}
-use Rattle.backup_set.specs.Backup.{AreCopies, IsBackup, copy_bytes, head_bytes}
+use Rattle.backup_set.specs.Backup.{AreCopies, IsBackup, copy_bytes}
 use Rattle.backup_set.specs.declared.copy.PageCopy.{PageCopy}
 use Rattle.backup_set.specs.declared.image.Flaw.{Flaw}
 use Rattle.backup_set.specs.declared.image.Flaw.TheVariants.{Memory, Bad}

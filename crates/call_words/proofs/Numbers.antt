@@ -1,5 +1,5 @@
 -- What `get_one` reads of a number.
-use Rattle.std.proofs.Common.{◌≡◌, ◌<◌, ◌^◌, ℕ, Bool, true, false, List, Option, Some, None, Result, Ok, Err, refl, sym, ap, arith, if◌then◌else◌, ◌∙◌}
+use Rattle.std.proofs.Common.{◌≡◌, ℕ, Bool, true, false, List, Option, Some, None, Result, Ok, Err, refl, sym, ap, arith, if◌then◌else◌, ◌∙◌}
 use Rattle.std.specs.Str.Parse.{ParsesUnsigned, digits_value, without_leading_plus}
 use Rattle.std.specs.Prelude.{option_and_then}
 use Rattle.clap.specs.Matches.{ReadsOne}

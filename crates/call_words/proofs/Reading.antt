@@ -1,5 +1,5 @@
 -- From what a parse answers to what the words ask for.
-use Rattle.std.proofs.Common.{◌∙◌, ◌≡◌, ℕ, List, [], ◌∷◌, Option, Some, None, Result, Ok, Err, refl, sym, ap, ap₂, rules}
+use Rattle.std.proofs.Common.{◌∙◌, ◌≡◌, List, [], ◌∷◌, Option, Some, None, Err, refl, sym, ap, ap₂}
 use Rattle.std.specs.Prelude.{IfOk}
 use Rattle.std.specs.Option.{ok_or}
 use Rattle.clap.specs.Words.{App, Row, Text, fault_of, matches_of}
@@ -8,7 +8,6 @@ use Rattle.clap.specs.declared.error.kind.ErrorKind.{ErrorKind}
 use Rattle.call_words.specs.Grammar.{command}
 use Rattle.call_words.specs.Calls.{asked_by, asked_unless, call_of}
 use Rattle.call_words.specs.declared.call.Call.{Call}
-use Rattle.call_words.specs.declared.refusal.Refusal.{Refusal}
 use Rattle.call_words.specs.declared.refusal.Refusal.TheVariants as refusals
 
 -- where no word is at fault, the call is what the rows ask for

@@ -1,5 +1,5 @@
 -- Entries that are gone through, and what is then said of each transaction.
-use Rattle.std.proofs.Common.{◌≡◌, ◌≢◌, ℕ, eqb, cond, ◌<◌, List, [], ◌∷◌, Option, Some, None, Bool, true, false, Less, Equal, Greater, refl, sym, ap, ◌∙◌, arith}
+use Rattle.std.proofs.Common.{◌≡◌, ◌≢◌, ℕ, eqb, cond, List, [], ◌∷◌, Option, Some, None, Bool, true, false, Less, Greater, refl, sym, ap, ◌∙◌, arith}
 use Rattle.std.specs.Prelude.{◌||◌, ◌&&◌, not, nat_lt}
 use Rattle.std.specs.List.{list_any}
 use Rattle.std.specs.Map.{lookup}
@@ -11,7 +11,6 @@ use Rattle.std.proofs.lemmas.Bool.{eqb-true}
 use Rattle.std.proofs.lemmas.Bool.Decides.{nat_tests}
 use Rattle.chain_judge.specs.Chains.{is_at_key, writes_in}
 use Rattle.chain_judge.specs.declared.chain.Chain.{Chain}
-use Rattle.chain_judge.specs.declared.chain.OpenChange.{OpenChange}
 
 abbrev Entries : Type 0
 Entries = List (ℕ × Chain)

@@ -1,5 +1,5 @@
 -- Where transactions stand behind one record more.
-use Rattle.std.proofs.Common.{◌≡◌, ℕ, eqb, cond, ◌+◌, List, [], ◌∷◌, ◌++◌, length, None, Some, Bool, true, false, refl, sym, ap, subst, ◌∙◌}
+use Rattle.std.proofs.Common.{◌≡◌, ℕ, eqb, cond, ◌+◌, List, [], ◌∷◌, ◌++◌, length, Bool, true, false, refl, sym, ap, subst, ◌∙◌}
 use Rattle.std.specs.Prelude.{◌||◌}
 use Rattle.std.specs.List.{list_any}
 use Rattle.std.proofs.lemmas.List.Folds.{list_any-append}

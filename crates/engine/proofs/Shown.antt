@@ -1,5 +1,5 @@
 -- A session whose pass is shown the whole history.
-use Rattle.std.proofs.Common.{◌≡◌, Bool, false, List, [], Option, Some, None, subst, sym}
+use Rattle.std.proofs.Common.{◌≡◌, Bool, List, [], Option, Some, None, subst, sym}
 use Rattle.std.specs.Prelude.{IsSome}
 use mathlib.Core.List.{IsPrefix}
 use Rattle.books.specs.Rights.{SessionClaim}

@@ -1,5 +1,5 @@
 -- An operator on a key: what is known of the key's value, and where the operator gives none.
-use Rattle.std.specs.Prelude.{◌≡◌, ℕ, List, length, Option, Some, None}
+use Rattle.std.specs.Prelude.{◌≡◌, List, length, Option, Some, None}
 use mathlib.Core.List.{IsPrefix}
 use Rattle.books.specs.Rights.{SessionClaim}
 use Rattle.store_model.specs.declared.fault.Fault.{Fault}

@@ -9,7 +9,7 @@ use Rattle.wal_record.specs.Chains.{head}
 use Rattle.wal_record.specs.History.{life_log, live_count}
 use Rattle.wal_record.specs.declared.record.Record.{Record}
 use Rattle.wal_record.specs.declared.entry.Entry.{Entry}
-use Rattle.wal_record.specs.declared.entry.Entry.TheVariants.{Rec, Began}
+use Rattle.wal_record.specs.declared.entry.Entry.TheVariants.{Began}
 use Rattle.wal_record.specs.declared.entry.Entry.TheVariants as entries
 use Rattle.wal_record.proofs.Pushes.{log_same, maintenance_push}
 use Rattle.front.specs.Seen.{PassSeen}

@@ -1,6 +1,6 @@
 -- What is read of an open log is what its blocks have.
-use Rattle.std.proofs.Common.{◌≡◌, inl, inr, None, ℕ, suc, ◌+◌, ◌-◌, ◌<◌, ◌≤◌, ◌^◌, List, [], ◌∷◌, ◌++◌, length, get_or, take, refl, sym, ◌∙◌, ap, subst, arith, append-nil}
-use Rattle.std.specs.Prelude.{map, max, ⊤}
+use Rattle.std.proofs.Common.{◌≡◌, inl, inr, None, ℕ, ◌+◌, ◌-◌, ◌<◌, ◌≤◌, List, [], ◌∷◌, ◌++◌, length, get_or, take, refl, sym, ◌∙◌, ap, subst, arith}
+use Rattle.std.specs.Prelude.{map, ⊤}
 use Rattle.media.specs.Kept.{Kept}
 use Rattle.log_blocks.specs.Log.{Block, IsRun, body, first_lsn, next_lsn, open_gate}
 use Rattle.log_blocks.specs.LogState.{LogState, IsDurable, Refused, checkpoint_of, counts, firsts, last_or, payload_at}
@@ -8,7 +8,7 @@ use Rattle.log_blocks.specs.Opening.{places}
 use Rattle.log_blocks.specs.declared.header.Place.{Place}
 use Rattle.log_manager.specs.Managed.{HasLsn, IsNoBadLog, ReadRefused}
 use Rattle.log_manager.specs.Records.{checkpoint_in}
-use Rattle.log_manager.proofs.Finding.{first_of, length-firsts}
+use Rattle.log_manager.proofs.Finding.{length-firsts}
 use Rattle.store_model.specs.declared.fault.Fault.{Fault}
 use Rattle.store_model.specs.declared.fault.Fault.TheVariants as faults
 use Rattle.log_analysis.specs.Analysed.{ComesTo, IsNotAnalysed, LacksNamed, begins_at, named_by}

@@ -1,23 +1,21 @@
 -- Blocks that have been read, one after the other, from one on.
-use Rattle.std.proofs.Common.{◌≡◌, inl, inr, ℕ, zero, suc, ◌+◌, ◌-◌, ◌<◌, ◌≤◌, ◌^◌, List, [], ◌∷◌, ◌++◌, length, get_or, take, refl, sym, ◌∙◌, ap, subst, arith, append_assoc, append-nil, length-append}
-use Rattle.std.specs.Prelude.{map, max}
+use Rattle.std.proofs.Common.{◌≡◌, ℕ, zero, suc, ◌+◌, ◌-◌, ◌<◌, ◌≤◌, List, [], ◌∷◌, ◌++◌, length, get_or, take, refl, sym, ◌∙◌, ap, subst, arith, append_assoc, append-nil, length-append}
+use Rattle.std.specs.Prelude.{map}
 use Rattle.log_blocks.specs.Log.{Block, IsLawfulBlock, IsRun, first_lsn, next_lsn}
 use Rattle.log_blocks.proofs.Whole.{next_lsn-append, run_rest}
-use Rattle.log_index.specs.Listing.{IsListingOf}
 use Rattle.log_index.specs.declared.listing.Listing.{Listing}
 use Rattle.log_manager.specs.Managed.{HasLsn}
 use Rattle.log_manager.specs.Payload.{IsPayloadOf}
 use Rattle.log_manager.specs.Records.{AreIn, AreSpelled, checkpoint_in}
 use Rattle.log_manager.proofs.Finding.{first_of}
-use Rattle.log_manager.proofs.Joining.{checkpoint_after-append, checkpoint_below, checkpoint_is, in_split}
+use Rattle.log_manager.proofs.Joining.{checkpoint_after-append, checkpoint_is}
 use Rattle.wal_record.specs.Checkpoints.{checkpoint_after, last_checkpoint}
-use Rattle.wal_record.specs.Sound.{AreLawful}
 use Rattle.wal_record.specs.declared.record.Record.{Record}
 use Rattle.log_analysis.specs.Analysed.{ComesTo, begins_at}
 use Rattle.log_manager.specs.Devices.{HoldEnd}
 use Rattle.log_analysis.specs.Taken.{AreTaken, ListsMore}
 use Rattle.log_manager.proofs.Blocks.{HasBlock, block_at, spelled_more}
-use Rattle.log_analysis.proofs.Listed.{both, from_checkpoint, from_start, lists_none}
+use Rattle.log_analysis.proofs.Listed.{both, lists_none}
 
 -- ---- the LSNs of a run
 

@@ -1,7 +1,7 @@
 -- Of a log for which the disk stands: what is read is its end, and no block is bad.
 use Rattle.std.proofs.Common.{◌≡◌, inl, inr, ℕ, zero, suc, ◌+◌, ◌<◌, ◌≤◌, ◌^◌, true, false, List, [], ◌∷◌, ◌++◌, length, take, refl, sym, ◌∙◌, ap, subst, arith, append_assoc, append-nil, length-append}
 use Rattle.std.specs.List.{All}
-use Rattle.std.specs.Prelude.{Err, Ok, max}
+use Rattle.std.specs.Prelude.{Err, Ok}
 use Rattle.log_blocks.specs.Log.{Block, IsRun, first_lsn, next_lsn}
 use Rattle.log_index.specs.declared.listing.Listing.{Listing}
 use Rattle.log_manager.specs.Managed.{IsNoBadLog}

@@ -45,6 +45,7 @@ items_at_byte chunks = DIRECTORY_AT + ENTRY_BYTES * length chunks
 abbrev pub run_bytes : ℕ → ℕ → ℕ → List Chunk → List ℕ
 run_bytes run first last chunks = head_bytes run first last (length chunks) ++ (flat_map entry_bytes (directory (items_at_byte chunks) chunks) ++ chunks_bytes chunks)
 
+-- a record that has bytes in the log's form
 abbrev pub IsSpelled : Numbered → Type 0
 IsSpelled x = HasSpelling x.rec
 

@@ -1,5 +1,5 @@
 -- How many bytes blocks take on the disk.
-use Rattle.std.proofs.Common.{◌≡◌, ℕ, ◌+◌, ◌*◌, List, [], ◌∷◌, ◌++◌, length, refl, arith, length-append}
+use Rattle.std.proofs.Common.{◌≡◌, ◌+◌, ◌*◌, List, [], ◌∷◌, length, refl, arith, length-append}
 use Rattle.log_blocks.specs.Log.{Block, blocks, body, header, open_gate}
 use Rattle.log_blocks_tests.specs.Sizes.{payload_bytes}
 

@@ -1,6 +1,6 @@
 -- An object put, synced, named and flushed.
 use Rattle.std.proofs.Common.{◌≡◌, ℕ, suc, ◌≤◌, cond, List, [], ◌∷◌, ◌++◌, length, refl, sym, ap, subst, ◌∙◌, arith, append-nil, length-append, inl, inr}
-use Rattle.std.specs.Prelude.{◌⊎◌, min, Bool, false, Result, Ok, Err, IfErr}
+use Rattle.std.specs.Prelude.{min, Bool, false, Result, Ok, Err, IfErr}
 use Rattle.front.specs.Seen.{PassSeen}
 use Rattle.store_model.specs.declared.fault.Fault.{Fault}
 use Rattle.store_model.specs.declared.fault.Fault.TheVariants as faults

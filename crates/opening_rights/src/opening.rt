@@ -19,8 +19,8 @@ use page_ops::Life;
 use std::alloc::Global;
 use store_model::{HIGHEST, Lsn, MOST_PAGES, Memory, PageNo, TxId};
 
-/// A pool has a frame for each place of its index, and at least so many: a descent holds a parent and its child, and a split
-/// with the growth above it takes pages beside them.
+/// The fewest frames of a pool, which else has one for each place of its index. A descent holds a parent and its child, and
+/// a split with the growth above it takes pages beside them.
 pub const LEAST_FRAMES: u32 = 12;
 
 /// The rights to the pages, each at home, that to maintenance, and the numbers that come next.
@@ -33,8 +33,8 @@ pub struct Opening<N: BookNames> {
 }
 
 /// The rights of a life of which no right was handed out, after the log of this listing. The index has room for as many
-/// pages as the store may have, and at least for [`LEAST_FRAMES`]. `Memory` where there is none for it, or where the listing has more pages or higher LSNs than
-/// a log can have.
+/// pages as the store may have, and at least for [`LEAST_FRAMES`]. `Memory` where there is none for it, or where the
+/// listing has more pages or higher LSNs than a log can have.
 pub fn begin<N: Life>(
     alloc: Global,
     tables: &BookTables<N>,

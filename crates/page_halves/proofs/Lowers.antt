@@ -1,15 +1,14 @@
 -- What a page that is split at its split point keeps: the rows below it. The first key above it is a key.
-use Rattle.std.proofs.Common.{◌≡◌, ℕ, ◌<◌, ◌≤◌, true, leb, List, length, take, map, Option, Some, None, refl, sym, ap, subst, ◌∙◌, arith}
-use Rattle.std.specs.Prelude.{filter, IsTrue}
+use Rattle.std.proofs.Common.{◌≡◌, ℕ, ◌<◌, ◌≤◌, true, leb, List, length, map, Option, Some, None, refl, sym, ap, subst, ◌∙◌, arith}
+use Rattle.std.specs.Prelude.{filter}
 use Rattle.std.specs.Option.{option_map, option_map_or}
 use Rattle.std.proofs.lemmas.Bool.{and_parts}
 use Rattle.std.proofs.lemmas.Bool.Decides.{nat_tests}
 use Rattle.std.proofs.lemmas.List.{length-map}
 use Rattle.store_model.specs.Range.{Interval, is_below}
-use Rattle.wal_record.specs.State.{KeepsState, KeepsRows, own_part, leaf_row_size, leaf_row_fits, branch_row_size, branch_row_fits, is_text, row_sizes, split_point, text_of}
+use Rattle.wal_record.specs.State.{KeepsState, KeepsRows, own_part, leaf_row_size, leaf_row_fits, branch_row_size, branch_row_fits, row_sizes, split_point, text_of}
 use Rattle.wal_record.specs.Images.{has_rows, lower_rows, leaf_under, branch_under}
 use Rattle.wal_record.specs.Legal.{split_key}
-use Rattle.wal_record.specs.declared.page.Foster.{Foster}
 use Rattle.wal_record.specs.declared.page.PageState.{PageState}
 use Rattle.wal_record.specs.declared.page.LeafRow.{LeafRow}
 use Rattle.wal_record.specs.declared.page.BranchRow.{BranchRow}

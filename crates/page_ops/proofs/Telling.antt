@@ -1,5 +1,5 @@
 -- An object that tells of the log disk's calls too, by one that doesn't.
-use Rattle.std.proofs.Common.{◌≡◌, List, [], ◌∷◌, length, ◌≤◌, ℕ, Option, Result, Ok, Err, inl, inr, refl, sym, subst, arith, ◌∙◌}
+use Rattle.std.proofs.Common.{◌≡◌, List, [], ℕ, Option, Result, Ok, Err, inl, inr, sym, subst, arith, ◌∙◌}
 use Rattle.std.specs.Prelude.{OnOk}
 use Rattle.front.specs.Seen.{PassSeen}
 use Rattle.wal_record.specs.declared.record.Record.{Record}
@@ -11,7 +11,6 @@ use Rattle.books.specs.Rights.{SessionClaim}
 use Rattle.page_ops.specs.Names.{LedgerName}
 use Rattle.page_ops.specs.Outcomes.{EntersGroup, CommitsOr, Commits, MayCommit}
 use Rattle.page_ops.proofs.Gaining.{calls_same}
-use Rattle.page_ops.specs.Causes.{IsOpen}
 use Rattle.page_ops.specs.Seeing.{Account, Calls, CallsGoOn, Enters, Keeps, known}
 use Rattle.page_ops.specs.declared.group.Group.{Group}
 use Rattle.page_ops.specs.declared.outcome.Entered.{Entered}

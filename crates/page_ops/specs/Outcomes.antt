@@ -1,10 +1,9 @@
 -- What the answers of a journal's calls say of the history.
-use Rattle.std.specs.Prelude.{◌≡◌, ◌≢◌, ◌⊎◌, ℕ, suc, min, ◌+◌, ◌<◌, ◌≤◌, List, [], ◌∷◌, ◌++◌, length, filter, fold, Option, Some, None, Bool, true, false, not, ◌==◌, if◌then◌else◌, IsTrue, Result, Ok, Err, IsSome}
+use Rattle.std.specs.Prelude.{◌≡◌, ◌≢◌, ◌⊎◌, ℕ, suc, ◌+◌, ◌<◌, ◌≤◌, List, [], ◌∷◌, ◌++◌, length, filter, Option, Some, None, Bool, true, false, not, ◌==◌, IsTrue, Result, Ok, Err, IsSome}
 use Rattle.std.specs.List.{list_any, All}
 use Rattle.std.specs.Option.{option_map}
 use Rattle.books.specs.Rights.{PageClaim, SessionClaim, MaintClaim}
 use Rattle.front.specs.Seen.{PassSeen}
-use Rattle.store_model.specs.Along.{along}
 use Rattle.store_model.specs.Range.{Interval, is_below}
 use Rattle.store_model.specs.declared.fault.Fault.{Fault}
 use Rattle.store_model.specs.declared.fault.Fault.TheVariants as faults
@@ -14,13 +13,12 @@ use Rattle.store_model.specs.declared.request.Request.{Request}
 use Rattle.wal_record.specs.Rules.{HasSpelling, is_number}
 use Rattle.wal_record.specs.State.{is_child}
 use Rattle.wal_record.specs.Chains.{pages, finishes, record_with}
-use Rattle.wal_record.specs.OpenWrites.{pending, is_loser, losers, open_list}
+use Rattle.wal_record.specs.OpenWrites.{pending, is_loser, losers}
 use Rattle.wal_record.specs.Upkeep.{lost_pages, segment_of, unrestored, standing_runs, archived}
 use Rattle.wal_record.specs.Checkpoints.{commits, limit_of, page_head, analysis_of}
 use Rattle.wal_record.specs.History.{log_of, life_log, live_count}
 use Rattle.wal_record.specs.Locks.{Held, locks, conflict, blocks}
 use Rattle.wal_record.specs.declared.analysis.Run.{Run}
-use Rattle.wal_record.specs.declared.record.OpenWrite.{OpenWrite}
 use Rattle.wal_record.specs.declared.record.Record.{Record}
 use Rattle.wal_record.specs.declared.record.Record.TheVariants as kinds
 use Rattle.wal_record.specs.declared.entry.Entry.{Entry}

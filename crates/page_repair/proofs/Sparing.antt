@@ -1,5 +1,5 @@
 -- Images on the data device that a page's way into memory spares.
-use Rattle.std.proofs.Common.{◌≡◌, ℕ, List, Option, refl, ◌∙◌, inl, inr}
+use Rattle.std.proofs.Common.{ℕ, List, Option, refl, ◌∙◌, inl, inr}
 use mathlib.Core.List.{IsPrefix}
 use Rattle.front.proofs.Keeping.{prefix_trans}
 use Rattle.wal_record.specs.declared.record.Record.{Record}

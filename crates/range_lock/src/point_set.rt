@@ -22,8 +22,8 @@ pub fn has_point<const N: usize>(points: &BTreeSet<PointEntry<N>>, text: &[u8], 
     }
 }
 
-/// Puts a transaction's lock on the key of these bytes into the set, and tells whether it is new there. Where memory runs out, the set is
-/// as before.
+/// Puts a transaction's lock on the key of these bytes into the set, and tells whether it is new there. Where memory runs
+/// out, the set is as before.
 pub fn insert_point<const N: usize>(
     points: &mut BTreeSet<PointEntry<N>>,
     key: &[u8],

@@ -1,8 +1,7 @@
 -- Tests of fields against the rules of their kinds.
-use Rattle.std.proofs.Common.{◌≡◌, ℕ, true, List}
 use Rattle.std.specs.Prelude.{◌↔◌, ◌&&◌, IsTrue}
 use Rattle.store_model.proofs.Bools.{and_true, both_true}
-use Rattle.wal_record.specs.Rules.{HasSpelling, KeepsAdopt, KeepsApply, KeepsBackupDone, KeepsCommit, KeepsEnd, KeepsFormat, KeepsGrow, KeepsLost, KeepsPurge, KeepsRestored, KeepsRunDone, KeepsSplit, KeepsUndo, KeepsWrite, KeepsWritten, is_change, is_limit, is_lsn_or_none, is_maybe_value, is_number, is_page, is_u32, is_u8}
+use Rattle.wal_record.specs.Rules.{KeepsAdopt, KeepsApply, KeepsCommit, KeepsEnd, KeepsFormat, KeepsGrow, KeepsLost, KeepsPurge, KeepsRestored, KeepsRunDone, KeepsSplit, KeepsUndo, KeepsWrite, KeepsWritten, is_change, is_limit, is_lsn_or_none, is_maybe_value, is_number, is_page, is_u32, is_u8}
 use Rattle.wal_record.specs.State.{KeepsState, is_child, is_key, is_text}
 use Rattle.wal_record.specs.declared.record.Format.{Format}
 use Rattle.wal_record.specs.declared.record.Commit.{Commit}
@@ -11,7 +10,6 @@ use Rattle.wal_record.specs.declared.record.Purge.{Purge}
 use Rattle.wal_record.specs.declared.record.Written.{Written}
 use Rattle.wal_record.specs.declared.record.Lost.{Lost}
 use Rattle.wal_record.specs.declared.record.Restored.{Restored}
-use Rattle.wal_record.specs.declared.record.Record.{Record}
 use Rattle.wal_record.specs.declared.record.Write.{Write}
 use Rattle.wal_record.specs.declared.record.Apply.{Apply}
 use Rattle.wal_record.specs.declared.record.Undo.{Undo}

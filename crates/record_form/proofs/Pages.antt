@@ -1,10 +1,10 @@
 -- Pages of a backup that may stand behind others.
 use Rattle.std.proofs.Common.{◌≡◌, ℕ, ◌<◌, ◌≤◌, List, true, sym, subst, arith}
-use Rattle.std.specs.Prelude.{IsTrue, nat_le, ◌&&◌}
+use Rattle.std.specs.Prelude.{IsTrue, nat_le}
 use Rattle.std.proofs.lemmas.Bool.Decides.{nat_tests}
 use Rattle.store_model.proofs.Bools.{both_true, and_true}
 use Rattle.store_model.specs.declared.limits.TheConstants.{MOST_PAGES}
-use Rattle.wal_record.specs.Rules.{is_number, is_page, rises_above, page_lsn_fits}
+use Rattle.wal_record.specs.Rules.{is_number, is_page, page_lsn_fits}
 use Rattle.wal_record.specs.declared.record.PageLsn.{PageLsn}
 use Rattle.record_form.proofs.Along.{top, rises, risen}
 

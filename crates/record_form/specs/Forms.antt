@@ -1,6 +1,6 @@
 -- The rules of fields as tests, kind by kind.
-use Rattle.std.specs.Prelude.{Bool, false, ◌&&◌}
-use Rattle.wal_record.specs.Rules.{is_change, is_limit, is_lsn_or_none, is_maybe_value, is_number, is_page, is_u32, is_u8}
+use Rattle.std.specs.Prelude.{Bool, ◌&&◌}
+use Rattle.wal_record.specs.Rules.{is_change, is_lsn_or_none, is_maybe_value, is_number, is_page, is_u8}
 use Rattle.wal_record.specs.State.{is_child, is_key, is_text}
 use Rattle.wal_record.specs.declared.record.Write.{Write}
 use Rattle.wal_record.specs.declared.record.Apply.{Apply}

@@ -1,12 +1,14 @@
 -- Texts are ordered as the numbers of their first bytes, and where these are the same as what is behind.
-use Rattle.std.proofs.Common.{◌≡◌, ◌≤◌, ◌<◌, ◌⊎◌, ◌+◌, ◌*◌, ◌^◌, ℕ, zero, suc, inl, inr, List, [], ◌∷◌, length, drop, refl, sym, ap, ◌∙◌, arith}
-use Rattle.std.specs.List.{slice_index}
+use Rattle.std.proofs.Common.{◌≡◌, ◌≤◌, ◌<◌, ◌⊎◌, ◌+◌, ◌*◌, ◌^◌, ℕ, zero, suc, inl, inr, List, [], ◌∷◌, ◌++◌, length, drop, append-nil, refl, sym, ap, ◌∙◌, arith}
+use Rattle.std.specs.List.{slice_index, slice_range}
 use Rattle.std.specs.declared.cmp.Ordering.{Ordering}
 use Rattle.std.specs.declared.cmp.Ordering.TheVariants.{Less, Equal, Greater}
 use Rattle.std.specs.Ordering.{nat_cmp, ordering_then, MatchOrdering}
 use Rattle.std.specs.Cmp.Lexicographic.{slice_cmp}
 use Rattle.std.proofs.lemmas.Cmp.{ranked}
 use Rattle.std.proofs.Math.Nat.{mul-le-mul_right}
+use Rattle.std.proofs.Math.Seq.{drop-length}
+use Rattle.std.proofs.lemmas.List.Folds.{drop_split}
 use Rattle.std.proofs.lemmas.Nat.{mul-add-lt}
 use Rattle.text_order.specs.Words.{word}
 
@@ -31,7 +33,7 @@ is_greater a b l = by (nat_cmp a b) (ranked a b (nat_cmp a b) refl)
     by Equal m = absurd (omega (arith, l, m))
     by Greater m = refl
 
-is_equal : (a : ℕ) → nat_cmp a a ≡ Equal
+pub is_equal : (a : ℕ) → nat_cmp a a ≡ Equal
 is_equal a = by (nat_cmp a a) (ranked a a (nat_cmp a a) refl)
   where
     by : (o : Ordering) → MatchOrdering o (a < a) (a ≡ a) (a < a) → o ≡ Equal
@@ -86,6 +88,10 @@ word_small : (n : ℕ) (xs : List ℕ) → AreBytes xs → word n xs < 256 ^ n
 word_small zero xs s = omega arith
 word_small (suc n) [] s = let p = word_small n [] s in let e : 256 ^ suc n ≡ 256 ^ n * 256 = grind arith in omega (arith, p, e)
 word_small (suc n) (x ∷ xs) s = let p = mul-add-lt x (256 ^ n) (word n xs) 256 (s 0) (word_small n xs (λ i. s (suc i))) in let e : 256 ^ suc n ≡ 256 ^ n * 256 = grind arith in omega (arith, p, e)
+
+-- what is left of a text behind its first n bytes
+pub rest_is : (n : ℕ) (xs : List ℕ) → n ≤ length xs → slice_range xs n (length xs) ≡ drop n xs
+rest_is n xs h = sym (drop_split xs n (length xs) h ∙ ap (λ (t : List ℕ). slice_range xs n (length xs) ++ t) (drop-length xs) ∙ append-nil (slice_range xs n (length xs)))
 
 -- what decides where the first n bytes make the same number
 abbrev behind : ℕ → List ℕ → List ℕ → Ordering

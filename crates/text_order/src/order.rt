@@ -1,5 +1,5 @@
 //! The order of two texts.
-ghost use Rattle.std.specs.Prelude.{◌≡◌, ◌<◌, IfNone, IfSome, length};
+ghost use Rattle.std.specs.Prelude.{◌≡◌, ◌<◌, ◌≤◌, IfNone, IfSome, length};
 ghost use Rattle.std.specs.Ordering.{nat_cmp};
 ghost use Rattle.std.specs.Cmp.Lexicographic.{slice_cmp};
 ghost use Rattle.text_order.specs.Words.{word};
@@ -8,7 +8,7 @@ use std::cmp::Ordering;
 
 /// The first eight bytes as a number, the first one greatest, if there are so many.
 fn first_word(text: &[u8]) -> Option<u64>
-    ensures value { IfSome result (λ n. n ≡ word 8 text.now) }
+    ensures value { IfSome result (λ n. (n ≡ word 8 text.now) × (8 ≤ length text.now)) }
     ensures short { IfNone result (length text.now < 8) }
 {
     match text {
@@ -48,13 +48,17 @@ fn word_of(text: &[u8]) -> u64
     }
 }
 
-/// The order of two texts. Most differ in their first eight bytes, so these are compared first, and in few instructions.
+/// The order of two texts. Most differ in their first eight bytes, so these are compared first, once, and in few instructions.
 pub fn compare_texts(a: &[u8], b: &[u8]) -> Ordering
     ensures { result ≡ slice_cmp nat_cmp a.now b.now }
 {
-    match (first_word(a), first_word(b)) {
-        (Some(x), Some(y)) if x != y => x.cmp(&y),
-        _ => compare_by_words(a, b),
+    let (Some(x), Some(y)) = (first_word(a), first_word(b)) else {
+        return compare_by_words(a, b);
+    };
+    if x == y {
+        compare_by_words(&a[8..], &b[8..])
+    } else {
+        x.cmp(&y)
     }
 }
 

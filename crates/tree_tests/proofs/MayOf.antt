@@ -1,5 +1,5 @@
 -- In a life of which no opening log is known such a change may be asked for.
-use Rattle.std.proofs.Common.{◌≡◌, ℕ, List, Option, Some, None, true, sym, ap, subst, ◌∙◌, refl}
+use Rattle.std.proofs.Common.{◌≡◌, ℕ, List, Option, Some, None, true, sym, subst, ◌∙◌, refl}
 use Rattle.std.specs.Prelude.{IsSome, IfSome, IsTrue}
 use Rattle.books.specs.Rights.{SessionClaim}
 use Rattle.wal_record.specs.State.{leaf_rows, live}

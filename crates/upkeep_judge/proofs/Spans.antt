@@ -1,11 +1,10 @@
 -- What runs that are gone through cover.
-use Rattle.std.proofs.Common.{◌≡◌, ℕ, zero, suc, eqb, ◌+◌, ◌-◌, ◌<◌, ◌≤◌, cond, List, [], ◌∷◌, ◌++◌, length, take, get_or, Option, Some, None, Bool, true, false, refl, sym, ap, subst, ◌∙◌, arith, length-append, append-nil}
-use Rattle.std.specs.Prelude.{filter, slice_get, nat_le, nat_lt, ◌&&◌, ◌||◌, IsTrue}
+use Rattle.std.proofs.Common.{◌≡◌, ℕ, zero, suc, eqb, ◌+◌, ◌-◌, ◌<◌, ◌≤◌, cond, List, [], ◌∷◌, ◌++◌, length, take, get_or, Option, Some, Bool, true, false, refl, sym, ap, subst, ◌∙◌, arith, length-append, append-nil}
+use Rattle.std.specs.Prelude.{filter, slice_get, nat_le, ◌&&◌, ◌||◌, IsTrue}
 use Rattle.std.specs.Option.{option_map_or}
 use Rattle.std.proofs.lemmas.Bool.Decides.{nat_tests}
 use Rattle.std.proofs.lemmas.List.Elements.{filter_more}
 use Rattle.std.proofs.lemmas.List.Filters.{length-filter_more}
-use Rattle.store_model.specs.Lists.{last_of}
 use Rattle.wal_record.specs.Sound.{RunRule, is_merge_of, is_next_run}
 use Rattle.wal_record.specs.Upkeep.{archived, in_range, last_run, standing_runs, with_run}
 use Rattle.wal_record.specs.declared.analysis.Run.{Run}

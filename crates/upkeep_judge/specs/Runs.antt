@@ -1,5 +1,5 @@
 -- What standing runs cover, item by item.
-use Rattle.std.specs.Prelude.{◌≡◌, ℕ, List, ◌+◌, nat_lt, length, filter, slice_get, Bool}
+use Rattle.std.specs.Prelude.{◌≡◌, ℕ, List, nat_lt, length, slice_get, Bool}
 use Rattle.std.specs.Option.{option_map_or}
 use Rattle.wal_record.specs.declared.analysis.Run.{Run}
 use Rattle.wal_record.specs.Upkeep.{archived}

@@ -74,6 +74,7 @@ impl<N: Life, J: Entering<N>, O: Objects<N>, L: Ledger> Bases<N, J> for VaultBas
         }
         Ok(Some(copy))
     }
+
     /// The record that the run's object has. It reads the whole object. In a life whose opening log is known the run has it.
     fn archived<R: Wait>(
         &mut self,

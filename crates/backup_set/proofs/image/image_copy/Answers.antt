@@ -1,4 +1,4 @@
-use Rattle.std.proofs.Common.{◌≡◌, ℕ, ◌≤◌, drop, inr, sym, ap, ◌∙◌, arith}
+use Rattle.std.proofs.Common.{◌≤◌, drop, inr, sym, ap, ◌∙◌, arith}
 use Rattle.std.proofs.lemmas.List.{length-drop}
 use Rattle.backup_set.specs.Reading.{next_at}
 use Rattle.backup_set.proofs.Images.{copy_next, copy_none, next_ok, next_within, page_parts}

@@ -1,4 +1,4 @@
-use Rattle.std.proofs.Common.{◌≡◌, ℕ, ◌^◌, ◌<◌, ◌/◌, sym, subst, arith}
+use Rattle.std.proofs.Common.{ℕ, ◌^◌, ◌<◌, sym, subst, arith}
 use Rattle.wal_record.specs.Upkeep.{segment_of}
 use Rattle.backup_set.specs.Backup.{IsBackup}
 use Rattle.backup_set.proofs.Answering.{bad_told, gives_copy}

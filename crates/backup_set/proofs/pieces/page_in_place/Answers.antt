@@ -1,4 +1,4 @@
-use Rattle.std.proofs.Common.{◌≡◌, ℕ, ◌<◌, List, take, Some, Ok, Err, sym, ap, subst, ◌∙◌, arith}
+use Rattle.std.proofs.Common.{ℕ, take, Some, Ok, Err, sym, ap, ◌∙◌, arith}
 use Rattle.page_image.specs.declared.sealed.Sealed.{Sealed}
 use Rattle.wal_record.specs.Upkeep.{segment_of}
 use Rattle.backup_set.specs.Answers.{place_of}

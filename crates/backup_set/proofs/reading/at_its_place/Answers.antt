@@ -1,7 +1,7 @@
-use Rattle.std.proofs.Common.{◌≡◌, ℕ, ◌<◌, List, take, drop, sym, ap, subst, ◌∙◌, arith}
+use Rattle.std.proofs.Common.{◌≡◌, ℕ, List, take, sym, ap, subst, ◌∙◌, arith}
 use Rattle.std.specs.Prelude.{IfOk, IfSome}
 use Rattle.std.proofs.lemmas.List.{take-take}
-use Rattle.media.specs.Objects.{Stored, bytes_of}
+use Rattle.media.specs.Objects.{bytes_of}
 use Rattle.store_model.specs.declared.object.ObjectName.{ObjectName}
 use Rattle.backup_set.specs.Answers.{HasAt}
 use Rattle.backup_set.specs.Backup.{backup_name}

@@ -1,5 +1,4 @@
-use Rattle.std.proofs.Common.{◌≡◌, ℕ, ◌^◌, ◌<◌, ◌/◌, List, sym, ap, subst, ◌∙◌, arith}
-use Rattle.std.specs.Prelude.{IfSome}
+use Rattle.std.proofs.Common.{ℕ, ◌^◌, ◌<◌, sym, ap, subst, arith}
 use Rattle.media.specs.Objects.{bytes_of}
 use Rattle.wal_record.specs.Upkeep.{segment_of}
 use Rattle.backup_set.specs.Answers.{HasImage}

@@ -1,4 +1,4 @@
-use Rattle.std.proofs.Common.{◌≡◌, [], ◌∷◌, refl, arith}
+use Rattle.std.proofs.Common.{[], ◌∷◌, refl, arith}
 use Rattle.backup_set.specs.declared.copy.PageCopy.{PageCopy}
 use Rattle.backup_set_tests.proofs.segments.write_one.Goals as goal
 

@@ -1,4 +1,4 @@
-use Rattle.std.proofs.Common.{◌≡◌, ℕ, eqb, cond, List, [], ◌∷◌, ◌++◌, Option, Some, None, Bool, true, false, refl, ap, ◌∙◌, eq-eqb}
+use Rattle.std.proofs.Common.{◌≡◌, ℕ, eqb, cond, List, [], ◌∷◌, ◌++◌, Some, None, Bool, true, false, refl, ap, ◌∙◌, eq-eqb}
 use Rattle.books.specs.Booking.{entry, entry_of, replaced}
 use Rattle.books.specs.declared.entry.BookEntry.{BookEntry}
 use Rattle.buffer_pool_tests.proofs.life.first_right.Goals as goal

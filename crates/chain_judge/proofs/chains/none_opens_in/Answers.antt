@@ -1,4 +1,4 @@
-use Rattle.std.proofs.Common.{◌≡◌, ap, sym, refl, ◌∙◌}
+use Rattle.std.proofs.Common.{ap, sym, ◌∙◌}
 use Rattle.chain_judge.proofs.Alone.{any_tx, none_too, opens_too}
 use Rattle.chain_judge.proofs.chains.none_opens_in.Goals as goal
 

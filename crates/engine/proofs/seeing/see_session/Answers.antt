@@ -1,4 +1,4 @@
-use Rattle.std.proofs.Common.{[], ap, subst, sym, ◌∙◌}
+use Rattle.std.proofs.Common.{[], ap, subst, ◌∙◌}
 use Rattle.page_ops.specs.Claims.{session_alone}
 use Rattle.page_ops.specs.Seeing.{Enters, known}
 use Rattle.engine.specs.Sittings.{Sitting, claim_or_none, known_by}

@@ -1,11 +1,9 @@
-use Rattle.std.proofs.Common.{rules, ◌≡◌, ◌+◌, ◌-◌, ◌<◌, ◌≤◌, ◌++◌, inl, inr, ℕ, length, refl, sym, subst, arith}
+use Rattle.std.proofs.Common.{rules, ◌+◌, ◌-◌, ◌<◌, inl, inr, length, refl, sym, subst, arith}
 use Rattle.std.proofs.lemmas.Result.{err_from_is_err_and}
 use Rattle.media.proofs.Blaming.{then_more}
-use Rattle.log_blocks.specs.LogState.{firsts}
 use Rattle.log_manager.proofs.Finding.{length-firsts}
 use Rattle.log_analysis.specs.Analysed.{IsNotAnalysed}
-use Rattle.log_analysis.specs.Taken.{GoesOnWith, IsNotTakenIn}
-use Rattle.log_analysis.specs.declared.taking.Named.{Named}
+use Rattle.log_analysis.specs.Taken.{GoesOnWith}
 use Rattle.log_analysis.proofs.Going.{knows_none}
 use Rattle.log_analysis.proofs.OpenBlocks.{begins_now, block_now, checkpoint_now, count_now, counted_now, first_now, lacks_now, named_now, needed_now, not_analysed, payload_now}
 use Rattle.log_analysis.proofs.Reading.{comes_to, lawful_block, none_read, one_more}

@@ -1,4 +1,4 @@
-use Rattle.std.proofs.Common.{◌∙◌, ap, sym, List}
+use Rattle.std.proofs.Common.{◌∙◌, ap, sym}
 use Rattle.std.specs.List.{list_any}
 use Rattle.store_model.specs.Range.{has_key}
 use Rattle.wal_record.specs.declared.record.OpenWrite.{OpenWrite}

@@ -1,4 +1,4 @@
-use Rattle.std.proofs.Common.{◌≡◌, ◌+◌, ◌<◌, length}
+use Rattle.std.proofs.Common.{◌≡◌, ◌+◌, length}
 use Rattle.log_manager.specs.LastRead.{AreStarts, IsStart}
 use Rattle.log_manager.proofs.last_read.start_of.Given as goal
 

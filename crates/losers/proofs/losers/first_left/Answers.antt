@@ -1,5 +1,4 @@
-use Rattle.std.proofs.Common.{arith, ap, not, ◌≡◌, true, false, Bool}
-use Rattle.std.proofs.lemmas.Bool.Decides.{nat_tests}
+use Rattle.std.proofs.Common.{arith, ap, not, true, false}
 use Rattle.losers.specs.Losers.{is_left}
 use Rattle.losers.proofs.Changes.{found_at, one_passed}
 use Rattle.losers.proofs.losers.first_left.Goals as goal

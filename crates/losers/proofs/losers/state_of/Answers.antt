@@ -1,4 +1,4 @@
-use Rattle.std.proofs.Common.{arith, ap, not, ◌≡◌, true, false, Bool}
+use Rattle.std.proofs.Common.{arith, true, false}
 use Rattle.std.proofs.lemmas.Bool.Decides.{nat_tests}
 use Rattle.losers.specs.Losers.{is_of, untouched}
 use Rattle.losers.proofs.Changes.{found_at, one_passed}

@@ -1,7 +1,5 @@
-use Rattle.std.proofs.Common.{ap, subst, sym, ◌∙◌}
-use Rattle.std.specs.Prelude.{◌↔◌, IsTrue, not}
+use Rattle.std.proofs.Common.{ap, sym, ◌∙◌}
 use Rattle.std.specs.List.{list_any}
-use Rattle.wal_record.specs.Legal.{IsCrowded}
 use Rattle.wal_record.specs.declared.page.PageState.{PageState}
 use Rattle.page_judge.specs.Splitting.{is_tombstone}
 use Rattle.page_judge.proofs.Leading.{crowded_leaf}

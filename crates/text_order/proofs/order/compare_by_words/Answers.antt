@@ -1,7 +1,4 @@
-use Rattle.std.proofs.Common.{◌≡◌, ◌<◌, ◌≤◌, ◌+◌, ◌++◌, ◌⊎◌, true, false, not, ℕ, List, length, drop, append-nil, inl, inr, refl, sym, ap, subst, ◌∙◌, arith}
-use Rattle.std.specs.List.{slice_range}
-use Rattle.std.proofs.Math.Seq.{drop-length}
-use Rattle.std.proofs.lemmas.List.Folds.{drop_split}
+use Rattle.std.proofs.Common.{◌≡◌, ◌<◌, ◌+◌, ◌⊎◌, true, false, not, ℕ, List, length, drop, inl, inr, refl, sym, subst, ◌∙◌, arith}
 use Rattle.std.specs.declared.cmp.Ordering.{Ordering}
 use Rattle.std.specs.declared.cmp.Ordering.TheVariants.{Less, Equal, Greater}
 use Rattle.std.specs.Ordering.{ordering_index, nat_cmp}
@@ -10,12 +7,9 @@ use Rattle.std.proofs.Math.Facts.{Fits-lt-pow}
 use Rattle.std.proofs.lemmas.List.{get_or-drop}
 use Rattle.std.specs.Cmp.Lexicographic.{slice_cmp}
 use Rattle.text_order.specs.Words.{word}
-use Rattle.text_order.proofs.Words.{AreBytes, by_words, goes_on, ends}
+use Rattle.text_order.proofs.Words.{AreBytes, by_words, goes_on, ends, rest_is}
 use Rattle.text_order.proofs.order.compare_by_words.Goals.{in_default-via-in-Some+in_default, in_default-via-in_default}
 use Rattle.text_order.proofs.order.compare_by_words.Goals as goal
-
-rest_is : (n : ℕ) (xs : List ℕ) → n ≤ length xs → slice_range xs n (length xs) ≡ drop n xs
-rest_is n xs h = sym (drop_split xs n (length xs) h ∙ ap (λ (t : List ℕ). slice_range xs n (length xs) ++ t) (drop-length xs) ∙ append-nil (slice_range xs n (length xs)))
 
 behind_bytes : (xs : List ℕ) → AreBytes xs → AreBytes (drop 8 xs)
 behind_bytes xs s i = subst (λ (x : ℕ). x < 256) (sym (get_or-drop 8 xs i 0)) (s (8 + i))

@@ -1,7 +1,6 @@
-use Rattle.std.proofs.Common.{◌≡◌, List, take, get_or, true, false, refl, sym, ◌∙◌, arith}
+use Rattle.std.proofs.Common.{◌≡◌, true, false, refl, sym, ◌∙◌, arith}
 use Rattle.wal_record.specs.Chains.{names_at}
 use Rattle.wal_record.specs.declared.record.PageLsn.{PageLsn}
-use Rattle.wal_record.specs.declared.record.Record.{Record}
 use Rattle.upkeep_judge.proofs.Pages.{all_begin, all_end, all_more, all_not}
 use Rattle.upkeep_judge.proofs.backups.are_images.Goals as goal
 

@@ -1,7 +1,4 @@
-use Rattle.std.proofs.Common.{◌≡◌, ◌≤◌, true, false, subst, sym, ◌∙◌}
-use Rattle.std.specs.Prelude.{◌||◌, IsTrue, filter}
-use Rattle.wal_record.specs.Sound.{is_merge_of, is_next_run}
-use Rattle.wal_record.specs.Upkeep.{in_range}
+use Rattle.std.proofs.Common.{◌≡◌, true, false, sym, ◌∙◌}
 use Rattle.upkeep_judge.proofs.Spans.{rule_by, rule_of}
 use Rattle.upkeep_judge.proofs.runs.may_stand.Goals as goal
 

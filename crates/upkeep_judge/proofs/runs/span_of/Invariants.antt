@@ -1,4 +1,4 @@
-use Rattle.std.proofs.Common.{◌≡◌, ◌≤◌, length, take}
+use Rattle.std.proofs.Common.{◌≤◌, take}
 use Rattle.std.specs.Prelude.{filter}
 use Rattle.wal_record.specs.Upkeep.{in_range}
 use Rattle.upkeep_judge.specs.Runs.{IsSpan}

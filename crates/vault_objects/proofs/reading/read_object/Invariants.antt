@@ -1,4 +1,4 @@
-use Rattle.std.proofs.Common.{◌≡◌, ◌≤◌, ◌*◌, length}
+use Rattle.std.proofs.Common.{◌≤◌, ◌*◌, length}
 use Rattle.media.specs.Counted.{Blames}
 use Rattle.media.specs.Objects.{SameObjects, bytes_of}
 use Rattle.vault_objects.proofs.Chunks.{IsFront}

@@ -1,4 +1,4 @@
-use Rattle.std.proofs.Common.{◌≡◌, ap, sym, refl, subst, ◌++◌, ◌∷◌, [], ℕ, Bool}
+use Rattle.std.proofs.Common.{ap, sym, subst, ◌++◌, ◌∷◌, [], ℕ, Bool}
 use Rattle.std.specs.BTreeMap.{BTreeMap}
 use Rattle.wal_record.specs.declared.record.Record.{Record}
 use Rattle.chain_judge.specs.Chains.{AreChainsOf, AreKept, is_in, last_in, writes_in}

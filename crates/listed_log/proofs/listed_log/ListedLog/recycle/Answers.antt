@@ -1,5 +1,4 @@
-use Rattle.std.proofs.Common.{◌≡◌, ℕ, List, drop, sym, ap, ◌∙◌, subst}
-use Rattle.log_blocks.specs.declared.header.Place.{Place}
+use Rattle.std.proofs.Common.{ℕ, drop, ap, ◌∙◌}
 use Rattle.log_manager.specs.Managed.{Managed, before_lsn, first_kept}
 use Rattle.wal_record.specs.Checkpoints.{recycle_point}
 use Rattle.listed_log.proofs.KeptBlocks.{first_left, kept_recycled, needed_left, stays_durable}

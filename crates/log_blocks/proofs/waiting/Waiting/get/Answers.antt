@@ -1,4 +1,4 @@
-use Rattle.std.proofs.Common.{◌≡◌, ◌-◌, ◌<◌, ◌++◌, [], List, ap, sym, ◌∙◌, subst, arith, get_or, length, length-append}
+use Rattle.std.proofs.Common.{◌≡◌, ◌-◌, ◌<◌, [], List, ap, sym, ◌∙◌, arith, get_or, length, length-append}
 use Rattle.std.proofs.lemmas.List.{get_or_read}
 use Rattle.std.proofs.Math.ListN.{get_or-append}
 use Rattle.std.proofs.Math.Seq.{get_or-append_right}

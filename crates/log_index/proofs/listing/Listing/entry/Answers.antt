@@ -1,5 +1,4 @@
-use Rattle.std.proofs.Common.{◌∙◌, ap, List}
-use Rattle.wal_record.specs.declared.analysis.PageHead.{PageHead}
+use Rattle.std.proofs.Common.{◌∙◌, ap}
 use Rattle.listing_laws.specs.Summary.{entry_at}
 use Rattle.log_index.proofs.Listings.{entry_told}
 use Rattle.log_index.proofs.listing.Listing.entry.Goals as goal

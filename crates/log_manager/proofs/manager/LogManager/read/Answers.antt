@@ -1,9 +1,9 @@
-use Rattle.std.proofs.Common.{◌≡◌, ◌<◌, ◌-◌, ◌++◌, ℕ, List, subst, ap, ◌∙◌, sym, arith, get_or, append_assoc}
+use Rattle.std.proofs.Common.{◌≡◌, ◌-◌, ◌++◌, ℕ, List, subst, ap, ◌∙◌, sym, arith, get_or, append_assoc}
 use Rattle.std.specs.Prelude.{Option, IfSome}
 use Rattle.store_model.specs.declared.fault.Fault.TheVariants as faults
 use Rattle.log_blocks.specs.Batch.{numbered}
 use Rattle.log_blocks.specs.Log.{IsRun, first_lsn, next_lsn}
-use Rattle.log_blocks.specs.LogState.{IsDurable, LogState, firsts, lsn_behind, payload_at}
+use Rattle.log_blocks.specs.LogState.{IsDurable, LogState, lsn_behind, payload_at}
 use Rattle.log_blocks.specs.Opening.{places}
 use Rattle.log_blocks.specs.declared.header.Place.{Place}
 use Rattle.log_blocks.proofs.Whole.{sequence_whole}

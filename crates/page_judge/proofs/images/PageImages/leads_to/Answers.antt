@@ -1,5 +1,5 @@
 use Rattle.std.proofs.Common.{refl, sym, ◌∙◌}
-use Rattle.wal_record.specs.Images.{CanTakeChild, OnPage, image}
+use Rattle.wal_record.specs.Images.{CanTakeChild, image}
 use Rattle.wal_record.specs.Sound.{LeadsTo}
 use Rattle.page_judge.specs.Images.{AreImagesOf}
 use Rattle.page_judge.proofs.Leading.{on_none, on_some}

@@ -1,5 +1,5 @@
 use Rattle.std.proofs.Common.{sym, ◌∙◌}
-use Rattle.wal_record.specs.Images.{OnPage, image}
+use Rattle.wal_record.specs.Images.{image}
 use Rattle.wal_record.specs.Legal.{MaySplit}
 use Rattle.page_judge.specs.Images.{AreImagesOf}
 use Rattle.page_judge.proofs.Leading.{on_none, on_some}

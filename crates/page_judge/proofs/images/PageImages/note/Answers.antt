@@ -1,4 +1,4 @@
-use Rattle.std.proofs.Common.{ap, sym, ◌∙◌}
+use Rattle.std.proofs.Common.{ap, ◌∙◌}
 use Rattle.page_judge.specs.Images.{AreImagesOf, changed_to, state_in}
 use Rattle.page_judge.proofs.Making.{images_behind}
 use Rattle.page_judge.proofs.images.PageImages.note.Goals as goal

@@ -1,4 +1,4 @@
-use Rattle.std.proofs.Common.{length, arith}
+use Rattle.std.proofs.Common.{arith}
 use Rattle.page_judge.specs.Names.{AreNamesOf}
 use Rattle.page_judge.proofs.Naming.{few_named}
 use Rattle.page_judge.proofs.names.PageNames.length_law.Goals as goal

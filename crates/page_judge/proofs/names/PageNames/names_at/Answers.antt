@@ -1,4 +1,4 @@
-use Rattle.std.proofs.Common.{◌≡◌, List, Option, false, length, take, ap, sym, ◌∙◌, arith}
+use Rattle.std.proofs.Common.{Option, false, length, take, ap, sym, ◌∙◌, arith}
 use Rattle.std.specs.Option.{option_map_or}
 use Rattle.page_judge.specs.Names.{AreNamesOf, has_page}
 use Rattle.page_judge.specs.declared.names.NamedPages.{NamedPages}

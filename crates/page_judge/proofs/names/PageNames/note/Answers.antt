@@ -1,6 +1,5 @@
-use Rattle.std.proofs.Common.{ℕ, List, ◌≡◌, length, take, ap, sym, subst, ◌∙◌, ◌-◌, arith}
+use Rattle.std.proofs.Common.{ℕ, ◌≡◌, length, take, ap, ◌∙◌, ◌-◌, arith}
 use Rattle.page_judge.specs.Names.{AreNamesOf}
-use Rattle.page_judge.specs.declared.names.NamedPages.{NamedPages}
 use Rattle.page_judge.proofs.Naming.{kept_front, kept_more, kept_still}
 use Rattle.page_judge.proofs.names.PageNames.note.Goals as goal
 

@@ -1,4 +1,4 @@
-use Rattle.std.proofs.Common.{List, ◌++◌, ◌∷◌, [], subst, sym}
+use Rattle.std.proofs.Common.{◌++◌, ◌∷◌, [], subst, sym}
 use Rattle.std.specs.Prelude.{OnOk}
 use Rattle.wal_record.specs.declared.record.Record.{Record}
 use Rattle.upkeep_judge.specs.Backups.{AreBackupsOf}
