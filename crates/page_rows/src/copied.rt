@@ -64,7 +64,7 @@ fn copied_rows(alloc: Global, rows: &Rows) -> Result<Rows, Memory>
 pub fn copied_leaf_rows(alloc: Global, rows: &[LeafRow]) -> Result<List<LeafRow>, Memory>
     ensures { IfOk result (λ r. r ≡ rows.now) }
 {
-    let mut again = List::new(alloc);
+    let mut again = Vec::with_capacity(alloc, rows.len())?;
     for row in rows {
         again.push(LeafRow {
             key: row.key.copied(),
@@ -72,19 +72,19 @@ pub fn copied_leaf_rows(alloc: Global, rows: &[LeafRow]) -> Result<List<LeafRow>
             value: row.value.copied(),
         })?;
     }
-    Ok(again)
+    Ok(List::from_vec(again))
 }
 
 /// The same rows of a branch again.
 pub fn copied_branch_rows(alloc: Global, rows: &[BranchRow]) -> Result<List<BranchRow>, Memory>
     ensures { IfOk result (λ r. r ≡ rows.now) }
 {
-    let mut again = List::new(alloc);
+    let mut again = Vec::with_capacity(alloc, rows.len())?;
     for row in rows {
         again.push(BranchRow {
             low: copied_bound(&row.low),
             child: row.child,
         })?;
     }
-    Ok(again)
+    Ok(List::from_vec(again))
 }
