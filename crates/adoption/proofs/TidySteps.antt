@@ -35,8 +35,8 @@ foster_is (Some f) page e = (f, refl, inside_some f.child page e)
 -- to a child without a foster child, or along a foster pointer
 pub goes_on : (log : List Record) (key : List ℕ) (p q : ℕ) (s t : PageState) (way : Way) → IsWay key s way → LeadsTo way q → may_adopt way t ≡ false → image log p ≡ Some s → TidyTo log key p → image log q ≡ Some t → TidyTo log key q
 goes_on log key p q s t ways.Here is leads stays here tidy there = absurd leads
-goes_on log key p q s t (ways.Child child) is leads stays here tidy there =
-    (path_goes_on_law log key p q s t).single tidy here is.own (is.row ∙ ap (λ (n : ℕ). Some n) leads) there (none_there t.foster stays)
+goes_on log key p q s t (ways.Child slot child) is leads stays here tidy there =
+    (path_goes_on_law log key p q s t).single tidy here is.0.own (is.0.row ∙ ap (λ (n : ℕ). Some n) leads) there (none_there t.foster stays)
 goes_on log key p q s t (ways.Foster child) is leads stays here tidy there =
     let f = foster_is s.foster child is.foster in
     (path_goes_on_law log key p q s t).foster tidy here is.out f.0 f.1 (f.2 ∙ leads)

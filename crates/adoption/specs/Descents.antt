@@ -66,13 +66,13 @@ BeginsTidy opens log x = (opening : List Record) → opens opening → (key : Li
 -- the way leads by a row
 abbrev pub IfByRow : Way → PageState → PageState → Type 0
 IfByRow ways.Here s t = Unit {0}
-IfByRow (ways.Child child) s t = Leads s child t
+IfByRow (ways.Child slot child) s t = Leads s child t
 IfByRow (ways.Foster child) s t = Unit {0}
 
 -- it leads by a row to a page with a foster child
 abbrev pub may_adopt : Way → PageState → Bool
 may_adopt ways.Here t = false
-may_adopt (ways.Child child) t = is_some t.foster
+may_adopt (ways.Child slot child) t = is_some t.foster
 may_adopt (ways.Foster child) t = false
 
 -- ---- what calls leave, one after the other

@@ -119,7 +119,7 @@ fn go_down<N: Life, J: Entering<N>, P: Pages<N, J>, R: Wait>(
         let way = way_from(&held.state, key);
         let child = match way {
             Way::Here => return Ok(Some(held)),
-            Way::Child(child) => child,
+            Way::Child { slot: _, page } => page,
             Way::Foster(child) => child,
         };
         held = match step(rt, alloc, pages, journal, key, held, way, child, pass)? {

@@ -6,7 +6,6 @@ ghost use Rattle.adoption.specs.Descents.{IfByRow, may_adopt};
 
 use fence_check::{check_foster, check_step};
 use foster_tree::Way;
-use page_halves::slot_of;
 use wal_record::PageState;
 
 /// Whether the page to which the way leads has the level and the fence keys that the page before promises of it.
@@ -19,7 +18,7 @@ pub(crate) fn leads(state: &PageState, key: &[u8], way: Way, next: &PageState) -
 {
     match way {
         Way::Here => false,
-        Way::Child(_) => check_step(state, slot_of(state, key), next).is_ok(),
+        Way::Child { slot, page: _ } => check_step(state, slot, next).is_ok(),
         Way::Foster(_) => check_foster(state, next).is_ok(),
     }
 }
@@ -29,7 +28,7 @@ pub(crate) fn may_adopt(way: Way, next: &PageState) -> bool
     ensures { result ≡ may_adopt way next.now }
 {
     match way {
-        Way::Child(_) => next.foster.is_some(),
+        Way::Child { slot: _, page: _ } => next.foster.is_some(),
         _ => false,
     }
 }

@@ -88,7 +88,7 @@ fn descend<N: Life, J: Entering<N>, P: Pages<N, J>, R: Wait>(
                 see_image(rt, journal, &mut held, pass);
                 return Ok(Some(held));
             }
-            Way::Child(child) => child,
+            Way::Child { slot: _, page } => page,
             Way::Foster(child) => child,
         };
         held = match step(rt, alloc, pages, journal, key, held, way, child, pass)? {

@@ -98,10 +98,10 @@ fn make_group<N: Life>(
     ensures room { OnOk result (vec_len rows.new < vec_capacity rows.new) }
 {
     rows.reserve(1)?;
-    let mut recs = List::new(alloc);
+    let mut recs = Vec::with_capacity(alloc, 1)?;
     recs.push(change.on(page))?;
     Ok(Group {
-        recs,
+        recs: List::from_vec(recs),
         said: change.said(owner),
         room: change.is_told(),
         lsn: 0,

@@ -70,7 +70,7 @@ fn order(bound: &Bound, key: &[u8]) -> Ordering
 }
 
 /// The child in a slot of a branch.
-fn child_in(rows: &Rows, slot: usize) -> PageNo
+pub fn child_in(rows: &Rows, slot: usize) -> PageNo
     requires { slot < length (branch_rows rows.now) }
     ensures { option_map (λ (row : BranchRow). row.child) (slice_get (branch_rows rows.now) slot) ≡ Some result }
 {
