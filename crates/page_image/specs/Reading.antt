@@ -4,7 +4,7 @@ use Rattle.std.specs.Prelude.{◌≡◌, ◌≢◌, ◌+◌, ℕ, List, length, 
 use Rattle.std.specs.List.{list_all}
 use Rattle.std.specs.Int.{w8, w32, w64, from_be_bytes}
 use Rattle.wal_record.specs.Rules.{is_number}
-use Rattle.wal_record.specs.Reading.{number_at, state_at}
+use Rattle.wal_record.specs.Reading.{◌>>=◌, number_at, state_at}
 use Rattle.page_image.specs.Image.{digest_of}
 use Rattle.page_image.specs.declared.sealed.Sealed.{Sealed}
 use Rattle.page_image.specs.declared.fault.PageFault.{PageFault}
