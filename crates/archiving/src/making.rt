@@ -10,7 +10,8 @@ ghost use Rattle.archiving.specs.Archives.{ArchivesNextOr, ArchivesOr, FailsToAr
 ghost use Rattle.archiving.specs.Going.{HasMadeOr, MadeAllOr, MayGoOn};
 
 use crate::gathering::gather;
-use crate::waiting::{MOST_RUNS, Waiting, is_due, what_waits};
+use crate::waiting::{Waiting, is_due, what_waits};
+use checkpoint_form::MOST_RUNS;
 use front::Pass;
 use named_objects::{Naming, Objects, name_object};
 use page_ops::{Journaling, Life};

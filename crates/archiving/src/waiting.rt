@@ -7,15 +7,13 @@ ghost use Rattle.wal_record.specs.Upkeep.{archived};
 ghost use Rattle.wal_record.specs.declared.record.Record.{Record};
 ghost use Rattle.archiving.specs.Going.{ComesNext};
 
+use checkpoint_form::MOST_RUNS;
 use front::Pass;
 use page_ops::{Journaling, Life};
 use std::alloc::Global;
 use std::sync::Wait;
 use store_model::{Fault, HIGHEST, Lsn};
 use wal_record::{Entry, Run};
-
-/// How many runs may stand.
-pub(crate) const MOST_RUNS: usize = 1_024;
 
 /// How many records wait at least where one run is made ahead of need: runs of fewer would be many small objects.
 const WAITING_RECORDS: u64 = 1_000;

@@ -8,3 +8,6 @@ pub const COUNT_AT: usize = 16;
 
 /// Where the images begin.
 pub const IMAGES_AT: usize = 20;
+
+/// The most bytes of an object: those before the images, and the images of a whole segment.
+pub const OBJECT_BYTES: usize = 65_556;

@@ -24,6 +24,7 @@ mod writing;
 
 pub use copy::PageCopy;
 pub use image::first_image;
+pub use layout::{IMAGES_AT, OBJECT_BYTES};
 pub use pieces::{image_place, object_of, page_in_object, page_in_place};
 pub use reading::read_page;
 pub use writing::{segment_bytes, write_segment};

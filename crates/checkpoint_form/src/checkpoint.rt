@@ -17,8 +17,8 @@ const MOST_USED: usize = 16_385;
 /// The most segments that a loss leaves to be restored, and one.
 const MOST_SEGMENTS: usize = 1_025;
 
-/// The most archive runs that stand.
-const MOST_RUNS: usize = 1_024;
+/// The most archive runs that stand: so many a Checkpoint lists.
+pub const MOST_RUNS: usize = 1_024;
 
 /// How many open writes the transactions have, or none where these are more than a lawful log has.
 fn pending_in(transactions: &[Unfinished]) -> Option<usize>

@@ -11,5 +11,5 @@ mod checkpoint;
 mod law;
 mod lists;
 
-pub use checkpoint::has_form;
+pub use checkpoint::{MOST_RUNS, has_form};
 pub use law::lawful_law;

@@ -15,9 +15,8 @@ ghost use Rattle.store_model.specs.declared.fault.Fault.TheVariants as answers;
 ghost use Rattle.wal_record.specs.Checkpoints.{recycle_point};
 ghost use Rattle.wal_record.specs.declared.record.Record.{Record};
 
-use crate::journal::MOST;
 use front::{Board, Mark, Pass};
-use life_history::Counts;
+use life_history::{Counts, MOST_ENTRIES};
 use listed_log::ListedLog;
 use media::Disk;
 use page_ops::{Found, Life, LogFaults};
@@ -68,7 +67,7 @@ pub(crate) fn make_room<L: Disk, N: Life>(
     ensures learns { LearnsEnd counts.old counts.new log.new.log.log.ended }
 {
     check_open(log, faults, counts)?;
-    if log.last() >= MOST {
+    if log.last() >= MOST_ENTRIES {
         return Err(Fault::Memory);
     }
     if log.spare() >= MOST_ACTIVE as usize {

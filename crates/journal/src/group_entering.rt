@@ -29,7 +29,7 @@ ghost use Rattle.journal.specs.Groups.{EndsLoser, EntersFilled, EntersNow, Group
 use crate::checkpointing::{can_spell, is_checkpoint_alone};
 use crate::ends::check_open;
 use crate::filling::{append_all, child_of, end_of};
-use crate::journal::{Journal, MOST};
+use crate::journal::Journal;
 use crate::late::first_late;
 use crate::restored::{note_group, prepare_group};
 use crate::taken::Taken;
@@ -37,7 +37,7 @@ use crate::undone::note_undone;
 use books::PageRight;
 use front::Pass;
 use group_filling::{can_fill, fill, have_numbers, is_fit, made_by, put_back};
-use life_history::Counts;
+use life_history::{Counts, MOST_ENTRIES};
 use media::Disk;
 use page_ops::{Entered, Group, Life, Rights, Said};
 use std::alloc::Global;
@@ -126,7 +126,7 @@ impl<'a, L: Disk, N: Life> Journal<'a, L, N> {
     {
         let (last, loser, prev) = (self.log.last(), end.tx, end.prev);
         let before = self.history.length();
-        if last == 0 || last >= MOST || before >= MOST {
+        if last == 0 || last >= MOST_ENTRIES || before >= MOST_ENTRIES {
             return Err(Memory);
         }
         let recs = [Record::End(end)];
@@ -198,7 +198,7 @@ impl<'a, L: Disk, N: Life> Journal<'a, L, N> {
             return self.enter_end(alloc, end, new, rights, counts);
         }
         let (last, before) = (self.log.last(), self.history.length());
-        if last == 0 || last >= MOST || before >= MOST {
+        if last == 0 || last >= MOST_ENTRIES || before >= MOST_ENTRIES {
             return Err(Memory);
         }
         if !is_fit(&self.history, rights, new, recs) || !can_spell(recs) {
@@ -240,7 +240,7 @@ impl<'a, L: Disk, N: Life> Journal<'a, L, N> {
         ensures disk { IsUntouched self.old self.new }
     {
         let last = self.log.last();
-        if last == 0 || last >= MOST {
+        if last == 0 || last >= MOST_ENTRIES {
             return Err(Memory);
         }
         let child = child_of(new);
@@ -352,7 +352,7 @@ impl<'a, L: Disk, N: Life> Journal<'a, L, N> {
         let Some(said) = &group.said else {
             return Ok(Entered::NoRoom);
         };
-        if self.history.length() >= MOST || said.tx == 0 {
+        if self.history.length() >= MOST_ENTRIES || said.tx == 0 {
             return Err(Fault::Memory);
         }
         let why = Outcome::Full {

@@ -34,7 +34,7 @@ use crate::in_way::loser_in_way;
 use books::{PageRight, SessionRight};
 use front::{Mark, Pass};
 use group_filling::have_numbers;
-use life_history::{Counts, History};
+use life_history::{Counts, History, MOST_ENTRIES};
 use listed_log::ListedLog;
 use losers::Losers;
 use media::Disk;
@@ -47,9 +47,6 @@ use std::marker::{Brand, Model};
 use std::sync::ledger::Book;
 use store_model::{Fault, KeyRange, List, Lsn, Memory, Mode, Outcome, Pos, Request, TxId};
 use wal_record::{End, Entry, Record};
-
-/// The bound of the counters, from which on nothing is begun.
-pub(crate) const MOST: u64 = 1 << 62;
 
 /// The log, the locks and the history of a life. Contracts see it as the history, the end, and what the log disk tells of its calls.
 #[derive(Drop)]
@@ -214,7 +211,7 @@ impl<'a, L: Disk, N: Life> Journal<'a, L, N> {
     {
         self.history.watch_session(s, pass, counts);
         check_open(&self.log, &mut self.faults, counts)?;
-        if self.history.length() >= MOST {
+        if self.history.length() >= MOST_ENTRIES {
             return Err(Fault::Memory);
         }
         let tx = s.tx();
@@ -265,7 +262,7 @@ impl<'a, L: Disk, N: Life> Journal<'a, L, N> {
     {
         self.history.watch_session(s, pass, counts);
         check_open(&self.log, &mut self.faults, counts)?;
-        if self.history.length() >= MOST || s.tx() == 0 {
+        if self.history.length() >= MOST_ENTRIES || s.tx() == 0 {
             return Err(Fault::Memory);
         }
         let why = Outcome::OpRefused;
@@ -421,7 +418,11 @@ impl<'a, L: Disk, N: Life> Journal<'a, L, N> {
     {
         let (last, over, prev) = (self.log.last(), end.tx, end.prev);
         let before = self.history.length();
-        if last == 0 || last >= MOST || before >= MOST || self.log.ended().is_some() {
+        if last == 0
+            || last >= MOST_ENTRIES
+            || before >= MOST_ENTRIES
+            || self.log.ended().is_some()
+        {
             return Err(Memory);
         }
         let recs = [Record::End(end)];

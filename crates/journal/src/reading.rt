@@ -17,10 +17,10 @@ ghost use Rattle.journal.specs.Lookups.{IsFoundBehind};
 ghost use Rattle.journal.specs.State.{BeginsWith, BlamesDisk, IsUntouched, KeepsBlocks, KeepsEnd, LearnsEnd, Recycles};
 
 use crate::ends::{check_open, find, recycle_log, tell_durable};
-use crate::journal::{Journal, MOST};
+use crate::journal::Journal;
 use books::PageRight;
 use front::Pass;
-use life_history::Counts;
+use life_history::{Counts, MOST_ENTRIES};
 use log_index::Listing;
 use media::Disk;
 use page_ops::{Found, Ground, Life};
@@ -169,7 +169,7 @@ impl<'a, L: Disk, N: Life> Journal<'a, L, N> {
                     self.history.look(pass, counts);
                     return Ok(None);
                 }
-                if self.history.length() >= MOST {
+                if self.history.length() >= MOST_ENTRIES {
                     self.history.look(pass, counts);
                     return Err(Fault::Memory);
                 }

@@ -7,7 +7,7 @@ ghost use Rattle.life_commands.specs.Faults.{FailsAs, IsRefusedLine};
 ghost use Rattle.life_commands.specs.Promises.{DidArmed, Refused};
 ghost use Rattle.store_pages.specs.Pages.{IsIdle};
 
-use crate::failing::{MOST, fail, is_refused};
+use crate::failing::{MOST_REFUSED, fail, is_refused};
 use crate::status::Status;
 use media::{Disk, PageDevice, Vault};
 use own_life::OwnLife;
@@ -38,7 +38,7 @@ pub fn ask_open<'a, N: Life, L: Disk, D: PageDevice, V: Vault, R: Wait>(
     ensures later { life.old.calls.own ≤ life.new.calls.own }
 {
     let before = life.refused();
-    if before >= MOST {
+    if before >= MOST_REFUSED {
         return Err(Status::Memory);
     }
     let of_vault = pages.vault_refused();

@@ -5,7 +5,7 @@ ghost use Rattle.life_commands.specs.Causes.{LifeCause};
 ghost use Rattle.life_commands.specs.Promises.{Closed, Refused};
 ghost use Rattle.store_pages.specs.Pages.{IsIdle};
 
-use crate::failing::{MOST, fail};
+use crate::failing::{MOST_REFUSED, fail};
 use crate::status::Status;
 use media::{Disk, PageDevice, Vault};
 use own_life::OwnLife;
@@ -58,7 +58,7 @@ fn close_open<'a, N: Life, L: Disk, D: PageDevice, V: Vault, R: Wait>(
     ensures later { life.old.calls.own ≤ life.new.calls.own }
 {
     let before = life.refused();
-    if before >= MOST {
+    if before >= MOST_REFUSED {
         return Err(Status::Memory);
     }
     let done = transcript::upkeep_line(alloc, Upkeep::Close)?;

@@ -6,7 +6,7 @@ ghost use Rattle.life_commands.specs.Causes.{LifeCause};
 ghost use Rattle.life_commands.specs.Promises.{Did, DidArmed, Refused};
 ghost use Rattle.store_pages.specs.Pages.{IsIdle};
 
-use crate::failing::{MOST, fail, is_refused};
+use crate::failing::{MOST_REFUSED, fail, is_refused};
 use crate::status::Status;
 use media::{Disk, PageDevice, Vault};
 use own_life::OwnLife;
@@ -31,7 +31,7 @@ pub fn commit_open<'a, N: Life, L: Disk, R: Wait>(
     ensures later { life.old.calls.own ≤ life.new.calls.own }
 {
     let before = life.refused();
-    if before >= MOST {
+    if before >= MOST_REFUSED {
         return Err(Status::Memory);
     }
     let failed = transcript::commit_failed(alloc, name)?;
@@ -62,7 +62,7 @@ pub fn abort_open<'a, N: Life, L: Disk, D: PageDevice, V: Vault, R: Wait>(
     ensures later { life.old.calls.own ≤ life.new.calls.own }
 {
     let before = life.refused();
-    if before >= MOST {
+    if before >= MOST_REFUSED {
         return Err(Status::Memory);
     }
     let of_vault = pages.vault_refused();

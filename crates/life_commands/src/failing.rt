@@ -6,8 +6,8 @@ ghost use Rattle.life_commands.specs.Faults.{FailsAs};
 use crate::status::Status;
 use store_model::Fault;
 
-/// A fuse refuses far fewer calls.
-pub const MOST: u64 = 1 << 62;
+/// From so many refused calls on a command wants memory; a fuse refuses far fewer.
+pub const MOST_REFUSED: u64 = 1 << 62;
 
 /// A call failed: a line says so, where the log disk's fuse refused it. Of so many calls before, and of so many now.
 pub fn fail(fault: Fault, failed: Vec<u8>, before: u64, now: u64) -> Result<Vec<u8>, Status>

@@ -29,5 +29,6 @@ mod storing;
 mod upkeep;
 
 pub use closing::close;
+pub use failing::MOST_REFUSED;
 pub use life::step;
 pub use status::Status;

@@ -5,7 +5,7 @@ ghost use Rattle.life_commands.specs.Causes.{LifeCause};
 ghost use Rattle.life_commands.specs.Promises.{DidArmed, Refused};
 ghost use Rattle.store_pages.specs.Pages.{IsIdle};
 
-use crate::failing::{MOST, fail, is_refused};
+use crate::failing::{MOST_REFUSED, fail, is_refused};
 use crate::status::Status;
 use media::{Disk, PageDevice, Vault};
 use own_life::OwnLife;
@@ -33,7 +33,7 @@ pub fn backup_open<'a, N: Life, L: Disk, D: PageDevice, V: Vault, R: Wait>(
     ensures later { life.old.calls.own ≤ life.new.calls.own }
 {
     let before = life.refused();
-    if before >= MOST {
+    if before >= MOST_REFUSED {
         return Err(Status::Memory);
     }
     let of_vault = pages.vault_refused();
@@ -67,7 +67,7 @@ pub fn archive_open<'a, N: Life, L: Disk, D: PageDevice, V: Vault, R: Wait>(
     ensures later { life.old.calls.own ≤ life.new.calls.own }
 {
     let before = life.refused();
-    if before >= MOST {
+    if before >= MOST_REFUSED {
         return Err(Status::Memory);
     }
     let of_vault = pages.vault_refused();

@@ -6,7 +6,7 @@ ghost use Rattle.life_commands.specs.Faults.{counts_of};
 ghost use Rattle.life_commands.specs.Promises.{Did, DidArmed, Loses, Refused};
 ghost use Rattle.store_pages.specs.Pages.{IsEmptied, IsIdle};
 
-use crate::failing::{MOST, fail, is_refused};
+use crate::failing::{MOST_REFUSED, fail, is_refused};
 use crate::status::Status;
 use media::{Disk, PageDevice, Vault};
 use own_life::OwnLife;
@@ -31,7 +31,7 @@ pub fn checkpoint_open<'a, N: Life, L: Disk, R: Wait>(
     ensures later { life.old.calls.own ≤ life.new.calls.own }
 {
     let before = life.refused();
-    if before >= MOST {
+    if before >= MOST_REFUSED {
         return Err(Status::Memory);
     }
     let done = transcript::upkeep_line(alloc, Upkeep::Checkpoint)?;
@@ -61,7 +61,7 @@ pub fn lose_open<'a, N: Life, L: Disk, D: PageDevice, V: Vault, R: Wait>(
     ensures later { life.old.calls.own ≤ life.new.calls.own }
 {
     let before = life.refused();
-    if before >= MOST {
+    if before >= MOST_REFUSED {
         return Err(Status::Memory);
     }
     let done = transcript::upkeep_line(alloc, Upkeep::Lose)?;
@@ -92,7 +92,7 @@ pub fn help_open<'a, N: Life, L: Disk, D: PageDevice, V: Vault, R: Wait>(
     ensures later { life.old.calls.own ≤ life.new.calls.own }
 {
     let before = life.refused();
-    if before >= MOST {
+    if before >= MOST_REFUSED {
         return Err(Status::Memory);
     }
     let of_vault = pages.vault_refused();

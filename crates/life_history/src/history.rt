@@ -28,14 +28,11 @@ use front::{Added, Front, Pass};
 use page_ops::{Entries, Ground, Life, Made, Rights, Said, SessionEntries};
 use std::marker::{Brand, Model};
 use std::sync::ledger;
-use store_model::{Fault, KeyRange, Lsn, Mode, Outcome, PageNo, Pos, Request, TxId};
+use store_model::{Fault, KeyRange, Lsn, MOST_ACTIVE, Mode, Outcome, PageNo, Pos, Request, TxId};
 use wal_record::{Entry, Record};
 
-/// The bound of the counters, from which on nothing is begun.
-const MOST: u64 = 1 << 62;
-
-/// So many transactions are live at most.
-const MOST_LIVE: u32 = 64;
+/// The bound of the counters of a life, of its entries, records and transactions: from it on nothing is begun.
+pub const MOST_ENTRIES: u64 = 1 << 62;
 
 /// The history of a life, its books and its numbers. Contracts see it as the list of its entries.
 #[derive(Drop)]
@@ -281,10 +278,10 @@ impl<'a, N: Life> History<'a, N> {
         ensures refused { IfErr result (λ fault. (fault ≡ faults.Memory) ⊎ (fault ≡ faults.TooManyActive)) }
     {
         self.watch_session(s, pass, counts);
-        if self.live == MOST_LIVE {
+        if self.live == MOST_ACTIVE {
             return Err(Fault::TooManyActive);
         }
-        if self.count >= MOST || self.next_tx >= MOST {
+        if self.count >= MOST_ENTRIES || self.next_tx >= MOST_ENTRIES {
             return Err(Fault::Memory);
         }
         let (tx, ground) = (self.next_tx, self.stand.ground);

@@ -29,5 +29,5 @@ mod raising;
 mod stand;
 
 pub use counts::Counts;
-pub use history::History;
+pub use history::{History, MOST_ENTRIES};
 pub use raising::{head_after, names};

@@ -6,6 +6,7 @@ ghost use Rattle.wal_record.specs.declared.record.Record.{Record};
 ghost use Rattle.opening.specs.Begins.{IsForLogFault, IsKept, IsWhyNot, MayBegin, RoseForWhy};
 ghost use Rattle.opening.specs.Bytes.{IsRead, ShowsWhy, StaysSame};
 
+use life_history::MOST_ENTRIES;
 use listed_log::ListedLog;
 use log_analysis::analyse;
 use log_blocks::{BlockLog, never_bad, one_log, open_log};
@@ -14,9 +15,6 @@ use log_manager::LogManager;
 use media::Disk;
 use std::alloc::Global;
 use store_model::Fault;
-
-/// The bound of the counters: no log comes so far.
-const MOST: u64 = 1 << 62;
 
 /// Why a log isn't opened.
 #[derive(Debug, Drop)]
@@ -66,7 +64,7 @@ pub fn read_log<L: Disk>(alloc: Global, disk: L) -> Result<ListedLog<L>, NotOpen
     if last == 0 {
         return Err(not_opened(log, WhyNot::NotFormatted));
     }
-    if last > MOST {
+    if last > MOST_ENTRIES {
         return Err(not_opened(log, WhyNot::Fault(Fault::Memory)));
     }
     match analyse(alloc, &mut log) {

@@ -13,18 +13,12 @@ ghost use Rattle.script.specs.declared.command.Command.TheVariants as commands;
 
 use crate::at::{At, Stepped};
 use crate::stop::stop;
-use life_commands::Status;
+use life_commands::{MOST_REFUSED, Status};
 use media::{Disk, PageDevice};
 use script::{Command, Device};
 use std::alloc::Global;
 use store_log::{NotOpened, Opened, make_log, open};
-use store_model::PageNo;
-
-/// The room of a store whose `format` names none.
-const ROOM: u32 = 16_384;
-
-/// A fuse refuses far fewer calls.
-const MOST: u64 = 1 << 62;
+use store_model::{LEAST_LIMIT, MOST_PAGES, PageNo};
 
 /// Carries a command out on the log disk and the data device, which has no image but those that it had.
 pub fn step<L: Disk, D: PageDevice>(
@@ -73,7 +67,8 @@ fn format<L: Disk>(alloc: Global, disk: L, limit: Option<u32>, line: u64) -> Ste
     ensures turns { (v : View L.tells) (s : Stage) → Out L.tells (seen L.Disk v) disk s → Steps L.tells (seen L.Disk v) (Begun L.tells (seen L.Disk v)) s (commands.Format limit) line result }
     ensures cause { SteppedCause L.Disk (λ b. b.log.log.device) disk result }
 {
-    let room = limit.unwrap_or(ROOM);
+    // a store whose `format` names no room has the most
+    let room = limit.unwrap_or(MOST_PAGES);
     if !is_room(room) {
         return Stepped::Ends {
             status: Status::Script { line },
@@ -81,7 +76,7 @@ fn format<L: Disk>(alloc: Global, disk: L, limit: Option<u32>, line: u64) -> Ste
         };
     }
     let refused = disk.refused();
-    if refused >= MOST {
+    if refused >= MOST_REFUSED {
         return Stepped::Ends {
             status: Status::Memory,
             disk,
@@ -104,7 +99,7 @@ fn format<L: Disk>(alloc: Global, disk: L, limit: Option<u32>, line: u64) -> Ste
 fn is_room(room: u32) -> bool
     ensures { result ≡ is_limit room }
 {
-    8 <= room && room <= ROOM
+    LEAST_LIMIT <= room && room <= MOST_PAGES
 }
 
 /// The line of a format, and the one of a format that failed.
@@ -127,7 +122,7 @@ fn opens<L: Disk>(alloc: Global, disk: L) -> Stepped<L, Opened<L>>
     ensures cause { SteppedCause L.Disk (λ b. b.log.log.device) disk result }
 {
     let refused = disk.refused();
-    if refused >= MOST {
+    if refused >= MOST_REFUSED {
         return Stepped::Ends {
             status: Status::Memory,
             disk,

@@ -11,14 +11,12 @@ ghost use Rattle.untold_journal.specs.Upkeep.{IsAloneIn, IsUpkeep};
 use crate::counts::Counts;
 use books::{Book, MaintBook, SessionBook};
 use front::{Added, Board, Front, Pass};
+use life_history::MOST_ENTRIES;
 use page_ops::{Entries, Ground, Group, Life, Rights, SessionEntries};
 use std::marker::{Brand, Model};
 use std::sync::ledger;
 use store_model::Lsn;
 use wal_record::{Entry, Record, Restored, Written};
-
-/// The bound of the number of entries.
-const MOST: u64 = 1 << 62;
 
 /// The history, to which only what the upkeep of pages enters is added. Contracts see it as its entries.
 #[derive(Drop)]
@@ -175,7 +173,7 @@ impl<'a, N: Life> Untold<'a, N> {
         ensures fresh { IsOpen counts.old × IsOpen counts.new }
     {
         self.see(rights, pass, counts);
-        if self.count >= MOST {
+        if self.count >= MOST_ENTRIES {
             return None;
         }
         self.push(entry, counts);

@@ -6,11 +6,9 @@ ghost use Rattle.wal_record.specs.declared.record.Record.{Record};
 ghost use Rattle.wal_record.specs.declared.record.Record.TheVariants as kinds;
 ghost use Rattle.upkeep_judge.specs.Runs.{IsSpan, is_above, is_below};
 
+use checkpoint_form::MOST_RUNS;
 use store_model::Lsn;
 use wal_record::{Run, RunDone};
-
-/// The most runs that may stand.
-const MOST_RUNS: usize = 1_024;
 
 /// How many runs there are, with which LSN they begin, and with which they end.
 #[derive(Clone, Copy)]

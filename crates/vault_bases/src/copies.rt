@@ -8,7 +8,9 @@ ghost use Rattle.vault_bases.specs.Named.{IsBaseIn, IsHeld};
 
 use crate::bases::VaultBases;
 use crate::reading::read_named;
-use backup_set::{first_image, image_place, object_of, page_in_object, page_in_place};
+use backup_set::{
+    IMAGES_AT, OBJECT_BYTES, first_image, image_place, object_of, page_in_object, page_in_place,
+};
 use front::Pass;
 use named_objects::Objects;
 use page_ops::{Entering, Life};
@@ -18,12 +20,6 @@ use std::sync::Wait;
 use std::sync::ledger::Ledger;
 use store_model::{Fault, PAGE_BYTES, PageNo};
 use wal_record::Entry;
-
-/// The bytes of an object before its images.
-const HEAD_BYTES: usize = 20;
-
-/// The most bytes that an object has: the head and 16 images.
-const OBJECT_BYTES: usize = 65_556;
 
 /// The page's copy, where the backup has the whole segment. It reads the object's head and one image.
 fn in_place<N: Life, J: Entering<N>, O: Objects<N>, L: Ledger, R: Wait>(
@@ -43,7 +39,7 @@ fn in_place<N: Life, J: Entering<N>, O: Objects<N>, L: Ledger, R: Wait>(
     ensures refused { IfErr result (FailsToGive N.opens bases.old.faults bases.new.faults (O.faults bases.old.objects) (O.faults bases.new.objects)) }
 {
     let name = object_of(backup, page);
-    let head = read_named(rt, alloc, journal, bases, name, 0, HEAD_BYTES, pass)?;
+    let head = read_named(rt, alloc, journal, bases, name, 0, IMAGES_AT, pass)?;
     let place = image_place(page);
     let image = read_named(rt, alloc, journal, bases, name, place, PAGE_BYTES, pass)?;
     let found = page_in_place(alloc, backup, page, &head, &image)?;

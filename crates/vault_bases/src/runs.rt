@@ -22,13 +22,8 @@ use std::alloc::Global;
 use std::sync::Wait;
 use std::sync::ledger::Ledger;
 use store_model::{Fault, Lsn, ObjectName, PageNo};
+use vault_objects::{CHUNK, MOST_CHUNKS};
 use wal_record::{Entry, Record};
-
-/// How many bytes of a run are read at a time.
-const CHUNK: usize = 65_536;
-
-/// How many of these are read at most.
-const MOST_CHUNKS: u32 = 2_048;
 
 /// All bytes of an object. One above 128 MiB, longer than any run, wants memory.
 pub(crate) fn read_whole<N: Life, J: Entering<N>, O: Objects<N>, L: Ledger, R: Wait>(

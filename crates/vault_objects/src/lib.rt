@@ -14,5 +14,5 @@ mod reading;
 mod storing;
 
 pub use fields::{this_u32_at, this_u64_at};
-pub use reading::{read_bytes, read_object, read_piece};
+pub use reading::{CHUNK, MOST_CHUNKS, read_bytes, read_object, read_piece};
 pub use storing::store_object;

@@ -9,10 +9,10 @@ use std::alloc::Global;
 use store_model::{Fault, ObjectName};
 
 /// How many bytes of an object are read at a time.
-const CHUNK: usize = 65_536;
+pub const CHUNK: usize = 65_536;
 
 /// How many of these are read at most.
-const MOST_CHUNKS: u32 = 2_048;
+pub const MOST_CHUNKS: u32 = 2_048;
 
 /// Moves the object's bytes from an offset on into `buf`, fewer than asked only at their end. An absent object has none.
 pub fn read_piece<V: Vault>(

@@ -7,8 +7,8 @@ use Rattle.life_commands.proofs.Ends.{ends_run, lacks_memory}
 use Rattle.life_commands.proofs.Faults.{by_memory, if_err, if_ok, more_refused, over}
 use Rattle.life_commands.proofs.closing.close_open.Goals as goal
 
-pub returns-then-before-ge-MOST-clause-err : goal.returns-then-before-ge-MOST-clause-err
-returns-then-before-ge-MOST-clause-err g c = λ line. lacks_memory g.L.Disk g.N.Life.opens c.args.life.now c.args.life.now refl commands.Close line
+pub returns-then-before-ge-MOST_REFUSED-clause-err : goal.returns-then-before-ge-MOST_REFUSED-clause-err
+returns-then-before-ge-MOST_REFUSED-clause-err g c = λ line. lacks_memory g.L.Disk g.N.Life.opens c.args.life.now c.args.life.now refl commands.Close line
 
 pub returns-in_err-done-clause-err : goal.returns-in_err-done-clause-err
 returns-in_err-done-clause-err g c = by_memory c.from_residual.result _ c.from_residual.ensures.1 (λ line. lacks_memory g.L.Disk g.N.Life.opens c.args.life.now c.args.life.now refl commands.Close line)

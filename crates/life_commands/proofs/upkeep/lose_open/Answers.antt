@@ -4,8 +4,8 @@ use Rattle.life_commands.proofs.Ends.{loss_ends, loss_fails, loses_line, lacks_m
 use Rattle.life_commands.proofs.Faults.{by_memory, ended_by, if_err, if_ok, more_refused}
 use Rattle.life_commands.proofs.upkeep.lose_open.Goals as goal
 
-pub returns-then-before-ge-MOST-clause-err : goal.returns-then-before-ge-MOST-clause-err
-returns-then-before-ge-MOST-clause-err g c = λ line. lacks_memory g.L.Disk g.N.Life.opens c.args.life.now c.args.life.now refl commands.Lose line
+pub returns-then-before-ge-MOST_REFUSED-clause-err : goal.returns-then-before-ge-MOST_REFUSED-clause-err
+returns-then-before-ge-MOST_REFUSED-clause-err g c = λ line. lacks_memory g.L.Disk g.N.Life.opens c.args.life.now c.args.life.now refl commands.Lose line
 
 pub returns-in_err-done-clause-err : goal.returns-in_err-done-clause-err
 returns-in_err-done-clause-err g c = by_memory c.from_residual.result _ c.from_residual.ensures.1 (λ line. lacks_memory g.L.Disk g.N.Life.opens c.args.life.now c.args.life.now refl commands.Lose line)

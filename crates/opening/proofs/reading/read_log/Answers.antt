@@ -40,7 +40,7 @@ returns-in-Ok-analyse-clause-begins g c = λ t opening stands.
     let size = last_is g.L.Disk.told g.L.Disk.may_leave c.args.disk log opening stands b.0 b.1 same c.one_log.ensures fresh numbered last c.durable_lsn-last.ensures.value in
     let next = next_is g.L.Disk.told g.L.Disk.may_leave c.args.disk log opening stands b.0 b.1 same c.one_log.ensures fresh numbered in
     let some = some_there g.L.Disk.told g.L.Disk.may_leave c.args.disk log opening stands b.0 b.1 same c.one_log.ensures fresh numbered last c.durable_lsn-last.ensures.value c.if-last-eq0.false in
-    let few : length opening ≤ 2 ^ 62 = omega (arith, size, c.if-last-gt-MOST.false) in
+    let few : length opening ≤ 2 ^ 62 = omega (arith, size, c.if-last-gt-MOST_ENTRIES.false) in
     let found = (c.in-Ok-analyse.ensures.listed t b.0 opening b.1 whole stands.sound.lawful (omega (arith, few))).0 in
     let now = c.analyse.ensures.durable t b.0 b.1 in
     let at : c.start.result.log.next ≡ length opening + 1 = ap (λ (m : Managed g.row.L.Denot). m.log.next) c.start.ensures.same ∙ next_kept log c.analyse.new.log c.analyse.ensures.same ∙ next in
@@ -64,7 +64,7 @@ returns-in-Err-analyse-clause-refused g c = λ t opening stands.
     let whole = held g.L.Disk.told g.L.Disk.may_leave c.args.disk log opening stands b.0 b.1 same c.one_log.ensures in
     let size = last_is g.L.Disk.told g.L.Disk.may_leave c.args.disk log opening stands b.0 b.1 same c.one_log.ensures c.in-Ok.ensures.fresh.0 c.durable_lsn-last.ensures.numbered c.durable_lsn-last.result c.durable_lsn-last.ensures.value in
     subst (λ (w : WhyNot). IsWhyNot opening w) (sym (ap (λ r. r.why) c.not_opened-in-Err-analyse.ensures))
-    (c.in-Err-analyse.ensures.listed t b.0 opening b.1 whole stands.sound.lawful (omega (arith, size, c.if-last-gt-MOST.false))).1
+    (c.in-Err-analyse.ensures.listed t b.0 opening b.1 whole stands.sound.lawful (omega (arith, size, c.if-last-gt-MOST_ENTRIES.false))).1
 
 pub returns-in-Err-clause-kept : goal.returns-in-Err-clause-kept
 returns-in-Err-clause-kept g c = λ t opening stands.
@@ -78,11 +78,11 @@ returns-then-last-eq0-clause-kept g c = λ t opening stands.
     subst (λ (d : g.row.L.Denot). DevicesStandFor g.L.Disk.told g.L.Disk.may_leave d opening) (sym (ap (λ r. r.disk) c.not_opened.ensures))
     (stands_open g.L.Disk.told g.L.Disk.may_leave c.args.disk log opening (kept_of g.L.Disk.told g.L.Disk.may_leave c.args.disk opening stands) b.0 b.1 (c.in-Ok.ensures.same t) c.one_log.ensures log b.1)
 
-pub returns-then-last-gt-MOST-clause-kept : goal.returns-then-last-gt-MOST-clause-kept
-returns-then-last-gt-MOST-clause-kept g c = λ t opening stands.
+pub returns-then-last-gt-MOST_ENTRIES-clause-kept : goal.returns-then-last-gt-MOST_ENTRIES-clause-kept
+returns-then-last-gt-MOST_ENTRIES-clause-kept g c = λ t opening stands.
     let log = c.in-Ok.log in
     let b = c.in-Ok.ensures.blocks t in
-    subst (λ (d : g.row.L.Denot). DevicesStandFor g.L.Disk.told g.L.Disk.may_leave d opening) (sym (ap (λ r. r.disk) c.not_opened-then-last-gt-MOST.ensures))
+    subst (λ (d : g.row.L.Denot). DevicesStandFor g.L.Disk.told g.L.Disk.may_leave d opening) (sym (ap (λ r. r.disk) c.not_opened-then-last-gt-MOST_ENTRIES.ensures))
     (stands_open g.L.Disk.told g.L.Disk.may_leave c.args.disk log opening (kept_of g.L.Disk.told g.L.Disk.may_leave c.args.disk opening stands) b.0 b.1 (c.in-Ok.ensures.same t) c.one_log.ensures log b.1)
 
 pub returns-in-Err-analyse-clause-kept : goal.returns-in-Err-analyse-clause-kept
@@ -96,9 +96,9 @@ pub returns-then-last-eq0-clause-fuse : goal.returns-then-last-eq0-clause-fuse
 returns-then-last-eq0-clause-fuse g c =
     subst (λ (r : NotOpened g.row.L.Denot). Blames g.L.Disk.passes g.L.Disk.refused g.L.Disk.own c.args.disk r.disk (IsForLogFault r.why)) (sym c.not_opened.ensures) c.in-Ok.ensures.fuse
 
-pub returns-then-last-gt-MOST-clause-fuse : goal.returns-then-last-gt-MOST-clause-fuse
-returns-then-last-gt-MOST-clause-fuse g c =
-    subst (λ (r : NotOpened g.row.L.Denot). Blames g.L.Disk.passes g.L.Disk.refused g.L.Disk.own c.args.disk r.disk (IsForLogFault r.why)) (sym c.not_opened-then-last-gt-MOST.ensures) c.in-Ok.ensures.fuse
+pub returns-then-last-gt-MOST_ENTRIES-clause-fuse : goal.returns-then-last-gt-MOST_ENTRIES-clause-fuse
+returns-then-last-gt-MOST_ENTRIES-clause-fuse g c =
+    subst (λ (r : NotOpened g.row.L.Denot). Blames g.L.Disk.passes g.L.Disk.refused g.L.Disk.own c.args.disk r.disk (IsForLogFault r.why)) (sym c.not_opened-then-last-gt-MOST_ENTRIES.ensures) c.in-Ok.ensures.fuse
 
 pub returns-in-Err-analyse-clause-fuse : goal.returns-in-Err-analyse-clause-fuse
 returns-in-Err-analyse-clause-fuse g c =
@@ -122,9 +122,9 @@ returns-then-last-eq0-clause-shows g c = λ t.
     subst (λ (r : NotOpened g.row.L.Denot). ShowsWhy (g.L.Disk.told r.disk) r.why) (sym c.not_opened.ensures)
     (shows_none g.L.Disk.told g.L.Disk.may_leave c.args.disk c.in-Ok.log (c.in-Ok.ensures.same t) b.0 b.1 c.durable_lsn-last.result c.durable_lsn-last.ensures.value c.if-last-eq0.true)
 
-pub returns-then-last-gt-MOST-clause-shows : goal.returns-then-last-gt-MOST-clause-shows
-returns-then-last-gt-MOST-clause-shows g c = λ t.
-    subst (λ (r : NotOpened g.row.L.Denot). ShowsWhy (g.L.Disk.told r.disk) r.why) (sym c.not_opened-then-last-gt-MOST.ensures) tt
+pub returns-then-last-gt-MOST_ENTRIES-clause-shows : goal.returns-then-last-gt-MOST_ENTRIES-clause-shows
+returns-then-last-gt-MOST_ENTRIES-clause-shows g c = λ t.
+    subst (λ (r : NotOpened g.row.L.Denot). ShowsWhy (g.L.Disk.told r.disk) r.why) (sym c.not_opened-then-last-gt-MOST_ENTRIES.ensures) tt
 
 pub returns-in-Err-analyse-clause-shows : goal.returns-in-Err-analyse-clause-shows
 returns-in-Err-analyse-clause-shows g c = λ t.
@@ -143,10 +143,10 @@ returns-then-last-eq0-clause-bytes g c = λ t.
     subst (λ (d : g.row.L.Denot). StaysSame g.L.Disk.told g.L.Disk.may_leave c.args.disk d) (sym (ap (λ r. r.disk) c.not_opened.ensures))
     (stays_open g.L.Disk.told g.L.Disk.may_leave c.args.disk c.in-Ok.log (c.in-Ok.ensures.same t) b.0 b.1 c.in-Ok.log b.1)
 
-pub returns-then-last-gt-MOST-clause-bytes : goal.returns-then-last-gt-MOST-clause-bytes
-returns-then-last-gt-MOST-clause-bytes g c = λ t.
+pub returns-then-last-gt-MOST_ENTRIES-clause-bytes : goal.returns-then-last-gt-MOST_ENTRIES-clause-bytes
+returns-then-last-gt-MOST_ENTRIES-clause-bytes g c = λ t.
     let b = c.in-Ok.ensures.blocks t in
-    subst (λ (d : g.row.L.Denot). StaysSame g.L.Disk.told g.L.Disk.may_leave c.args.disk d) (sym (ap (λ r. r.disk) c.not_opened-then-last-gt-MOST.ensures))
+    subst (λ (d : g.row.L.Denot). StaysSame g.L.Disk.told g.L.Disk.may_leave c.args.disk d) (sym (ap (λ r. r.disk) c.not_opened-then-last-gt-MOST_ENTRIES.ensures))
     (stays_open g.L.Disk.told g.L.Disk.may_leave c.args.disk c.in-Ok.log (c.in-Ok.ensures.same t) b.0 b.1 c.in-Ok.log b.1)
 
 pub returns-in-Err-analyse-clause-bytes : goal.returns-in-Err-analyse-clause-bytes

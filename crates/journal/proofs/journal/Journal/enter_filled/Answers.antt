@@ -45,7 +45,7 @@ invariant_of-self-2 g c =
     let k = c.self.invariant.1 in
     let done = c.in_ok-lsn.ensures in
     let lsn = c.in_ok-lsn.lsn in
-    let next = next_of g.N.Life.opens g.L.Disk.tells g.L.Disk.told g.L.Disk.may_leave c.self.inside.history c.self.inside.log.log c.self.inside.log.listing _ _ k.life.records c.last-last.ensures.next (omega (arith, c.if-last-ge-MOST.false)) done.lsn in
+    let next = next_of g.N.Life.opens g.L.Disk.tells g.L.Disk.told g.L.Disk.may_leave c.self.inside.history c.self.inside.log.log c.self.inside.log.listing _ _ k.life.records c.last-last.ensures.next (omega (arith, c.if-last-ge-MOST_ENTRIES.false)) done.lsn in
     let follows = c.requires.follows lsn (subst (λ (h : List Entry). IsNext g.N.Life.opens h lsn) (history_is _ _ c.self.view_is) next) in (
       c.self.invariant.0,
       kept_group _ _ _ _ _ _ c.self.inside.log.log _ c.self.inside.log.listing _ c.self.inside.locks c.self.inside.locks _ c.self.inside.faults.total c.self.inside.faults.total k refl lsn c.args.recs.now c.args.said.now c.enter_group.ensures.history (c.is_fit.ensures c.if-not-is_fit.false).still c.requires.few done.disk.1 done.disk.0 done.spare c.enter_group.ensures.live next
