@@ -1,5 +1,5 @@
 //! Lines, by the number of words behind the first.
-ghost use Rattle.std.specs.Prelude.{◌≡◌, IfOk};
+ghost use Rattle.std.specs.Prelude.{◌≡◌, IfOk, OnOk};
 ghost use Rattle.script.specs.Line.{upkeep, alone, with_number, or_step, with_one, with_two, with_three, with_four, parallel_of, fuse_of, device_of, asks, steps, reads, behind_one, behind_two, behind_three, by_words};
 ghost use Rattle.std.specs.Option.{option_copied};
 
@@ -75,25 +75,29 @@ fn with_number(word: &[u8], first: &[u8]) -> Option<Command>
 }
 
 #[tactic(auto, unfolding(crate::specs::Line::with_one))]
-fn with_one(alloc: Global, word: &[u8], first: &[u8]) -> Result<Option<Command>, AllocError>
-    ensures { IfOk result (λ r. r ≡ with_one word.now first.now) }
+fn with_one(
+    alloc: Global,
+    word: &[u8],
+    first: &[u8],
+    into: &mut Option<Command>,
+) -> Result<(), AllocError>
+    ensures { OnOk result (into.new ≡ with_one word.now first.now) }
 {
     if word == b"begin".as_slice() {
-        return Ok(Name::new(first).map(|name| Command::Begin(name)));
+        *into = Name::new(first).map(|name| Command::Begin(name));
+    } else if word == b"commit".as_slice() {
+        *into = Name::new(first).map(|name| Command::Commit(name));
+    } else if word == b"abort".as_slice() {
+        *into = Name::new(first).map(|name| Command::Abort(name));
+    } else if word == b"renew".as_slice() {
+        *into = device(first).map(|device| Command::Renew { device });
+    } else {
+        *into = match with_number(word, first) {
+            Some(command) => Some(command),
+            None => request_of_one(alloc, word, first)?.map(|request| Command::Step(request)),
+        };
     }
-    if word == b"commit".as_slice() {
-        return Ok(Name::new(first).map(|name| Command::Commit(name)));
-    }
-    if word == b"abort".as_slice() {
-        return Ok(Name::new(first).map(|name| Command::Abort(name)));
-    }
-    if word == b"renew".as_slice() {
-        return Ok(device(first).map(|device| Command::Renew { device }));
-    }
-    match with_number(word, first) {
-        Some(command) => Ok(Some(command)),
-        None => Ok(request_of_one(alloc, word, first)?.map(|request| Command::Step(request))),
-    }
+    Ok(())
 }
 
 fn parallel(workers: Option<u32>, retries: Option<u32>, show: bool) -> Option<Command>
@@ -118,14 +122,15 @@ fn fuse(first: &[u8], calls: Option<u64>) -> Option<Command>
     }
 }
 
-fn asks(name: &[u8], request: Option<Request>) -> Option<Command>
-    ensures { result ≡ asks name.now request }
+/// A request of the transaction that a word names.
+fn asks(name: &[u8], request: Option<Request>, into: &mut Option<Command>)
+    ensures { into.new ≡ asks name.now request }
 {
     match request {
-        None => None,
+        None => *into = None,
         Some(request) => match Name::new(name) {
-            None => None,
-            Some(name) => Some(Command::Ask(name, request)),
+            None => *into = None,
+            Some(name) => *into = Some(Command::Ask(name, request)),
         },
     }
 }
@@ -136,23 +141,25 @@ fn with_two(
     word: &[u8],
     first: &[u8],
     second: &[u8],
-) -> Result<Option<Command>, AllocError>
-    ensures { IfOk result (λ r. r ≡ with_two word.now first.now second.now) }
+    into: &mut Option<Command>,
+) -> Result<(), AllocError>
+    ensures { OnOk result (into.new ≡ with_two word.now first.now second.now) }
 {
     if word == b"fuse".as_slice() {
-        return Ok(fuse(first, number_in(second)));
-    }
-    if word == b"parallel".as_slice() {
-        return Ok(parallel(
+        *into = fuse(first, number_in(second));
+    } else if word == b"parallel".as_slice() {
+        *into = parallel(
             number_from(1, 16, first),
             number_from(0, 1_000_000, second),
             false,
-        ));
+        );
+    } else {
+        match request_of_two(alloc, word, first, second)? {
+            Some(request) => *into = Some(Command::Step(request)),
+            None => asks(first, request_of_one(alloc, word, second)?, into),
+        }
     }
-    match request_of_two(alloc, word, first, second)? {
-        Some(request) => Ok(Some(Command::Step(request))),
-        None => Ok(asks(first, request_of_one(alloc, word, second)?)),
-    }
+    Ok(())
 }
 
 #[tactic(auto, unfolding(crate::specs::Line::with_three))]
@@ -162,23 +169,26 @@ fn with_three(
     first: &[u8],
     second: &[u8],
     third: &[u8],
-) -> Result<Option<Command>, AllocError>
-    ensures { IfOk result (λ r. r ≡ with_three word.now first.now second.now third.now) }
+    into: &mut Option<Command>,
+) -> Result<(), AllocError>
+    ensures { OnOk result (into.new ≡ with_three word.now first.now second.now third.now) }
 {
     if word == b"parallel".as_slice() {
+        *into = None;
         if third == b"show".as_slice() {
-            return Ok(parallel(
+            *into = parallel(
                 number_from(1, 16, first),
                 number_from(0, 1_000_000, second),
                 true,
-            ));
+            );
         }
-        return Ok(None);
+        return Ok(());
     }
     match request_of_three(alloc, word, first, second, third)? {
-        Some(request) => Ok(Some(Command::Step(request))),
-        None => Ok(asks(first, request_of_two(alloc, word, second, third)?)),
+        Some(request) => *into = Some(Command::Step(request)),
+        None => asks(first, request_of_two(alloc, word, second, third)?, into),
     }
+    Ok(())
 }
 
 #[tactic(auto, unfolding(crate::specs::Line::with_four))]
@@ -189,10 +199,16 @@ fn with_four(
     second: &[u8],
     third: &[u8],
     fourth: &[u8],
-) -> Result<Option<Command>, AllocError>
-    ensures { IfOk result (λ r. r ≡ with_four word.now first.now second.now third.now fourth.now) }
+    into: &mut Option<Command>,
+) -> Result<(), AllocError>
+    ensures { OnOk result (into.new ≡ with_four word.now first.now second.now third.now fourth.now) }
 {
-    Ok(asks(first, request_of_three(alloc, word, second, third, fourth)?))
+    asks(
+        first,
+        request_of_three(alloc, word, second, third, fourth)?,
+        into,
+    );
+    Ok(())
 }
 
 fn behind_three(
@@ -202,12 +218,13 @@ fn behind_three(
     second: &[u8],
     third: &[u8],
     rest: Option<&[u8]>,
-) -> Result<Option<Command>, AllocError>
-    ensures { IfOk result (λ r. r ≡ behind_three word.now first.now second.now third.now (option_copied rest.entry)) }
+    into: &mut Option<Command>,
+) -> Result<(), AllocError>
+    ensures { OnOk result (into.new ≡ behind_three word.now first.now second.now third.now (option_copied rest.entry)) }
 {
     match rest {
-        None => with_three(alloc, word, first, second, third),
-        Some(fourth) => with_four(alloc, word, first, second, third, fourth),
+        None => with_three(alloc, word, first, second, third, into),
+        Some(fourth) => with_four(alloc, word, first, second, third, fourth, into),
     }
 }
 
@@ -217,14 +234,15 @@ fn behind_two(
     first: &[u8],
     second: &[u8],
     rest: Option<&[u8]>,
-) -> Result<Option<Command>, AllocError>
-    ensures { IfOk result (λ r. r ≡ behind_two word.now first.now second.now (option_copied rest.entry)) }
+    into: &mut Option<Command>,
+) -> Result<(), AllocError>
+    ensures { OnOk result (into.new ≡ behind_two word.now first.now second.now (option_copied rest.entry)) }
 {
     match rest {
-        None => with_two(alloc, word, first, second),
+        None => with_two(alloc, word, first, second, into),
         Some(rest) => {
             let (third, rest) = cut(rest);
-            behind_three(alloc, word, first, second, third, rest)
+            behind_three(alloc, word, first, second, third, rest, into)
         }
     }
 }
@@ -234,26 +252,36 @@ fn behind_one(
     word: &[u8],
     first: &[u8],
     rest: Option<&[u8]>,
-) -> Result<Option<Command>, AllocError>
-    ensures { IfOk result (λ r. r ≡ behind_one word.now first.now (option_copied rest.entry)) }
+    into: &mut Option<Command>,
+) -> Result<(), AllocError>
+    ensures { OnOk result (into.new ≡ behind_one word.now first.now (option_copied rest.entry)) }
 {
     match rest {
-        None => with_one(alloc, word, first),
+        None => with_one(alloc, word, first, into),
         Some(rest) => {
             let (second, rest) = cut(rest);
-            behind_two(alloc, word, first, second, rest)
+            behind_two(alloc, word, first, second, rest, into)
         }
     }
 }
 
-fn by_words(alloc: Global, word: &[u8], rest: Option<&[u8]>) -> Result<Option<Command>, AllocError>
-    ensures { IfOk result (λ r. r ≡ by_words word.now (option_copied rest.entry)) }
+/// Reads a command into its place. It has some 400 bytes, and each function that hands it on would move it.
+fn by_words(
+    alloc: Global,
+    word: &[u8],
+    rest: Option<&[u8]>,
+    into: &mut Option<Command>,
+) -> Result<(), AllocError>
+    ensures { OnOk result (into.new ≡ by_words word.now (option_copied rest.entry)) }
 {
     match rest {
-        None => Ok(alone(word)),
+        None => {
+            *into = alone(word);
+            Ok(())
+        }
         Some(rest) => {
             let (first, rest) = cut(rest);
-            behind_one(alloc, word, first, rest)
+            behind_one(alloc, word, first, rest, into)
         }
     }
 }
@@ -268,7 +296,9 @@ pub fn command_of(alloc: Global, line: &[u8]) -> Result<Option<Command>, AllocEr
         [b'#', ..] => Ok(Some(Command::Nothing)),
         _ => {
             let (word, rest) = cut(line);
-            by_words(alloc, word, rest)
+            let mut command = None;
+            by_words(alloc, word, rest, &mut command)?;
+            Ok(command)
         }
     }
 }
