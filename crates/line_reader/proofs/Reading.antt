@@ -1,13 +1,10 @@
 -- A line that is read part by part.
-use Rattle.std.proofs.Common.{◌≡◌, ◌+◌, ◌-◌, ◌<◌, ◌≤◌, ℕ, zero, suc, Bool, true, false, List, [], ◌∷◌, ◌++◌, Some, None, refl, sym, ap, subst, ◌∙◌, arith, ◌⊎◌, inl, inr, ⊎_elim, append_assoc, append-nil, length, length-append, nat_le, take, drop, get_or, take-append-drop}
-use Rattle.std.specs.Prelude.{Option, min, position, ◌||◌, if◌then◌else◌}
-use Rattle.std.specs.List.{position_or_len}
-use Rattle.std.proofs.lemmas.Grind.{common_steps}
+use Rattle.std.proofs.Common.{◌≡◌, ◌+◌, ◌-◌, ◌<◌, ◌≤◌, ℕ, zero, suc, Bool, true, false, List, [], ◌∷◌, ◌++◌, Some, None, refl, sym, ap, subst, ◌∙◌, arith, inl, inr, ⊎_elim, append_assoc, append-nil, length, length-append, nat_le, take, drop, get_or, take-append-drop}
+use Rattle.std.specs.Prelude.{Option, min, ◌||◌, if◌then◌else◌}
+use Rattle.memchr.specs.Find.{IsFirstByte, is_byte}
 use Rattle.std.proofs.Math.Seq.{take-length, drop-append_seam, drop-nil}
 use Rattle.std.proofs.lemmas.List.{length-take, length-take-le, drop-take, drop_all}
 use Rattle.std.proofs.lemmas.List.Folds.{list_any-append}
-use Rattle.std.proofs.lemmas.List.Quantifiers.{position-Some}
-use Rattle.std.proofs.lemmas.List.Sums.{fails_before_first}
 use Rattle.std.specs.Io.KnownBytes.{Consumes, IsAtEnd, prepend_known}
 use Rattle.std.specs.Global.{Vec}
 use Rattle.std.proofs.KnownBytes.{Consumes-trans}
@@ -22,28 +19,31 @@ front_none bytes zero l none = refl
 front_none [] (suc n) l none = absurd (omega (arith, l))
 front_none (b ∷ bytes) (suc n) l none = (λ i. none 0 (omega arith) i || has_end (take n bytes)) ∙ front_none bytes n (omega (arith, l)) (λ k less. none (suc k) (omega (arith, less)))
 
+-- what doesn't end a line
+is_none : (bytes : List ℕ) (k : ℕ) → (is_end (get_or bytes k 0) ≡ true → ⊥) → is_end (get_or bytes k 0) ≡ false
+is_none bytes k not = by (is_end (get_or bytes k 0)) not
+  where
+    by : (b : Bool) → (b ≡ true → ⊥) → b ≡ false
+    by true not = absurd (not refl)
+    by false not = refl
+
 -- no line end
-pub no_end : (bytes : List ℕ) → position is_end bytes ≡ None → IsFront bytes bytes false
-no_end bytes e = record {
+pub no_end : (bytes : List ℕ) → IsFirstByte (is_byte 10) bytes None → IsFront bytes bytes false
+no_end bytes none = record {
   rest = [];
   whole = sym (append-nil bytes);
-  one = ap has_end (sym (take-length bytes)) ∙ front_none bytes (length bytes) (omega arith) (λ k less. fails_before_first is_end bytes k 0 (omega (arith, less, far)));
+  one = ap has_end (sym (take-length bytes)) ∙ front_none bytes (length bytes) (omega arith) (λ k less. is_none bytes k (none k (omega arith) less));
   next = refl;
 }
-  where
-    far : length bytes ≤ position_or_len is_end bytes
-    far = grind (arith, common_steps, e)
 
 -- a line end at this place
-pub an_end : (bytes : List ℕ) (i : ℕ) → position is_end bytes ≡ Some i → IsFront bytes (take i bytes) true
-an_end bytes i e =
-    let found = position-Some is_end bytes i 0 e in
-    record {
-      rest = drop i bytes;
-      whole = sym (take-append-drop i bytes);
-      one = front_none bytes i (omega (arith, found.0)) found.2;
-      next = (drop (suc i) bytes, here bytes i found.0 found.1);
-    }
+pub an_end : (bytes : List ℕ) (i : ℕ) → IsFirstByte (is_byte 10) bytes (Some i) → IsFront bytes (take i bytes) true
+an_end bytes i (first, is) = record {
+  rest = drop i bytes;
+  whole = sym (take-append-drop i bytes);
+  one = front_none bytes i (omega (arith, first.high)) (λ k less. is_none bytes k (first.before k (omega arith) less));
+  next = (drop (suc i) bytes, here bytes i first.high is);
+}
   where
     here : (bytes : List ℕ) (i : ℕ) → i < length bytes → is_end (get_or bytes i 0) ≡ true → drop i bytes ≡ 10 ∷ drop (suc i) bytes
     here [] i l is = absurd (omega (arith, l))

@@ -1,13 +1,14 @@
 //! The lines of a source.
-ghost use Rattle.std.specs.Prelude.{◌≡◌, ◌≤◌, ◌+◌, ◌<◌, IfErr, IfOk, IfSome, drop, length, nat_le, position, if◌then◌else◌};
+ghost use Rattle.std.specs.Prelude.{◌≡◌, ◌≤◌, ◌+◌, ◌<◌, IfErr, IfOk, drop, length, nat_le, if◌then◌else◌};
 ghost use Rattle.line_reader.specs.declared.input.Next.TheVariants as nexts;
 ghost use Rattle.std.specs.Io.{ReadsAtMost};
 ghost use Rattle.std.specs.Io.KnownBytes.{ReadConsumes};
 ghost use Rattle.media.specs.Cause.{HasCause, Rose};
-ghost use Rattle.line_reader.specs.Lines.{Fills, GivesPart, IsFront, TakesLine, IsBounded, IsReadFault, ended, first_reader, is_end, longest_script};
+ghost use Rattle.line_reader.specs.Lines.{Fills, GivesPart, IsFront, TakesLine, IsBounded, IsReadFault, ended, first_reader, longest_script};
 
 use crate::refusal::NotRead;
 use media::{Failed, Source};
+use memchr::memchr;
 use std::alloc::{AllocError, Global};
 use std::marker::Model;
 
@@ -199,20 +200,13 @@ impl Input {
 fn before_end(bytes: &[u8]) -> (&[u8], bool)
     ensures { IsFront bytes.now result.0.now result.1 }
 {
-    match line_end(bytes) {
+    match memchr(b'\n', bytes) {
         None => (bytes, false),
         Some(i) => {
             let (front, _) = bytes.split_at(i);
             (front, true)
         }
     }
-}
-
-fn line_end(bytes: &[u8]) -> Option<usize>
-    ensures place { result ≡ position is_end bytes.now }
-    ensures within { IfSome result (λ i. i < length bytes.now) }
-{
-    bytes.iter().position(|byte| *byte == b'\n')
 }
 
 /// The input ends behind these bytes of a line.

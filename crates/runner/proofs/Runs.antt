@@ -1,6 +1,9 @@
 -- A run, turn by turn.
 use Rattle.std.proofs.Common.{◌≡◌, ◌≤◌, ℕ, ◌+◌, Bool, true, false, List, [], ◌∷◌, ◌++◌, Option, Some, None, Ok, Err, refl, sym, ap, subst, ◌∙◌, arith, inl, inr, ⊎_elim, append_assoc, append-nil, length, length-append}
-use Rattle.std.specs.Prelude.{◌⊎◌, codes}
+use Rattle.std.specs.Prelude.{IfOk, codes}
+use Rattle.std.specs.Option.{option_map}
+use Rattle.std.specs.Global.{Vec}
+use Rattle.std.specs.declared.result.Result.{Result}
 use Rattle.std.specs.List.{All}
 use Rattle.std.proofs.lemmas.List.Elements.{All-nil}
 use Rattle.std.specs.Io.KnownBytes.{Appends, Consumes, IsAtEnd, prepend_known}
@@ -30,7 +33,7 @@ use Rattle.runner.specs.declared.at.At.{At}
 use Rattle.life_commands.specs.Bytes.{Bytes, Known}
 use Rattle.life_commands.specs.LogDisk.{Leaves}
 use Rattle.runner.specs.Cuts.{MayCut}
-use Rattle.runner.specs.Clause.{IsNext, IsPrefix, Partly, BadLine, Unlawful, OfCommand, NextLine, Ended, HandsBack, Headline, Between, Asked, AtRest, Closing, Stopping, TakesCommand, Whatever}
+use Rattle.runner.specs.Clause.{IsNext, IsPrefix, Partly, Unlawful, OfCommand, NextLine, Ended, HandsBack, Headline, Between, Asked, AtRest, Closing, IsUnread, Stopping, TakesNone, TakesText, Whatever}
 use Rattle.runner.proofs.Stages.{cut_bytes, life_still}
 use Rattle.runner.proofs.Turning.{stage_push, text_push, fits_push, script_push}
 
@@ -61,10 +64,16 @@ pub record TookNext (old new : Reader) (lo ln : Option (List ℕ)) (next : Comma
   pub built : is_built line.line ≡ true
   pub number : next.1 ≡ old.lines + 1
 
-pub took : (old new : Reader) (lo ln : Option (List ℕ)) (o : Option (Command × ℕ)) (next : Command × ℕ) → o ≡ Some next → TakesCommand old new lo ln (Ok o) → TookNext old new lo ln next
-took old new lo ln o next is t =
-    let u = subst (λ (x : Option (Command × ℕ)). TakesCommand old new lo ln (Ok x)) is t in
-    record { line = record { line = u.0; took = u.1; one = u.2; said = u.4; size = u.7; within = u.8; count = u.6 }; built = u.3; number = u.5 }
+-- the text of a line, and its number, as they are read
+abbrev pub texts : Option (Vec ℕ × ℕ) → Option (List ℕ × ℕ)
+texts = option_map (λ (n : Vec ℕ × ℕ). (n.0.items, n.1))
+
+pub took : {E : Type 0} (old new : Reader) (lo ln : Option (List ℕ)) (o : Option (Vec ℕ × ℕ)) (next : Vec ℕ × ℕ) (line : List ℕ) (r : Result (Option Command) E) (c : Command)
+    → o ≡ Some next → TakesText old new lo ln (texts o) → line ≡ next.0.items → IfOk r (λ x. x ≡ reads line) → r ≡ Ok (Some c) → TookNext old new lo ln (c, next.1)
+took {E = E} old new lo ln o next line r c is t same said read =
+    let u = subst (λ (x : Option (Vec ℕ × ℕ)). TakesText old new lo ln (texts x)) is t in
+    let s = subst (λ (x : Result (Option Command) E). IfOk x (λ y. y ≡ reads line)) read said in
+    record { line = record { line = next.0.items; took = u.0; one = u.1; said = sym (s ∙ ap reads same); size = u.5; within = u.6; count = u.4 }; built = u.2; number = u.3 }
 
 -- a line that was asked for
 pub asked_line : {tells : Type 0} {start : Start} {H : Stage → Type 0} {left0 told0 left told : Option (List ℕ)} {reader : Reader} {turns : List Turn} {c : Command}
@@ -143,18 +152,35 @@ module _ {D S : Type 0} {start : Start} {H : Stage → Type 0} {left0 told0 lo t
     pub at_end : Consumes (to_come old lo) (to_come new ln) [] × IsAtEnd (to_come new ln) × (new.taken ≡ old.taken) → Ends disk beside told statuses.Done
     at_end h = stop_here [] statuses.Done refl h.0 (omega (arith, h.2)) (refl, refl, h.1)
 
-    -- no command is read
-    pub no_line : (status : Status) (before now : ℕ) → TakesCommand old new lo ln (Err status) → LineCause before now status → Ends disk beside told status
+    -- no line is read
+    pub no_line : (status : Status) (before now : ℕ) → TakesNone old new lo ln status → LineCause before now status → Ends disk beside told status
     no_line statuses.Memory before now (rest, took, size) why = no_memory rest took size
     no_line statuses.SourceFault before now (rest, took, size) why = stop_here rest statuses.SourceFault refl took size refl
     no_line (statuses.NotBuilt n) before now (is, bytes, took, one, size, within, unbuilt) why =
         stop_here (bytes ++ 10 ∷ []) (statuses.NotBuilt n) refl took (omega (arith, size, length-append bytes (10 ∷ []))) (refl, at_line n is, (bytes, record { is = refl; one = one; within = omega (arith, within, size, b.size, length-append bytes (10 ∷ [])) }, unbuilt))
-    no_line (statuses.Script n) before now (is, rest, took, size, bad) why = stop_here rest (statuses.Script n) refl took size (refl, at_line n is, by bad)
-      where
-        by : ((bytes : List ℕ) × (rest ≡ bytes ++ 10 ∷ []) × IsLine bytes × (is_built bytes ≡ true) × (reads bytes ≡ None) × (new.taken ≤ longest_script)) ⊎ IsNoLine old.taken rest (to_come new ln) → BadLine (stage start turns) (length b.read) rest (to_come new ln)
-        by (inl (bytes, whole, one, built, none, within)) = inl (bytes, record { is = whole; one = one; within = omega (arith, within, size, b.size) }, built, subst (Unlawful (stage start turns)) (sym none) tt)
-        by (inr bad) = inr (subst (λ (n : ℕ). IsNoLine n rest (to_come new ln)) b.size bad)
+    no_line (statuses.Script n) before now (is, rest, took, size, bad) why =
+        stop_here rest (statuses.Script n) refl took size (refl, at_line n is, inr (subst (λ (n : ℕ). IsNoLine n rest (to_come new ln)) b.size bad))
     no_line _ before now took why = absurd why
+
+    -- a line is no command, or memory ran out as it was read
+    pub no_command : {E : Type 0} (o : Option (Vec ℕ × ℕ)) (next : Vec ℕ × ℕ) (line : List ℕ) (r : Result (Option Command) E) (status : Status)
+        → o ≡ Some next → TakesText old new lo ln (texts o) → line ≡ next.0.items → IfOk r (λ x. x ≡ reads line) → IsUnread r next.1 status → Ends disk beside told status
+    no_command {E = E} o next line r status is t same said why = by r said why
+      where
+        bytes : List ℕ
+        bytes = next.0.items
+
+        u : TakesText old new lo ln (Some (bytes, next.1))
+        u = subst (λ (x : Option (Vec ℕ × ℕ)). TakesText old new lo ln (texts x)) is t
+
+        size : new.taken ≡ old.taken + length (bytes ++ 10 ∷ [])
+        size = omega (arith, u.5, length-append bytes (10 ∷ []))
+
+        by : (r : Result (Option Command) E) → IfOk r (λ x. x ≡ reads line) → IsUnread r next.1 status → Ends disk beside told status
+        by (Ok (Some c)) said why = absurd why
+        by (Ok None) said why = subst (λ (s : Status). Ends disk beside told s) (sym why)
+            (stop_here (bytes ++ 10 ∷ []) (statuses.Script next.1) refl u.0 size (refl, at_line next.1 u.3, inl (bytes, record { is = refl; one = u.1; within = omega (arith, u.6, u.5, b.size, length-append bytes (10 ∷ [])) }, u.2, subst (Unlawful (stage start turns)) (said ∙ ap reads same) tt)))
+        by (Err e) said why = subst (λ (s : Status). Ends disk beside told s) (sym why) (no_memory (bytes ++ 10 ∷ []) u.0 size)
 
   -- ---- a line with its command
 

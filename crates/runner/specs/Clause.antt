@@ -139,16 +139,24 @@ pub record Between (tells : Type 0) (start : Start) (H : Stage → Type 0) (left
   pub holds : H (stage start turns)
   pub wrote : Appends told0 told (text start turns)
 
--- the command of the next line, and that line's number
-abbrev pub TakesCommand : Reader → Reader → Option (List ℕ) → Option (List ℕ) → Result (Option (Command × ℕ)) Status → Type 0
-TakesCommand old new left_old left_new (Ok None) = Consumes (to_come old left_old) (to_come new left_new) [] × IsAtEnd (to_come new left_new) × (new.taken ≡ old.taken)
-TakesCommand old new left_old left_new (Ok (Some (c, line))) = (bytes : List ℕ) × Consumes (to_come old left_old) (to_come new left_new) (bytes ++ 10 ∷ []) × IsLine bytes × (is_built bytes ≡ true) × (reads bytes ≡ Some c)
+-- the text of the next line, whose first word is built, and that line's number; or the input is at its end
+abbrev pub TakesText : Reader → Reader → Option (List ℕ) → Option (List ℕ) → Option (List ℕ × ℕ) → Type 0
+TakesText old new left_old left_new None = Consumes (to_come old left_old) (to_come new left_new) [] × IsAtEnd (to_come new left_new) × (new.taken ≡ old.taken)
+TakesText old new left_old left_new (Some (bytes, line)) = Consumes (to_come old left_old) (to_come new left_new) (bytes ++ 10 ∷ []) × IsLine bytes × (is_built bytes ≡ true)
     × (line ≡ old.lines + 1) × (new.lines ≡ old.lines + 1) × (new.taken ≡ old.taken + length bytes + 1) × (new.taken ≤ longest_script)
-TakesCommand old new left_old left_new (Err (statuses.Script n)) = (n ≡ old.lines + 1) × (rest : List ℕ) × Consumes (to_come old left_old) (to_come new left_new) rest × (new.taken ≡ old.taken + length rest)
-    × (((bytes : List ℕ) × (rest ≡ bytes ++ 10 ∷ []) × IsLine bytes × (is_built bytes ≡ true) × (reads bytes ≡ None) × (new.taken ≤ longest_script)) ⊎ IsNoLine old.taken rest (to_come new left_new))
-TakesCommand old new left_old left_new (Err (statuses.NotBuilt n)) = (n ≡ old.lines + 1) × (bytes : List ℕ) × Consumes (to_come old left_old) (to_come new left_new) (bytes ++ 10 ∷ []) × IsLine bytes
+
+-- why no such line was read
+abbrev pub TakesNone : Reader → Reader → Option (List ℕ) → Option (List ℕ) → Status → Type 0
+TakesNone old new left_old left_new (statuses.Script n) = (n ≡ old.lines + 1) × (rest : List ℕ) × Consumes (to_come old left_old) (to_come new left_new) rest × (new.taken ≡ old.taken + length rest) × IsNoLine old.taken rest (to_come new left_new)
+TakesNone old new left_old left_new (statuses.NotBuilt n) = (n ≡ old.lines + 1) × (bytes : List ℕ) × Consumes (to_come old left_old) (to_come new left_new) (bytes ++ 10 ∷ []) × IsLine bytes
     × (new.taken ≡ old.taken + length bytes + 1) × (new.taken ≤ longest_script) × (is_built bytes ≡ false)
-TakesCommand old new left_old left_new (Err e) = (rest : List ℕ) × Consumes (to_come old left_old) (to_come new left_new) rest × (new.taken ≡ old.taken + length rest)
+TakesNone old new left_old left_new status = (rest : List ℕ) × Consumes (to_come old left_old) (to_come new left_new) rest × (new.taken ≡ old.taken + length rest)
+
+-- why what was read of the line with this number is no command
+abbrev pub IsUnread : {E : Type 0} → Result (Option Command) E → ℕ → Status → Type 0
+IsUnread (Ok (Some c)) line status = ⊥
+IsUnread (Ok None) line status = status ≡ statuses.Script line
+IsUnread (Err why) line status = status ≡ statuses.Memory
 
 -- one line, behind which a run goes on, and the vault's fuse is armed or not, or has ended
 abbrev pub TurnedTo : {D S G : Type 0} → Type 0 → Ghosts D → Stores S → Start → (G → Stage → Type 0) → S → Bool → Option (List ℕ) → Option (List ℕ) → Reader → List Turn → Option (List ℕ) → Option (List ℕ) → Turned D G → Type 0

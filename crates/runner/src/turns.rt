@@ -1,12 +1,13 @@
 //! One line of a run.
-ghost use Rattle.std.specs.Prelude.{◌≡◌, ◌≤◌, ℕ, List, Option, IfErr};
+ghost use Rattle.std.specs.Prelude.{◌≡◌, ◌≤◌, ℕ, List, Ok, Option, Some, IfErr, IfOk};
+ghost use Rattle.std.specs.Option.{option_map};
 ghost use Rattle.line_reader.specs.Lines.{IsBounded};
 ghost use Rattle.life_commands.specs.LogDisk.{View, IsWhole, seen};
 ghost use Rattle.life_commands.specs.Stores.{stores};
 ghost use Rattle.life_commands.specs.Turns.{Start, Turn};
 ghost use Rattle.life_commands.specs.Living.{Out, Within};
 ghost use Rattle.wal_record.specs.declared.record.Record.{Record};
-ghost use Rattle.runner.specs.Clause.{Between, PassedTo, TakesCommand, TurnedTo};
+ghost use Rattle.runner.specs.Clause.{Between, IsUnread, PassedTo, TakesNone, TakesText, TurnedTo};
 ghost use Rattle.runner.specs.Devices.{AreDevicesOf, Stored};
 ghost use Rattle.runner.specs.Machine.{Begun};
 ghost use Rattle.runner.specs.Vault.{Arms, Cycles, WithVault, armed_after, armed_by};
@@ -22,7 +23,7 @@ use media::{Disk, PageDevice, Sink, Source, Vault, write_all};
 use own_life::OwnLife;
 use page_ops::Life;
 use script::{Command, Device, command_of};
-use std::alloc::Global;
+use std::alloc::{AllocError, Global};
 use std::sync::Wait;
 use store_log::Opened;
 use store_pages::StorePages;
@@ -61,7 +62,7 @@ pub fn turn_outside<S: Source, K: Sink, V: Vault, L: Disk, D: PageDevice>(
     ensures later { (S.faults source.old ≤ S.faults source.new) × (K.faults sink.old ≤ K.faults sink.new) }
     ensures cause { TurnedCause L.Disk (λ b. b.log.log.device) disk (S.faults source.old) (S.faults source.new) (K.faults sink.old) (K.faults sink.new) result }
 {
-    let (command, line) = match next_command(alloc, input, source) {
+    let (text, line) = match next_text(alloc, input, source) {
         Ok(Some(next)) => next,
         Ok(None) => return Turned::Ends {
             status: Status::Done,
@@ -69,10 +70,15 @@ pub fn turn_outside<S: Source, K: Sink, V: Vault, L: Disk, D: PageDevice>(
         },
         Err(status) => return Turned::Ends { status, disk },
     };
-    match outside::step(alloc, disk, pages, &command, line) {
+    let read = command_of(alloc, &text);
+    let command = match command_in(&read, line) {
+        Ok(command) => command,
+        Err(status) => return Turned::Ends { status, disk },
+    };
+    match outside::step(alloc, disk, pages, command, line) {
         Stepped::Goes { lines, at } => {
-            cycle(vault, &command);
-            *armed = armed_after(&command, *armed);
+            cycle(vault, command);
+            *armed = armed_after(command, *armed);
             match write_all(sink, &lines) {
                 Ok(()) => Turned::Goes { at },
                 Err(_) => Turned::Ends {
@@ -107,14 +113,19 @@ pub fn turn_inside<'a, N: Life, S: Source, K: Sink, V: Vault, L: Disk, D: PageDe
     ensures later { (S.faults source.old ≤ S.faults source.new) × (K.faults sink.old ≤ K.faults sink.new) }
     ensures cause { PassedCause life.old.calls life.new.calls (S.faults source.old) (S.faults source.new) (K.faults sink.old) (K.faults sink.new) result }
 {
-    let (command, line) = match next_command(alloc, input, source) {
+    let (text, line) = match next_text(alloc, input, source) {
         Ok(Some(next)) => next,
         Ok(None) => return Passed::Ends {
             status: Status::Done,
         },
         Err(status) => return Passed::Ends { status },
     };
-    match &command {
+    let read = command_of(alloc, &text);
+    let command = match command_in(&read, line) {
+        Ok(command) => command,
+        Err(status) => return Passed::Ends { status },
+    };
+    match command {
         Command::Stop { keep } => match transcript::stop_line(alloc) {
             Ok(lines) => Passed::Stops { keep: *keep, lines },
             Err(_) => Passed::Ends {
@@ -125,9 +136,9 @@ pub fn turn_inside<'a, N: Life, S: Source, K: Sink, V: Vault, L: Disk, D: PageDe
             Ok(lines) => Passed::Closes { lines },
             Err(status) => Passed::Ends { status },
         },
-        _ => match life_commands::step(rt, alloc, life, pages, *armed, &command, line) {
+        _ => match life_commands::step(rt, alloc, life, pages, *armed, command, line) {
             Ok(lines) => {
-                *armed = armed_after(&command, *armed);
+                *armed = armed_after(command, *armed);
                 match write_all(sink, &lines) {
                     Ok(()) => Passed::Goes,
                     Err(_) => Passed::Ends {
@@ -184,14 +195,15 @@ fn armed_by(device: Device, set: bool, armed: bool) -> bool
     }
 }
 
-/// The command of the next line, and that line's number; none at the end of the input.
-fn next_command<S: Source>(
+/// The text of the next line, whose first word is built, and that line's number; none at the end of the input.
+fn next_text<S: Source>(
     alloc: Global,
     input: &mut Input,
     source: &mut S,
-) -> Result<Option<(Command, u64)>, Status>
+) -> Result<Option<(Vec<u8>, u64)>, Status>
     ensures most { IsBounded input.new }
-    ensures command { TakesCommand input.old input.new (S.left source.old) (S.left source.new) result }
+    ensures text { IfOk result (λ next. TakesText input.old input.new (S.left source.old) (S.left source.new) (option_map (λ n. (n.0.items, n.1)) next)) }
+    ensures none { IfErr result (TakesNone input.old input.new (S.left source.old) (S.left source.new)) }
     ensures later { S.faults source.old ≤ S.faults source.new }
     ensures cause { IfErr result (LineCause (S.faults source.old) (S.faults source.new)) }
 {
@@ -208,8 +220,16 @@ fn next_command<S: Source>(
     if !is_built(&text) {
         return Err(Status::NotBuilt { line });
     }
-    match command_of(alloc, &text) {
-        Ok(Some(command)) => Ok(Some((command, line))),
+    Ok(Some((text, line)))
+}
+
+/// What was read of the line with this number is a command. It is lent, and isn't moved: it has some 400 bytes.
+fn command_in(read: &Result<Option<Command>, AllocError>, line: u64) -> Result<&Command, Status>
+    ensures some { IfOk result (λ command. read.now ≡ Ok (Some command.now)) }
+    ensures none { IfErr result (IsUnread read.now line) }
+{
+    match read {
+        Ok(Some(command)) => Ok(command),
         Ok(None) => Err(Status::Script { line }),
         Err(_) => Err(Status::Memory),
     }
